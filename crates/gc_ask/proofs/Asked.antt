@@ -95,14 +95,16 @@ course_start kept client link sink s is = record {
 }
 
 -- what is asked of all that came, where no further command is
-pub asked_so : (done : List Command) (given left : List ℕ) (kept : Kept) (client : ById) (a b c d : Option (List ℕ)) (more : List ℕ) (at : Course done given left kept client a b c d) → asked done (given ++ more) ≡ at.settled
+pub asked_so : (done : List Command) (given left : List ℕ) (kept : Kept) (client : ById) (a b c d : Option (List ℕ)) (more : List ℕ)
+    (at : Course done given left kept client a b c d) → asked done (given ++ more) ≡ at.settled
 asked_so done given left kept client a b c d more at =
     let came = lines_behind at.now (left ++ more) in
     ap (λ xs. asked_from 0 xs (lines (given ++ more))) (sym (append-nil done)) ∙ ap (asked_from 0 (done ++ [])) (more_came given left more at.now at.looked at.seen at.rests).0
     ∙ at.asks [] came ∙ append-nil at.settled
 
 -- what is asked of it, where one more command was sent
-asked_on : (done : List Command) (given left : List ℕ) (kept : Kept) (client : ById) (a b c d : Option (List ℕ)) (more : List ℕ) (at : Course done given left kept client a b c d) (command : Command) (later : List Command) (r : Option Reply)
+asked_on : (done : List Command) (given left : List ℕ) (kept : Kept) (client : ById) (a b c d : Option (List ℕ)) (more : List ℕ)
+    (at : Course done given left kept client a b c d) (command : Command) (later : List Command) (r : Option Reply)
     → first_reply (waiting_for (length done) command) (lines_behind at.now (left ++ more)) ≡ r
     → asked (done ++ command ∷ later) (given ++ more) ≡ at.settled ++ settled_by (waiting_for (length done) command) (asked_from (length done + 1) later) r
 asked_on done given left kept client a b c d more at command later r is =
@@ -110,20 +112,32 @@ asked_on done given left kept client a b c d more at command later r is =
     ap (asked_from 0 (done ++ command ∷ later)) (more_came given left more at.now at.looked at.seen at.rests).0
     ∙ at.asks (command ∷ later) came ∙ ap (λ x. at.settled ++ settled_by (waiting_for (length done) command) (asked_from (length done + 1) later) x) is
 
-first_is : (rest bytes left : List ℕ) (kept : Kept) (from to : ById) (settled : List Settlement.Settlement) (s : Settles from (record { rest = rest; bytes = bytes; left = left; kept = kept; client = to; settled = settled }))
+first_is : (rest bytes left : List ℕ) (kept : Kept) (from to : ById) (settled : List Settlement.Settlement)
+    (s : Settles from (record { rest = rest; bytes = bytes; left = left; kept = kept; client = to; settled = settled }))
     → first_reply from (lines_behind rest bytes) ≡ Some (record { line = s.line; later = lines_behind [] left })
 first_is rest bytes left kept from to settled s = ap (first_reply from) s.seen ∙ first_reply-at from s.front s.line (lines_behind [] left) s.none s.fits
 
 -- what was settled, as the rule speaks of it
-pub settled_is : (k : ℕ) (command : Command) (rest bytes left : List ℕ) (kept : Kept) (to : ById) (settled : List Settlement.Settlement) (s : Settles (waiting_for k command) (record { rest = rest; bytes = bytes; left = left; kept = kept; client = to; settled = settled }))
+pub settled_is : (k : ℕ) (command : Command) (rest bytes left : List ℕ) (kept : Kept) (to : ById) (settled : List Settlement.Settlement)
+    (s : Settles (waiting_for k command) (record { rest = rest; bytes = bytes; left = left; kept = kept; client = to; settled = settled }))
     → (map settlement_seen settled ≡ met (asked_for command) s.line ∷ []) × (to ≡ idle (k + 1))
 settled_is k command rest bytes left kept to settled s =
     let one = hears_one k command s.line s.fits in
     (s.settles.seen ∙ one.0, s.client ∙ one.1)
 
 -- what is asked where one more command was sent, and a line settles it
-pub asked_with : (done : List Command) (given left : List ℕ) (kept : Kept) (client : ById) (a b c d : Option (List ℕ)) (more : List ℕ) (at : Course done given left kept client a b c d) (command : Command)
-    (left' : List ℕ) (kept' : Kept) (to : ById) (settled : List Settlement.Settlement) (s : Settles (waiting_for (length done) command) (record { rest = at.now; bytes = left ++ more; left = left'; kept = kept'; client = to; settled = settled }))
+pub asked_with : (done : List Command) (given left : List ℕ) (kept : Kept) (client : ById) (a b c d : Option (List ℕ)) (more : List ℕ)
+    (at : Course done given left kept client a b c d) (command : Command)
+    (left' : List ℕ) (kept' : Kept) (to : ById) (settled : List Settlement.Settlement)
+    (s : Settles (waiting_for (length done) command) (record {
+      rest = at.now;
+      bytes = left ++ more;
+      left = left';
+      kept = kept';
+      client = to;
+      settled =
+          settled;
+    }))
     → asked (done ++ command ∷ []) (given ++ more) ≡ at.settled ++ met (asked_for command) s.line ∷ []
 asked_with done given left kept client a b c d more at command left' kept' to settled s =
     let found = first_is at.now (left ++ more) left' kept' (waiting_for (length done) command) to settled s in
@@ -131,8 +145,10 @@ asked_with done given left kept client a b c d more at command left' kept' to se
     ∙ ap (λ zs. at.settled ++ (zs ++ [])) (hears_one (length done) command s.line s.fits).0
 
 -- one more command was asked and settled
-pub course_more : (done : List Command) (command : Command) (given left more left' : List ℕ) (kept kept' : Kept) (client to : ById) (a b b' c d d' : Option (List ℕ)) (settled : List Settlement.Settlement)
-    → (at : Course done given left kept client a b c d) → Settles (waiting_for (length done) command) (record { rest = at.now; bytes = left ++ more; left = left'; kept = kept'; client = to; settled = settled })
+pub course_more : (done : List Command) (command : Command) (given left more left' : List ℕ) (kept kept' : Kept) (client to : ById)
+    (a b b' c d d' : Option (List ℕ)) (settled : List Settlement.Settlement)
+    → (at : Course done given left kept client a b c d) → Settles (waiting_for (length done) command)
+    (record { rest = at.now; bytes = left ++ more; left = left'; kept = kept'; client = to; settled = settled })
     → Appends b b' (request_text (length done) command) → Appends d d' (lines_from (length done) (map settlement_seen settled))
     → Course (done ++ command ∷ []) (given ++ more) left' kept' to a b' c d'
 course_more done command given left more left' kept kept' client to a b b' c d d' settled at s sent told =
@@ -168,7 +184,8 @@ course_more done command given left more left' kept kept' client to a b b' c d d
 -- Ends.
 
 -- all were asked
-pub course_all : (commands : List Command) (given left : List ℕ) (kept : Kept) (client : ById) (a b c d : Option (List ℕ)) → Course commands given left kept client a b c d → AsksAll commands given (record { link_old = a; link_new = b; sink_old = c; sink_new = d })
+pub course_all : (commands : List Command) (given left : List ℕ) (kept : Kept) (client : ById) (a b c d : Option (List ℕ))
+    → Course commands given left kept client a b c d → AsksAll commands given (record { link_old = a; link_new = b; sink_old = c; sink_new = d })
 course_all commands given left kept client a b c d at =
     let all : asked commands given ≡ at.settled = ap (asked commands) (sym (append-nil given)) ∙ asked_so commands given left kept client a b c d [] at in
     record {
@@ -193,11 +210,13 @@ course_stops alone commands done later command given left more kept client a b b
       settled = ap length so ∙ at.count;
       none = λ is. ap (λ xs. asked xs (given ++ more)) order ∙ asked_on done given left kept client a b c d more at command later None (none is) ∙ append-nil at.settled ∙ sym so;
       sent = Appends-is _ _ _ _ (sym (all_texts_one done command)) (Appends-append _ _ _ _ _ at.link sent);
-      told = Appends-is _ _ _ _ (sym (lines_last at.settled (length done) (lost_of command) at.count) ∙ ap (λ zs. settlement_lines (zs ++ lost_of command ∷ [])) (sym so)) (Appends-append _ _ _ _ _ at.sink told);
+      told = Appends-is _ _ _ _ (sym (lines_last at.settled (length done) (lost_of command) at.count)
+          ∙ ap (λ zs. settlement_lines (zs ++ lost_of command ∷ [])) (sym so)) (Appends-append _ _ _ _ _ at.sink told);
     }
 
 -- the same, where its request or its reply was cut
-pub course_cut : (alone : Bool) (commands done later : List Command) (command : Command) (given left more : List ℕ) (kept : Kept) (client : ById) (a b b' c d d' : Option (List ℕ)) (count part bytes : ℕ)
+pub course_cut : (alone : Bool) (commands done later : List Command) (command : Command) (given left more : List ℕ) (kept : Kept) (client : ById)
+    (a b b' c d d' : Option (List ℕ)) (count part bytes : ℕ)
     → Course done given left kept client a b c d → commands ≡ done ++ command ∷ later → count ≡ length done
     → (alone ≡ true → (bytes ≡ part) × (part < length (request_text (length done) command)))
     → Appends b b' (take bytes (request_text (length done) command)) → Appends d d' (lines_from (length done) (lost_of command ∷ []))
@@ -214,11 +233,13 @@ course_cut alone commands done later command given left more kept client a b b' 
       bytes = bytes;
       cut = subst (λ n. alone ≡ true → (bytes ≡ part) × (part < length (request_text n command))) (sym is) cut;
       sent = Appends-is _ _ _ _ (ap (λ n. all_of (request_texts 0 done) ++ take bytes (request_text n command)) (sym is)) (Appends-append _ _ _ _ _ at.link sent);
-      told = Appends-is _ _ _ _ (sym (lines_last at.settled (length done) (lost_of command) at.count) ∙ ap (λ zs. settlement_lines (zs ++ lost_of command ∷ [])) (sym so)) (Appends-append _ _ _ _ _ at.sink told);
+      told = Appends-is _ _ _ _ (sym (lines_last at.settled (length done) (lost_of command) at.count)
+          ∙ ap (λ zs. settlement_lines (zs ++ lost_of command ∷ [])) (sym so)) (Appends-append _ _ _ _ _ at.sink told);
     }
 
 -- the sink failed, as it took the next settlement
-pub course_tells : (commands done later : List Command) (command : Command) (given left more : List ℕ) (kept : Kept) (client : ById) (a b b' c d d' : Option (List ℕ)) (bytes : ℕ) (next : Settlement) (over : LinkEnd → Type 0) (link : LinkEnd)
+pub course_tells : (commands done later : List Command) (command : Command) (given left more : List ℕ) (kept : Kept) (client : ById)
+    (a b b' c d d' : Option (List ℕ)) (bytes : ℕ) (next : Settlement) (over : LinkEnd → Type 0) (link : LinkEnd)
     → (at : Course done given left kept client a b c d) → commands ≡ done ++ command ∷ later
     → over link → (asked done (given ++ more) ≡ at.settled → IsNext done command (given ++ more) next link)
     → Appends b b' (take bytes (request_text (length done) command)) → ToldPart (length done) (next ∷ []) d d'
@@ -242,7 +263,8 @@ course_tells commands done later command given left more kept client a b b' c d 
       part = told.part;
       not_all = subst (λ (t : List ℕ). told.part < length t) (the_line same alone.1) told.not_all;
       told = Appends-is _ _ _ _ (ap (λ zs. settlement_lines zs ++ take told.part (settlement_line (length done) next)) (sym so))
-          (Appends-append _ _ _ _ _ at.sink (Appends-is _ _ _ _ (ap (λ (xs : List Settlement). lines_from (length done) xs ++ take told.part (settlement_line (length done + length told.earlier) told.next)) alone.0 ∙ ap (take told.part) (the_line same alone.1)) told.took));
+          (Appends-append _ _ _ _ _ at.sink (Appends-is _ _ _ _ (ap (λ (xs : List Settlement). lines_from (length done) xs ++ take told.part
+          (settlement_line (length done + length told.earlier) told.next)) alone.0 ∙ ap (take told.part) (the_line same alone.1)) told.took));
     } where
       alone_in : (xs ys : List Settlement) (x y : Settlement) → y ∷ [] ≡ xs ++ x ∷ ys → (xs ≡ []) × (x ≡ y)
       alone_in [] ys x y e = (refl, cc)

@@ -38,10 +38,11 @@ fits_only k c line fit = by_id (heard line) refl fit where
 
 no_reply : (k : ℕ) (c : Command) (came : List (List ℕ)) → HasNoReply k came → first_reply (waiting_for k c) came ≡ None
 no_reply k c [] none = refl
-no_reply k c (line ∷ later) none = elim (fits (waiting_for k c) (heard line)) as (λ v. fits (waiting_for k c) (heard line) ≡ v → cond v (Some (record { line = line; later = later })) (first_reply (waiting_for k c) later) ≡ None) [
-  | true ↦ λ e. absurd (none.0 (fits_only k c line e))
-  | false ↦ λ e. no_reply k c later none.1
-] refl
+no_reply k c (line ∷ later) none = elim (fits (waiting_for k c) (heard line)) as
+    (λ v. fits (waiting_for k c) (heard line) ≡ v → cond v (Some (record { line = line; later = later })) (first_reply (waiting_for k c) later) ≡ None) [
+      | true ↦ λ e. absurd (none.0 (fits_only k c line e))
+      | false ↦ λ e. no_reply k c later none.1
+    ] refl
 
 pub asks_by_id : (k : ℕ) (command : Command) (later : List Command) → AsksById k command later
 asks_by_id k command later = record {

@@ -23,7 +23,8 @@ step_none old new reads ended source sink = record {
 }
 
 -- the request couldn't be sent
-pub step_sends : (place : ℕ) (text : List ℕ) (old new : Ports) (e : RunFault) → Sends place text (record { bytes = old.taken; failed = old.sink_failed }) (record { bytes = new.taken; failed = new.sink_failed }) (Err e)
+pub step_sends : (place : ℕ) (text : List ℕ) (old new : Ports) (e : RunFault)
+    → Sends place text (record { bytes = old.taken; failed = old.sink_failed }) (record { bytes = new.taken; failed = new.sink_failed }) (Err e)
     → new.reads ≡ old.reads → new.ended ≡ old.ended → new.source_failed ≡ old.source_failed → StepEnds old new (Err e)
 step_sends place text old new (Write count bytes) s reads ended source = record {
   ends = ((λ some. absurd (omega (arith, some, reads))), source, s.3);
@@ -35,7 +36,8 @@ step_sends place text old new TooManyReads s reads ended source = absurd s
 step_sends place text old new LinkClosed s reads ended source = absurd s
 step_sends place text old new other s reads ended source = absurd s
 
-pub step_sent : (place : ℕ) (text : List ℕ) (old new : Ports) (r : LinkEnd) → Sends place text (record { bytes = old.taken; failed = old.sink_failed }) (record { bytes = new.taken; failed = new.sink_failed }) r
+pub step_sent : (place : ℕ) (text : List ℕ) (old new : Ports) (r : LinkEnd)
+    → Sends place text (record { bytes = old.taken; failed = old.sink_failed }) (record { bytes = new.taken; failed = new.sink_failed }) r
     → new.reads ≡ old.reads → new.ended ≡ old.ended → new.source_failed ≡ old.source_failed → StepEnds old new r
 step_sent place text old new (Ok u) s reads ended source = step_none old new reads ended source s.1
 step_sent place text old new (Err e) s reads ended source = step_sends place text old new e s reads ended source
@@ -78,7 +80,8 @@ pub reads_then : (old mid new : Ports) (given : List ℕ) → source_of mid ≡ 
 reads_then old mid new given same gave = subst (λ (r : Option (List ℕ)). Consumes r new.remaining given) (ap (λ (s : Input). s.remaining) same) gave
 
 -- whether the last read was the end, one request later
-still_on : (old mid new : ℕ) (mid_end new_end : Bool) → old ≤ mid → mid ≤ new → (old < mid → mid_end ≡ false) → (mid < new → new_end ≡ false) → (new ≡ mid → new_end ≡ mid_end) → old < new → new_end ≡ false
+still_on : (old mid new : ℕ) (mid_end new_end : Bool) → old ≤ mid → mid ≤ new → (old < mid → mid_end ≡ false) → (mid < new → new_end ≡ false)
+    → (new ≡ mid → new_end ≡ mid_end) → old < new → new_end ≡ false
 still_on old mid new mid_end new_end grows more going on same below = by_order (le_cases mid new more) where
   le_cases : (a b : ℕ) → a ≤ b → (a < b) ⊎ (b ≡ a)
   le_cases a b h = elim (ltb a b) as (λ v. ltb a b ≡ v → (a < b) ⊎ (b ≡ a)) [

@@ -35,7 +35,8 @@ takes_sent alone place text a b x y (Err (Write count part)) s = (s.0, (part, s.
 takes_sent alone place text a b x y (Err other) s = absurd s
 
 -- it was written, and the other end answered it, or couldn't
-pub takes_answered : (alone : Bool) (place : ℕ) (text : List ℕ) (a b : Option (List ℕ)) (r : LinkEnd) → (alone ≡ true → ⊥) → Appends a b text → CountsReplies place r → TakesRequest alone place text a b r
+pub takes_answered : (alone : Bool) (place : ℕ) (text : List ℕ) (a b : Option (List ℕ)) (r : LinkEnd) → (alone ≡ true → ⊥) → Appends a b text
+    → CountsReplies place r → TakesRequest alone place text a b r
 takes_answered alone place text a b (Ok u) two sent of = sent
 takes_answered alone place text a b (Err (Write count part)) two sent of = (of, (length text, whole a b text sent, λ so. absurd (two so)))
 takes_answered alone place text a b (Err other) two sent of = (sent, two)
@@ -66,11 +67,13 @@ still_waits alone place command h a b (Write count part) x = x.1
 still_waits alone place command h a b other x = x.2
 
 -- so its restart settles the command as lost
-pub lost_alone : (place : ℕ) (command : Command) (to : ById) (settled now : List Settlement) → to ≡ waiting_for place command → AreSettlements settled (restarts to).settlements → now ≡ settled → map settlement_seen now ≡ lost_of command ∷ []
+pub lost_alone : (place : ℕ) (command : Command) (to : ById) (settled now : List Settlement) → to ≡ waiting_for place command
+    → AreSettlements settled (restarts to).settlements → now ≡ settled → map settlement_seen now ≡ lost_of command ∷ []
 lost_alone place command to settled now waits are is = ap (map settlement_seen) is ∙ are.seen ∙ ap (λ c. (restarts c).settlements) waits
 
 -- what of the request the link took
-sent_part : (alone : Bool) (place : ℕ) (command : Command) (h : Heard) (a b : Option (List ℕ)) (e : RunFault) → Exchanges alone place command h a b (Err e) → (part : ℕ) × Appends a b (take part (request_text place command))
+sent_part : (alone : Bool) (place : ℕ) (command : Command) (h : Heard) (a b : Option (List ℕ)) (e : RunFault) → Exchanges alone place command h a b (Err e)
+    → (part : ℕ) × Appends a b (take part (request_text place command))
 sent_part alone place command h a b (Write count part) x = (x.0.1.0, x.0.1.1)
 sent_part alone place command h a b other x = (length (request_text place command), whole a b (request_text place command) x.0)
 
@@ -79,22 +82,26 @@ abbrev with_client : Heard → ById → Heard
 with_client h to = record { rest = h.rest; bytes = h.bytes; left = h.left; kept = h.kept; client = to; settled = h.settled }
 
 -- the line of the lost request was written
-pub asks_lost : (alone : Bool) (place : ℕ) (command : Command) (h : Heard) (to : ById) (lost now : List Settlement) (w : Written) (e : RunFault) (over : LinkEnd → Type 0) → (over (Err Output) → ⊥) → over (Err e)
+pub asks_lost : (alone : Bool) (place : ℕ) (command : Command) (h : Heard) (to : ById) (lost now : List Settlement) (w : Written) (e : RunFault)
+    (over : LinkEnd → Type 0) → (over (Err Output) → ⊥) → over (Err e)
     → Exchanges alone place command h w.link_old w.link_new (Err e) → AreSettlements lost (restarts h.client).settlements → now ≡ lost
     → Appends w.sink_old w.sink_new (lines_from place (map settlement_seen now)) → AsksOne alone place command (with_client h to) w over (Err e)
 asks_lost alone place command h to lost now w e over none ends x are is told =
     by_fault e ends x (Appends-is _ _ _ _ (ap (lines_from place) (lost_alone place command h.client lost now (still_waits alone place command h w.link_old w.link_new e x) are is)) told) where
-      by_fault : (e : RunFault) → over (Err e) → Exchanges alone place command h w.link_old w.link_new (Err e) → Appends w.sink_old w.sink_new (lines_from place (lost_of command ∷ [])) → AsksOne alone place command (with_client h to) w over (Err e)
+      by_fault : (e : RunFault) → over (Err e) → Exchanges alone place command h w.link_old w.link_new (Err e)
+          → Appends w.sink_old w.sink_new (lines_from place (lost_of command ∷ [])) → AsksOne alone place command (with_client h to) w over (Err e)
       by_fault (Write count part) ends x told = (x.0, told)
       by_fault Output ends x told = absurd (none ends)
       by_fault other ends x told = (x.0, x.1, told)
 
 -- the sink failed as it took that line
-pub asks_untold : (alone : Bool) (place : ℕ) (command : Command) (h : Heard) (to : ById) (lost now : List Settlement) (w : Written) (x y : Bool) (e f : RunFault) (over : LinkEnd → Type 0) → over (Err e)
+pub asks_untold : (alone : Bool) (place : ℕ) (command : Command) (h : Heard) (to : ById) (lost now : List Settlement) (w : Written) (x y : Bool)
+    (e f : RunFault) (over : LinkEnd → Type 0) → over (Err e)
     → Exchanges alone place command h w.link_old w.link_new (Err e) → AreSettlements lost (restarts h.client).settlements → now ≡ lost
     → Told place (map settlement_seen now) w.sink_old w.sink_new x y (Err f) → AsksOne alone place command (with_client h to) w over (Err f)
 asks_untold alone place command h to lost now w x y e f over ends ex are is told =
-    by_fault f (subst (λ (zs : List Rule.Settlement). Told place zs w.sink_old w.sink_new x y (Err f)) (lost_alone place command h.client lost now (still_waits alone place command h w.link_old w.link_new e ex) are is) told) where
+    by_fault f (subst (λ (zs : List Rule.Settlement). Told place zs w.sink_old w.sink_new x y (Err f))
+    (lost_alone place command h.client lost now (still_waits alone place command h w.link_old w.link_new e ex) are is) told) where
       by_fault : (f : RunFault) → Told place (lost_of command ∷ []) w.sink_old w.sink_new x y (Err f) → AsksOne alone place command (with_client h to) w over (Err f)
       by_fault Output t = let sent = sent_part alone place command h w.link_old w.link_new e ex in inr (e, ends, (sent.0, sent.1, t.0))
       by_fault other t = absurd t
@@ -103,12 +110,15 @@ asks_untold alone place command h to lost now w x y e f over ends ex are is told
 pub asks_told : (alone : Bool) (place : ℕ) (command : Command) (h : Heard) (now : List Settlement) (w : Written) (x y : Bool) (over : LinkEnd → Type 0) (r : LinkEnd)
     → over (Ok tt) → Appends w.link_old w.link_new (request_text place command) → Settles (waiting_for place command) h → now ≡ h.settled
     → Told place (map settlement_seen now) w.sink_old w.sink_new x y r → AsksOne alone place command h w over r
-asks_told alone place command h now w x y over (Ok u) link sent s is told = (sent, s, subst (λ (zs : List Settlement). Appends w.sink_old w.sink_new (lines_from place (map settlement_seen zs))) is told.0)
-asks_told alone place command h now w x y over (Err Output) link sent s is told = inl (link, sent, s, subst (λ (zs : List Settlement). ToldPart place (map settlement_seen zs) w.sink_old w.sink_new) is told.0)
+asks_told alone place command h now w x y over (Ok u) link sent s is told =
+    (sent, s, subst (λ (zs : List Settlement). Appends w.sink_old w.sink_new (lines_from place (map settlement_seen zs))) is told.0)
+asks_told alone place command h now w x y over (Err Output) link sent s is told =
+    inl (link, sent, s, subst (λ (zs : List Settlement). ToldPart place (map settlement_seen zs) w.sink_old w.sink_new) is told.0)
 asks_told alone place command h now w x y over (Err other) link sent s is told = absurd told
 
 -- why that ended, where a settlement was told, where a lost one was, and where the sink failed as it took a lost one
-pub ends_told : (over : LinkEnd → Type 0) (place : ℕ) (settled : List Rule.Settlement) (c d : Option (List ℕ)) (x y : Bool) (r : LinkEnd) → over (Ok tt) → Told place settled c d x y r → EndsWith over x y r
+pub ends_told : (over : LinkEnd → Type 0) (place : ℕ) (settled : List Rule.Settlement) (c d : Option (List ℕ)) (x y : Bool) (r : LinkEnd) → over (Ok tt)
+    → Told place settled c d x y r → EndsWith over x y r
 ends_told over place settled c d x y (Ok u) ends told = (ends, told.1)
 ends_told over place settled c d x y (Err Output) ends told = (told.1, (Ok tt, ends))
 ends_told over place settled c d x y (Err other) ends told = absurd told
@@ -117,49 +127,66 @@ pub ends_lost : (over : LinkEnd → Type 0) (x y : Bool) (e : RunFault) → (ove
 ends_lost over x y Output none ends same = absurd (none ends)
 ends_lost over x y other none ends same = (ends, same)
 
-pub ends_untold : (over : LinkEnd → Type 0) (place : ℕ) (settled : List Rule.Settlement) (c d : Option (List ℕ)) (x y : Bool) (e f : RunFault) → over (Err e) → Told place settled c d x y (Err f) → EndsWith over x y (Err f)
+pub ends_untold : (over : LinkEnd → Type 0) (place : ℕ) (settled : List Rule.Settlement) (c d : Option (List ℕ)) (x y : Bool) (e f : RunFault) → over (Err e)
+    → Told place settled c d x y (Err f) → EndsWith over x y (Err f)
 ends_untold over place settled c d x y e Output ends told = (told.1, (Err e, ends))
 ends_untold over place settled c d x y e other ends told = absurd told
 
 -- The run.
 
 -- a fault ends the run
-pub run_fault : (alone : Bool) (commands done later : List Command) (command : Command) (place : ℕ) (given left more left' : List ℕ) (kept kept' : Kept) (client to : ById) (settled : List Settlement) (a b b' c d d' : Option (List ℕ)) (e : RunFault) (c0 p p' i0 q q' : Ports) (x y : Bool)
+pub run_fault : (alone : Bool) (commands done later : List Command) (command : Command) (place : ℕ) (given left more left' : List ℕ) (kept kept' : Kept)
+    (client to : ById) (settled : List Settlement) (a b b' c d d' : Option (List ℕ)) (e : RunFault) (c0 p p' i0 q q' : Ports) (x y : Bool)
     → Sound c0 p → Sound i0 q → (at : Course done given left kept client a b c d) → length done ≡ place → commands ≡ done ++ command ∷ later
-    → AsksOne alone place command (record { rest = at.now; bytes = left ++ more; left = left'; kept = kept'; client = to; settled = settled }) (record { link_old = b; link_new = b'; sink_old = d; sink_new = d' }) (BothStep p p' q q') (Err e) → EndsWith (BothStep p p' q q') x y (Err e)
+    → AsksOne alone place command (record { rest = at.now; bytes = left ++ more; left = left'; kept = kept'; client = to; settled = settled })
+    (record { link_old = b; link_new = b'; sink_old = d; sink_new = d' }) (BothStep p p' q q') (Err e) → EndsWith (BothStep p p' q q') x y (Err e)
     → AsksOn alone commands (given ++ more) (record { link_old = a; link_new = b'; sink_old = c; sink_new = d' }) (BothEnd c0 p' i0 q') (Err e)
-run_fault alone commands done later command place given left more left' kept kept' client to settled a b b' c d d' e c0 p p' i0 q q' x y gc gi at is order one ends = by_fault e (subst (λ n. AsksOne alone n command h (record { link_old = b; link_new = b'; sink_old = d; sink_new = d' }) (BothStep p p' q q') (Err e)) (sym is) one) ends where
-  h : Heard
-  h = record { rest = at.now; bytes = left ++ more; left = left'; kept = kept'; client = to; settled = settled }
+run_fault alone commands done later command place given left more left' kept kept' client to settled a b b' c d d' e c0 p p' i0 q q' x y gc gi at is order one
+    ends = by_fault e (subst (λ n. AsksOne alone n command h (record { link_old = b; link_new = b'; sink_old = d; sink_new = d' }) (BothStep p p' q q')
+    (Err e)) (sym is) one) ends where
+      h : Heard
+      h = record { rest = at.now; bytes = left ++ more; left = left'; kept = kept'; client = to; settled = settled }
 
-  none : {e : RunFault} → (LinkEnds p p' (Err e) → ⊥) → (LinkEnds q q' (Err e) → ⊥) → BothStep p p' q q' (Err e) → ⊥
-  none f g (inl s) = f s.0.ends
-  none f g (inr s) = g s.1.ends
+      none : {e : RunFault} → (LinkEnds p p' (Err e) → ⊥) → (LinkEnds q q' (Err e) → ⊥) → BothStep p p' q q' (Err e) → ⊥
+      none f g (inl s) = f s.0.ends
+      none f g (inr s) = g s.1.ends
 
-  by_fault : (e : RunFault) → AsksOne alone (length done) command h (record { link_old = b; link_new = b'; sink_old = d; sink_new = d' }) (BothStep p p' q q') (Err e) → EndsWith (BothStep p p' q q') x y (Err e) → AsksOn alone commands (given ++ more) (record { link_old = a; link_new = b'; sink_old = c; sink_new = d' }) (BothEnd c0 p' i0 q') (Err e)
-  by_fault Read one ends = course_stops alone commands done later command given left more kept client a b b' c d d' at order one.1 one.0 one.2
-  by_fault (Write count part) one ends = course_cut alone commands done later command given left more kept client a b b' c d d' count part one.0.1.0 at order one.0.0 one.0.1.2 one.0.1.1 one.1
-  by_fault TooManyReads one ends = course_stops alone commands done later command given left more kept client a b b' c d d' at order one.1 one.0 one.2
-  by_fault LinkClosed one ends = course_stops alone commands done later command given left more kept client a b b' c d d' at order one.1 one.0 one.2
-  by_fault Output (inl o) ends =
-      let is = settled_is (length done) command _ _ _ _ _ _ o.2 in
-      let text = request_text (length done) command in
-      let next = met (asked_for command) o.2.line in
-      course_tells commands done later command given left more kept client a b b' c d d' (length text) next (BothEnd c0 p' i0 q') (Ok tt) at order
-      (both_end c0 p p' i0 q q' (Ok tt) gc gi o.0)
-      (λ so. asked_with done given left kept client a b c d more at command _ _ _ _ o.2 ∙ ap (λ zs. zs ++ next ∷ []) (sym so))
-      (whole b b' text o.1)
-      (subst (λ (zs : List Rule.Settlement). ToldPart (length done) zs d d') is.0 o.3)
-  by_fault Output (inr o) ends =
-      course_tells commands done later command given left more kept client a b b' c d d' o.2.0 (lost_of command) (BothEnd c0 p' i0 q') (Err o.0) at order
-      (both_end c0 p p' i0 q q' (Err o.0) gc gi o.1) (λ so. refl) o.2.1 o.2.2
-  by_fault other one ends = absurd (none (λ h. h) (λ h. h) ends.0)
+      by_fault : (e : RunFault) → AsksOne alone (length done) command h (record { link_old = b; link_new = b'; sink_old = d; sink_new = d' }) (BothStep p p' q q')
+          (Err e) → EndsWith (BothStep p p' q q') x y (Err e) → AsksOn alone commands (given ++ more)
+          (record { link_old = a; link_new = b'; sink_old = c; sink_new = d' }) (BothEnd c0 p' i0 q') (Err e)
+      by_fault Read one ends = course_stops alone commands done later command given left more kept client a b b' c d d' at order one.1 one.0 one.2
+      by_fault (Write count part) one ends = course_cut alone commands done later command given left more kept client a b b' c d d' count part one.0.1.0 at order one.0.0 one.0.1.2 one.0.1.1 one.1
+      by_fault TooManyReads one ends = course_stops alone commands done later command given left more kept client a b b' c d d' at order one.1 one.0 one.2
+      by_fault LinkClosed one ends = course_stops alone commands done later command given left more kept client a b b' c d d' at order one.1 one.0 one.2
+      by_fault Output (inl o) ends =
+          let is = settled_is (length done) command _ _ _ _ _ _ o.2 in
+          let text = request_text (length done) command in
+          let next = met (asked_for command) o.2.line in
+          course_tells commands done later command given left more kept client a b b' c d d' (length text) next (BothEnd c0 p' i0 q') (Ok tt) at order
+          (both_end c0 p p' i0 q q' (Ok tt) gc gi o.0)
+          (λ so. asked_with done given left kept client a b c d more at command _ _ _ _ o.2 ∙ ap (λ zs. zs ++ next ∷ []) (sym so))
+          (whole b b' text o.1)
+          (subst (λ (zs : List Rule.Settlement). ToldPart (length done) zs d d') is.0 o.3)
+      by_fault Output (inr o) ends =
+          course_tells commands done later command given left more kept client a b b' c d d' o.2.0 (lost_of command) (BothEnd c0 p' i0 q') (Err o.0) at order
+          (both_end c0 p p' i0 q q' (Err o.0) gc gi o.1) (λ so. refl) o.2.1 o.2.2
+      by_fault other one ends = absurd (none (λ h. h) (λ h. h) ends.0)
 
 -- one more command was asked
-pub course_next : (alone : Bool) (commands done later : List Command) (command : Command) (place : ℕ) (given left more left' : List ℕ) (kept kept' : Kept) (client to : ById) (settled : List Settlement) (a b b' c d d' : Option (List ℕ)) (over : LinkEnd → Type 0)
+pub course_next : (alone : Bool) (commands done later : List Command) (command : Command) (place : ℕ) (given left more left' : List ℕ) (kept kept' : Kept)
+    (client to : ById) (settled : List Settlement) (a b b' c d d' : Option (List ℕ)) (over : LinkEnd → Type 0)
     → (at : Course done given left kept client a b c d) → length done ≡ place
-    → AsksOne alone place command (record { rest = at.now; bytes = left ++ more; left = left'; kept = kept'; client = to; settled = settled }) (record { link_old = b; link_new = b'; sink_old = d; sink_new = d' }) over (Ok tt)
+    → AsksOne alone place command (record { rest = at.now; bytes = left ++ more; left = left'; kept = kept'; client = to; settled = settled })
+    (record { link_old = b; link_new = b'; sink_old = d; sink_new = d' }) over (Ok tt)
     → Course (done ++ command ∷ []) (given ++ more) left' kept' to a b' c d'
 course_next alone commands done later command place given left more left' kept kept' client to settled a b b' c d d' over at is one =
-    let one' = subst (λ n. AsksOne alone n command (record { rest = at.now; bytes = left ++ more; left = left'; kept = kept'; client = to; settled = settled }) (record { link_old = b; link_new = b'; sink_old = d; sink_new = d' }) over (Ok tt)) (sym is) one in
+    let one' = subst (λ n. AsksOne alone n command (record {
+      rest = at.now;
+      bytes = left ++ more;
+      left = left';
+      kept = kept';
+      client = to;
+      settled =
+          settled;
+    }) (record { link_old = b; link_new = b'; sink_old = d; sink_new = d' }) over (Ok tt)) (sym is) one in
     course_more done command given left more left' kept kept' client to a b b' c d d' settled at one'.1 one'.0 one'.2

@@ -30,12 +30,14 @@ lines_behind-append rest xs ys = ap lines_of (pieces-append rest xs ys) ∙ line
 
 pub first_reply-none : (c : ById) (xs ys : List (List ℕ)) → first_reply c xs ≡ None → first_reply c (xs ++ ys) ≡ first_reply c ys
 first_reply-none c [] ys e = refl
-first_reply-none c (x ∷ xs) ys e = (elim (fits c (heard x)) as (λ v. cond v (Some (record { line = x; later = xs })) (first_reply c xs) ≡ None → cond v (Some (record { line = x; later = xs ++ ys })) (first_reply c (xs ++ ys)) ≡ first_reply c ys) [
-  | true ↦ λ f. (cc)
-  | false ↦ λ f. first_reply-none c xs ys f
-]) e
+first_reply-none c (x ∷ xs) ys e = (elim (fits c (heard x)) as (λ v. cond v (Some (record { line = x; later = xs })) (first_reply c xs) ≡ None
+    → cond v (Some (record { line = x; later = xs ++ ys })) (first_reply c (xs ++ ys)) ≡ first_reply c ys) [
+      | true ↦ λ f. (cc)
+      | false ↦ λ f. first_reply-none c xs ys f
+    ]) e
 
-pub first_reply-at : (c : ById) (front : List (List ℕ)) (line : List ℕ) (later : List (List ℕ)) → first_reply c front ≡ None → fits c (heard line) ≡ true → first_reply c (front ++ line ∷ later) ≡ Some (record { line = line; later = later })
+pub first_reply-at : (c : ById) (front : List (List ℕ)) (line : List ℕ) (later : List (List ℕ)) → first_reply c front ≡ None → fits c (heard line) ≡ true
+    → first_reply c (front ++ line ∷ later) ≡ Some (record { line = line; later = later })
 first_reply-at c front line later none fit = first_reply-none c front (line ∷ later) none ∙ rw fit refl
 
 -- Quiet pieces.
@@ -48,10 +50,14 @@ quiet_then rest xs ys kept kept' a b c q r = record {
   same = r.same ∙ q.same;
 }
 
-pub settles_then : (rest xs ys left : List ℕ) (kept kept' : Kept) (a b c : ById) (settled : List Settlement) → IsQuiet rest xs kept a b → Settles b (record { rest = rest_behind rest xs; bytes = ys; left = left; kept = kept'; client = c; settled = settled }) → Settles a (record { rest = rest; bytes = xs ++ ys; left = left; kept = kept'; client = c; settled = settled })
+pub settles_then : (rest xs ys left : List ℕ) (kept kept' : Kept) (a b c : ById) (settled : List Settlement) → IsQuiet rest xs kept a b
+    → Settles b (record { rest = rest_behind rest xs; bytes = ys; left = left; kept = kept'; client = c; settled = settled })
+    → Settles a (record { rest = rest; bytes = xs ++ ys; left = left; kept = kept'; client = c; settled = settled })
 settles_then rest xs ys left kept kept' a b c settled q s =
     let front : List (List ℕ) = lines_behind rest xs in
-    let at : Settles a (record { rest = rest_behind rest xs; bytes = ys; left = left; kept = kept'; client = c; settled = settled }) = subst (λ (x : ById). Settles x (record { rest = rest_behind rest xs; bytes = ys; left = left; kept = kept'; client = c; settled = settled })) q.same s in
+    let at : Settles a (record { rest = rest_behind rest xs; bytes = ys; left = left; kept = kept'; client = c; settled = settled }) =
+    subst (λ (x : ById). Settles x (record { rest = rest_behind rest xs; bytes = ys; left = left; kept = kept'; client = c; settled = settled })) q.same s
+    in
     record {
       front = front ++ at.front;
       line = at.line;
@@ -94,11 +100,14 @@ no_reply c None q = refl
 no_reply c (Some line) q = rw q refl
 
 -- one more frame, whose line settles nothing
-pub passed_on : (rest piece left : List ℕ) (used : ℕ) (frame : Frame) (kept kept' : Kept) (a b c : ById) → (p : Passed rest piece left kept a b) → Takes p.now left used frame kept' → c ≡ b → SettlesNothing b (line_in frame)
+pub passed_on : (rest piece left : List ℕ) (used : ℕ) (frame : Frame) (kept kept' : Kept) (a b c : ById) → (p : Passed rest piece left kept a b)
+    → Takes p.now left used frame kept' → c ≡ b → SettlesNothing b (line_in frame)
     → Passed rest piece (drop used left) kept' a c
 passed_on rest piece left used frame kept kept' a b c p t same nothing =
     let later : List (List ℕ) = lines_behind t.now (drop used left) in
-    let next : lines_behind p.now left ≡ option_to_list (line_in frame) ++ later = ap (λ fs. filter_map line_in fs) t.seen ∙ filter_map-append line_in (completed frame) (frames_behind t.now (drop used left)) ∙ ap (λ zs. zs ++ later) (completed_lines frame) in
+    let next : lines_behind p.now left ≡ option_to_list (line_in frame) ++ later =
+    ap (λ fs. filter_map line_in fs) t.seen ∙ filter_map-append line_in (completed frame) (frames_behind t.now (drop used left))
+    ∙ ap (λ zs. zs ++ later) (completed_lines frame) in
     let silent : SettlesNothing a (line_in frame) = subst (λ (x : ById). SettlesNothing x (line_in frame)) p.same nothing in
     record {
       now = t.now;
@@ -133,7 +142,8 @@ takes_line rest left used frame line kept is more whole = elim (position is_line
       let cut = cut_some rest left at e in
       let its : line_in (frame_of (rest ++ take at left)) ≡ Some line = ap line_in (sym w.1) ∙ is in
       record {
-        seen = ap lines_of cut.0 ∙ first_line (frame_of (rest ++ take at left)) line (map frame_of (pieces_behind [] (drop (at + 1) left))) its ∙ ap (λ n. line ∷ lines_behind [] (drop n left)) (sym w.0);
+        seen = ap lines_of cut.0 ∙ first_line (frame_of (rest ++ take at left)) line (map frame_of (pieces_behind [] (drop (at + 1) left))) its
+            ∙ ap (λ n. line ∷ lines_behind [] (drop n left)) (sym w.0);
         rests = cut.1 ∙ ap (λ n. rest_behind [] (drop n left)) (sym w.0);
         stands = w.2;
       }
@@ -142,7 +152,8 @@ takes_line rest left used frame line kept is more whole = elim (position is_line
   no_line o e f = (cc)
 
 -- one more frame, whose line settles a request
-pub passed_settles : (rest piece left : List ℕ) (used : ℕ) (frame : Frame) (line : List ℕ) (kept kept' : Kept) (a b c : ById) (settled : List Settlement) → (p : Passed rest piece left kept a b) → line_in frame ≡ Some line
+pub passed_settles : (rest piece left : List ℕ) (used : ℕ) (frame : Frame) (line : List ℕ) (kept kept' : Kept) (a b c : ById) (settled : List Settlement)
+    → (p : Passed rest piece left kept a b) → line_in frame ≡ Some line
     → (position is_line_feed left ≡ None → frame ≡ More)
     → ((at : ℕ) → position is_line_feed left ≡ Some at → (used ≡ at + 1) × (frame ≡ frame_of (p.now ++ take at left)) × StandsFor kept' [])
     → fits b (heard line) ≡ true → AreSettlements settled (hears b line (heard line)).settlements → c ≡ (hears b line (heard line)).client
@@ -190,10 +201,13 @@ reading_quiet rest start given ahead kept kept' a b c r q =
     let all = quiet_then rest r.heard_so ahead kept kept' a b c r.quiet q in
     (ap (λ zs. first_reply a (lines_behind rest zs)) r.order ∙ all.none, all.same)
 
-pub reading_settles : (rest start given ahead left : List ℕ) (kept kept' : Kept) (a b c : ById) (settled : List Settlement) → (r : Reading rest start given ahead kept a b) → Settles b (record { rest = rest_behind rest r.heard_so; bytes = ahead; left = left; kept = kept'; client = c; settled = settled })
+pub reading_settles : (rest start given ahead left : List ℕ) (kept kept' : Kept) (a b c : ById) (settled : List Settlement)
+    → (r : Reading rest start given ahead kept a b) → Settles b (record
+    { rest = rest_behind rest r.heard_so; bytes = ahead; left = left; kept = kept'; client = c; settled = settled })
     → Settles a (record { rest = rest; bytes = start ++ given; left = left; kept = kept'; client = c; settled = settled })
 reading_settles rest start given ahead left kept kept' a b c settled r s =
-    subst (λ (zs : List ℕ). Settles a (record { rest = rest; bytes = zs; left = left; kept = kept'; client = c; settled = settled })) (sym r.order) (settles_then rest r.heard_so ahead left kept kept' a b c settled r.quiet s)
+    subst (λ (zs : List ℕ). Settles a (record { rest = rest; bytes = zs; left = left; kept = kept'; client = c; settled = settled })) (sym r.order)
+    (settles_then rest r.heard_so ahead left kept kept' a b c settled r.quiet s)
 
 -- Nothing more was given.
 

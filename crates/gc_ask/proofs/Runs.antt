@@ -39,7 +39,8 @@ in_part commands given w count part s = record {
   told = s.told;
 }
 
-tells : (commands : List Command) (given : List ℕ) (w : Written) (over other : LinkEnd → Type 0) → ((r : LinkEnd) → over r → other r) → TellsPart commands given w over → TellsPart commands given w other
+tells : (commands : List Command) (given : List ℕ) (w : Written) (over other : LinkEnd → Type 0) → ((r : LinkEnd) → over r → other r)
+    → TellsPart commands given w over → TellsPart commands given w other
 tells commands given w over other so t = record {
   earlier = t.earlier;
   command = t.command;
@@ -57,7 +58,8 @@ tells commands given w over other so t = record {
   told = t.told;
 }
 
-asks_alone : (commands : List Command) (given : List ℕ) (w : Written) (over other : LinkEnd → Type 0) → ((r : LinkEnd) → over r → other r) → (r : LinkEnd) → AsksOn true commands given w over r → Asks commands given w other r
+asks_alone : (commands : List Command) (given : List ℕ) (w : Written) (over other : LinkEnd → Type 0) → ((r : LinkEnd) → over r → other r) → (r : LinkEnd)
+    → AsksOn true commands given w over r → Asks commands given w other r
 asks_alone commands given w over other so (Ok u) x = x
 asks_alone commands given w over other so (Err Read) x = up_to commands given w x
 asks_alone commands given w over other so (Err LinkClosed) x = up_to commands given w x
@@ -66,7 +68,8 @@ asks_alone commands given w over other so (Err (Write count part)) x = in_part c
 asks_alone commands given w over other so (Err Output) x = tells commands given w over other so x
 asks_alone commands given w over other so (Err e) x = absurd x
 
-pub over_alone : (commands : List Command) (most : ℕ) (old new : Seen) (r : LinkEnd) → AsksAt true commands most (seen_at old.link no_ports old.sink) (seen_at new.link no_ports new.sink) r → AsksOver commands most old new r
+pub over_alone : (commands : List Command) (most : ℕ) (old new : Seen) (r : LinkEnd)
+    → AsksAt true commands most (seen_at old.link no_ports old.sink) (seen_at new.link no_ports new.sink) r → AsksOver commands most old new r
 over_alone commands most old new r x = record {
   given = x.given;
   gave = x.gave;
@@ -77,7 +80,8 @@ over_alone commands most old new r x = record {
   ends = ends_as (BothEnd old.link new.link no_ports no_ports) (LinkEnds old.link new.link) (alone_end old.link new.link) old.sink.failed old.sink.failed new.sink.failed refl r x.ends;
 }
 
-pub runs_alone : (text_old text_new : Input) (most : ℕ) (old new : Seen) (r : LinkEnd) → RunsAt true text_old text_new most (seen_at old.link no_ports old.sink) (seen_at new.link no_ports new.sink) r → AskRuns text_old text_new most old new r
+pub runs_alone : (text_old text_new : Input) (most : ℕ) (old new : Seen) (r : LinkEnd)
+    → RunsAt true text_old text_new most (seen_at old.link no_ports old.sink) (seen_at new.link no_ports new.sink) r → AskRuns text_old text_new most old new r
 runs_alone text_old text_new most old new r (given, gave, few, inl x) = (given, gave, few, inl (x.0, x.1, x.2, ap (λ (s : SeenAtBoth). record { link = s.client; sink = s.sink }) x.3))
 runs_alone text_old text_new most old new r (given, gave, few, inr x) = (given, gave, few, inr (x.0, x.1, over_alone x.0 most old new r x.2))
 
@@ -87,7 +91,18 @@ loops_up_to : (alone : Bool) (commands : List Command) (given : List ℕ) (w : W
 loops_up_to alone commands given w s = record { earlier = s.earlier; command = s.command; later = s.later; order = s.order; settled = s.settled; sent = s.sent; told = s.told }
 
 loops_part : (alone : Bool) (commands : List Command) (given : List ℕ) (w : Written) (count part : ℕ) → IsCut alone commands given w count part → LoopsPart commands given w count
-loops_part alone commands given w count part s = record { earlier = s.earlier; command = s.command; later = s.later; order = s.order; count_is = s.count_is; settled = s.settled; bytes = s.bytes; sent = s.sent; told = s.told }
+loops_part alone commands given w count part s = record {
+  earlier = s.earlier;
+  command = s.command;
+  later = s.later;
+  order = s.order;
+  count_is =
+      s.count_is;
+  settled = s.settled;
+  bytes = s.bytes;
+  sent = s.sent;
+  told = s.told;
+}
 
 loops : (alone : Bool) (commands : List Command) (given : List ℕ) (w : Written) (over : LinkEnd → Type 0) (r : LinkEnd) → AsksOn alone commands given w over r → Loops commands given w over r
 loops alone commands given w over (Ok u) x = x

@@ -1,7 +1,7 @@
 -- No part of a promise: what is seen of a link that commands are asked over, and what its calls do.
-use Rattle.std.specs.Prelude.{◌≡◌, ℕ, ◌<◌, ◌⊎◌, Bool, true, false, List, [], Option, Some, Ok, Err, ◌≤◌, length, take}
+use Rattle.std.specs.Prelude.{◌≡◌, ℕ, ◌+◌, ◌<◌, ◌⊎◌, Bool, true, false, not, List, [], Option, Some, Result, Ok, Err, ◌≤◌, length, take}
 use Rattle.std.specs.Borrow.{GName}
-use Rattle.std.specs.Io.KnownBytes.{Appends}
+use Rattle.std.specs.Io.KnownBytes.{Appends, Consumes, Keeps}
 use Rattle.gc_lines.specs.Answering.{Ports}
 use Rattle.gc_ask.specs.Asking.{Taken, LinkEnd, LinkEnds}
 use Rattle.gc_ask.specs.Looping.{SeenAtBoth}
@@ -26,6 +26,12 @@ seen_at client instrument sink = record { client = client; instrument = instrume
 -- what is seen of the source of an end
 abbrev pub source_of : Ports → Input
 source_of ports = record { remaining = ports.remaining; reads = ports.reads; ended = ports.ended; failed = ports.source_failed }
+
+-- a source was read once, and gave these bytes, none where that was its end; or it failed
+abbrev pub ReadsOnce : {E : Type 0} → Input → Input → List ℕ → Result Bool E → Type 0
+ReadsOnce old new given (Ok more) =
+    Consumes old.remaining new.remaining given × (new.reads ≡ old.reads + 1) × (new.ended ≡ not more) × (old.failed ≡ false) × (new.failed ≡ false)
+ReadsOnce old new given (Err _) = Keeps old.remaining new.remaining × (new.reads ≡ old.reads) × (new.ended ≡ old.ended) × (new.failed ≡ true)
 
 -- what the ports of an end are a step later, with this end of it
 pub record StepEnds (old new : Ports) (result : LinkEnd) : Type 0 where

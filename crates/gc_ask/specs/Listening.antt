@@ -2,7 +2,7 @@
 use Rattle.std.specs.Prelude.{◌≡◌, ℕ, ◌+◌, ◌*◌, ◌-◌, ◌<◌, ◌≤◌, ◌⊎◌, Bool, true, false, List, [], ◌∷◌, ◌++◌, length, Option, Some, None, Result, Ok, Err, take, drop, map}
 use Rattle.std.specs.List.{filter_map}
 use Rattle.std.specs.Io.KnownBytes.{Appends, Consumes}
-use Rattle.gc_lines.specs.Answering.{all_of}
+use Rattle.gc_lines.specs.Answering.{Ports, all_of}
 use Rattle.gc_lines.specs.Assembler.{Kept, StandsFor}
 use Rattle.gc_lines.specs.Frames.{line_in, rest_behind}
 use Rattle.gc_lines.specs.Passing.{frames_behind}
@@ -10,6 +10,7 @@ use Rattle.gc_client.specs.declared.settlement.Settlement.{Settlement}
 use Rattle.gc_client.specs.Rule.{ById, heard, fits, hears}
 use Rattle.gc_client.specs.Settlements.{AreSettlements, settlement_seen}
 use Rattle.gc_texts.specs.Settlements.{lines_from, settlement_lines, ToldPart}
+use Rattle.gc_ask.specs.declared.client_end.ClientEnd.{ClientEnd}
 use Rattle.gc_ask.specs.Asking.{Written, LinkEnd, first_reply, asked, waiting_for, request_text, request_texts, lost_of, AsksAll, TellsPart, EndsWith}
 use Rattle.gc_ask.specs.Links.{TakesRequest}
 use Rattle.gc_ask.specs.Looping.{BothEnd, SeenAtBoth, written_there}
@@ -50,6 +51,21 @@ pub record Heard : Type 0 where
   pub kept : Kept
   pub client : ById
   pub settled : List Settlement
+
+-- what this client's end has heard: these bytes behind a rest, of which these are left
+abbrev pub heard_by : ClientEnd → (rest bytes left : List ℕ) → Heard
+heard_by end rest bytes left =
+    record { rest = rest; bytes = bytes; left = left; kept = end.assembler; client = end.client.ids; settled = end.settled.items }
+
+-- what the client's end of a link took, and the sink of the settlements
+abbrev pub took_meanwhile : (old new : Ports) → (sink_old sink_new : Option (List ℕ)) → Written
+took_meanwhile old new sink_old sink_new = record { link_old = old.taken; link_new = new.taken; sink_old = sink_old; sink_new = sink_new }
+
+-- what a link gave meanwhile, at most 256 bytes at each read; and this holds of it, behind any rest of a line that the assembler kept
+abbrev pub Gives : (old new : Ports) → Kept → ((rest given : List ℕ) → Type 0) → Type 0
+Gives old new assembler claim =
+    (given : List ℕ) × Consumes old.remaining new.remaining given
+    × (length given ≤ 256 * (new.reads - old.reads)) × ((rest : List ℕ) → StandsFor assembler rest → claim rest given)
 
 -- of the lines that came one is the first to settle a request of this client, and what is left stands behind it
 pub record Settles (from : ById) (heard_so : Heard) : Type 0 where

@@ -1,13 +1,16 @@
 -- A client and a simulator at the two ends of one link: this project's own.
 use Rattle.std.specs.Prelude.{◌≡◌, false, ℕ, ◌+◌, ◌≤◌, ◌⊎◌, List, [], ◌∷◌, ◌++◌, length, take, Result, Ok, Err}
 use Rattle.std.specs.Io.KnownBytes.{Appends, Consumes}
-use Rattle.gc_lines.specs.Answering.{Ports, all_of}
+use Rattle.gc_lines.specs.Answering.{Ports, all_of, ports_of}
+use Rattle.gc_lines.specs.declared.ports.Source.{Ghosts as Source}
+use Rattle.gc_lines.specs.declared.ports.Sink.{Ghosts as Sink}
 use Rattle.gc_texts.specs.Settlements.{settlement_lines}
 use Rattle.gc_texts.specs.declared.commands.Command.{Command}
 use Rattle.gc_texts.specs.declared.fault.RunFault.{RunFault}
 use Rattle.gc_texts.specs.declared.fault.RunFault.TheVariants.{Read, Write, TooManyReads, LinkClosed, Output, Socket}
 use Rattle.gc_texts.specs.WholeTexts.{Input, GivesCommands, RefusesCommands}
-use Rattle.gc_ask.specs.Asking.{asked, lost_of, request_text, request_texts, Taken, Written, LinkEnd, AsksAll, TellsPart, LinkEnds, EndsWith}
+use Rattle.gc_ask.specs.declared.looped.Duplex.{Duplex}
+use Rattle.gc_ask.specs.Asking.{asked, lost_of, taken_by, request_text, request_texts, Taken, Written, LinkEnd, AsksAll, TellsPart, LinkEnds, EndsWith}
 use Rattle.gc_texts.specs.Texts.{end_reads}
 
 -- what came settles the commands before one, which was sent, and is lost; those behind it weren't sent
@@ -53,6 +56,22 @@ pub record SeenAtBoth : Type 0 where
   pub client : Ports
   pub instrument : Ports
   pub sink : Taken
+
+-- the same of these ports and this sink, by the ghost members of their traits
+abbrev pub seen_of : {A B C D K : Type 0} → Source A → A → Sink B → B → Source C → C → Sink D → D → Sink K → K → SeenAtBoth
+seen_of of_a a of_b b of_c c of_d d of_k k =
+    record { client = ports_of of_a a of_b b; instrument = ports_of of_c c of_d d; sink = taken_by of_k k }
+
+-- the same of both directions of each end
+abbrev pub seen_over : {A B C D K : Type 0} → Source A → Sink B → Duplex A B → Source C → Sink D → Duplex C D → Sink K → K → SeenAtBoth
+seen_over of_a of_b client of_c of_d instrument of_k k = seen_of of_a client.source of_b client.sink of_c instrument.source of_d instrument.sink of_k k
+
+-- nothing was read of a link, sent or written
+abbrev pub IsUnused : SeenAtBoth → SeenAtBoth → Type 0
+IsUnused old new =
+    (new.client.remaining ≡ old.client.remaining) × (new.client.reads ≡ old.client.reads)
+    × (new.instrument.remaining ≡ old.instrument.remaining) × (new.instrument.reads ≡ old.instrument.reads)
+    × (new.client.taken ≡ old.client.taken) × (new.instrument.taken ≡ old.instrument.taken) × (new.sink.bytes ≡ old.sink.bytes)
 
 -- what the client's end and the sink took
 abbrev pub written_there : SeenAtBoth → SeenAtBoth → Written

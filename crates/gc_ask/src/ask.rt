@@ -8,7 +8,7 @@ ghost use Rattle.gc_lines.specs.Lines.{with_end};
 ghost use Rattle.gc_ask.specs.AskRuns.{AskRuns};
 ghost use Rattle.gc_ask.specs.Asking.{EndsWith, idle, request_text, taken_by, waiting_for};
 ghost use Rattle.gc_ask.specs.Links.{BothStep, seen_at};
-ghost use Rattle.gc_ask.specs.Listening.{AsksAt, AsksOne, Exchanges, RunsAt};
+ghost use Rattle.gc_ask.specs.Listening.{AsksAt, AsksOne, Exchanges, RunsAt, Gives, heard_by, took_meanwhile};
 ghost use Rattle.gc_texts.specs.declared.fault.RunFault.{RunFault};
 ghost use Rattle.gc_texts.specs.declared.text.TheConstants.{TEXT_LIMIT};
 ghost use Rattle.gc_texts.specs.WholeTexts.{input_of};
@@ -70,10 +70,8 @@ impl Asking {
         link: &mut L,
     ) -> Result<(), RunFault>
         requires { self.old.end.client.ids ≡ idle place }
-        ensures exchanges { (given : List ℕ) × Consumes (L.client link.old).remaining (L.client link.new).remaining given
-            × (length given ≤ 256 * ((L.client link.new).reads - (L.client link.old).reads))
-            × ((rest : List ℕ) → StandsFor self.old.end.assembler rest
-            → Exchanges L.alone place command.now (record { rest = rest; bytes = self.old.ahead ++ given; left = self.new.ahead; kept = self.new.end.assembler; client = self.new.end.client.ids; settled = self.new.end.settled.items }) (L.client link.old).taken (L.client link.new).taken result) }
+        ensures exchanges { Gives (L.client link.old) (L.client link.new) self.old.end.assembler (λ rest given.
+            Exchanges L.alone place command.now (heard_by self.new.end rest (self.old.ahead ++ given) self.new.ahead) (L.client link.old).taken (L.client link.new).taken result) }
         ensures ends { BothStep (L.client link.old) (L.client link.new) (L.instrument link.old) (L.instrument link.new) result }
         ensures grows { (L.client link.old).reads ≤ (L.client link.new).reads }
         ensures reads { (L.client link.new).reads + (L.instrument link.new).reads + self.new.reads ≡ (L.client link.old).reads + (L.instrument link.old).reads + self.old.reads }
@@ -98,10 +96,8 @@ impl Asking {
     ) -> Result<(), RunFault>
         requires idle { self.old.end.client.ids ≡ idle place }
         requires stands { (rest : List ℕ) × StandsFor self.old.end.assembler rest }
-        ensures asks { (given : List ℕ) × Consumes (L.client link.old).remaining (L.client link.new).remaining given
-            × (length given ≤ 256 * ((L.client link.new).reads - (L.client link.old).reads))
-            × ((rest : List ℕ) → StandsFor self.old.end.assembler rest
-            → AsksOne L.alone place command.now (record { rest = rest; bytes = self.old.ahead ++ given; left = self.new.ahead; kept = self.new.end.assembler; client = self.new.end.client.ids; settled = self.new.end.settled.items }) (record { link_old = (L.client link.old).taken; link_new = (L.client link.new).taken; sink_old = K.taken sink.old; sink_new = K.taken sink.new })
+        ensures asks { Gives (L.client link.old) (L.client link.new) self.old.end.assembler (λ rest given.
+            AsksOne L.alone place command.now (heard_by self.new.end rest (self.old.ahead ++ given) self.new.ahead) (took_meanwhile (L.client link.old) (L.client link.new) (K.taken sink.old) (K.taken sink.new))
             (BothStep (L.client link.old) (L.client link.new) (L.instrument link.old) (L.instrument link.new)) result) }
         ensures ends { EndsWith (BothStep (L.client link.old) (L.client link.new) (L.instrument link.old) (L.instrument link.new))
             (K.failed sink.old) (K.failed sink.new) result }

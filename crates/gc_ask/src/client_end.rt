@@ -6,7 +6,7 @@ ghost use Rattle.gc_lines.specs.Assembler.{StandsFor};
 ghost use Rattle.gc_lines.specs.Frames.{line_in};
 ghost use Rattle.gc_lines.specs.Lent.{lent_seen, IsLineWithin};
 ghost use Rattle.gc_ask.specs.Asking.{idle};
-ghost use Rattle.gc_ask.specs.Listening.{TakesFrame, Listens, left_by, HearsReply, ReadEnds};
+ghost use Rattle.gc_ask.specs.Listening.{TakesFrame, Listens, left_by, HearsReply, ReadEnds, Gives, heard_by};
 ghost use Rattle.gc_ask.specs.Links.{OnlyReads, source_of};
 
 use crate::link::Link;
@@ -55,7 +55,7 @@ impl ClientEnd {
     fn listen(&mut self, piece: &[u8], cut: &mut Line) -> Option<usize>
         ensures within { IfSome result (λ used. used ≤ length piece.now) }
         ensures listens { (rest : List ℕ) → StandsFor self.old.assembler rest
-            → Listens self.old.client.ids (record { rest = rest; bytes = piece.now; left = left_by result piece.now; kept = self.new.assembler; client = self.new.client.ids; settled = self.new.settled.items }) result }
+            → Listens self.old.client.ids (heard_by self.new rest piece.now (left_by result piece.now)) result }
     {
         let mut at = 0;
         while at < piece.len() {
@@ -76,10 +76,8 @@ impl ClientEnd {
         ahead: &mut Unheard,
         reads: &mut u32,
     ) -> Result<(), RunFault>
-        ensures hears { (given : List ℕ) × Consumes (L.client link.old).remaining (L.client link.new).remaining given
-            × (length given ≤ 256 * ((L.client link.new).reads - (L.client link.old).reads))
-            × ((rest : List ℕ) → StandsFor self.old.assembler rest
-            → HearsReply self.old.client.ids (record { rest = rest; bytes = ahead.old ++ given; left = ahead.new; kept = self.new.assembler; client = self.new.client.ids; settled = self.new.settled.items }) result) }
+        ensures hears { Gives (L.client link.old) (L.client link.new) self.old.assembler (λ rest given.
+            HearsReply self.old.client.ids (heard_by self.new rest (ahead.old ++ given) ahead.new) result) }
         ensures grows { (L.client link.old).reads ≤ (L.client link.new).reads }
         ensures reads { (L.client link.new).reads + reads.new ≡ (L.client link.old).reads + reads.old }
         ensures ends { ReadEnds (source_of (L.client link.old)) (source_of (L.client link.new)) reads.new result }

@@ -5,7 +5,7 @@ ghost use Rattle.std.specs.Prelude.{◌≡◌, ◌+◌, ◌≤◌, [], length, t
 ghost use Rattle.std.specs.Io.KnownBytes.{Consumes, Keeps};
 ghost use Rattle.gc_lines.specs.Lines.{with_end};
 ghost use Rattle.gc_ask.specs.Asking.{taken_by};
-ghost use Rattle.gc_ask.specs.Links.{BothStep, OnlyReads, Sends, TakesRequest, source_of};
+ghost use Rattle.gc_ask.specs.Links.{BothStep, OnlyReads, ReadsOnce, Sends, TakesRequest, source_of};
 ghost use Rattle.gc_texts.specs.declared.fault.RunFault.{RunFault};
 
 use crate::unheard::Unheard;

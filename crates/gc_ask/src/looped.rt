@@ -3,7 +3,7 @@
 ghost use Rattle.std.specs.Prelude.{◌≡◌, ◌+◌, ◌≤◌, Err};
 ghost use Rattle.gc_lines.specs.Answering.{ports_of};
 ghost use Rattle.gc_ask.specs.Asking.{taken_by};
-ghost use Rattle.gc_ask.specs.Looping.{LoopRuns};
+ghost use Rattle.gc_ask.specs.Looping.{IsUnused, LoopRuns, seen_of, seen_over};
 ghost use Rattle.gc_texts.specs.declared.fault.RunFault.{RunFault};
 ghost use Rattle.gc_texts.specs.WholeTexts.{input_of};
 
@@ -35,24 +35,13 @@ pub fn run_loop<S: Source, A: Source, B: Sink, C: Source, D: Sink, K: Sink>(
     // What the text was, and what of its commands was asked: what the client's end took and gave, what the sink took, and which
     // ports have failed.
     ensures loops { LoopRuns (input_of S.Source commands.old) (input_of S.Source commands.new)
-        (record {
-          client = ports_of A.Source client_in.old B.Sink client_out.old;
-          instrument = ports_of C.Source instrument_in.old D.Sink instrument_out.old;
-          sink = taken_by K.Sink sink.old;
-        })
-        (record {
-          client = ports_of A.Source client_in.new B.Sink client_out.new;
-          instrument = ports_of C.Source instrument_in.new D.Sink instrument_out.new;
-          sink = taken_by K.Sink sink.new;
-        })
+        (seen_of A.Source client_in.old B.Sink client_out.old C.Source instrument_in.old D.Sink instrument_out.old K.Sink sink.old)
+        (seen_of A.Source client_in.new B.Sink client_out.new C.Source instrument_in.new D.Sink instrument_out.new K.Sink sink.new)
         result }
     ensures bound { A.reads client_in.new + C.reads instrument_in.new ≤ A.reads client_in.old + C.reads instrument_in.old + max_reads }
     ensures too_many { result ≡ Err RunFault.TooManyReads → A.reads client_in.new + C.reads instrument_in.new ≡ A.reads client_in.old + C.reads instrument_in.old + max_reads }
-    ensures memory { result ≡ Err RunFault.Memory
-        → (A.remaining client_in.new ≡ A.remaining client_in.old) × (A.reads client_in.new ≡ A.reads client_in.old)
-        × (C.remaining instrument_in.new ≡ C.remaining instrument_in.old) × (C.reads instrument_in.new ≡ C.reads instrument_in.old)
-        × (B.taken client_out.new ≡ B.taken client_out.old) × (D.taken instrument_out.new ≡ D.taken instrument_out.old)
-        × (K.taken sink.new ≡ K.taken sink.old) }
+    ensures memory { result ≡ Err RunFault.Memory → IsUnused (seen_of A.Source client_in.old B.Sink client_out.old C.Source instrument_in.old D.Sink instrument_out.old K.Sink sink.old)
+        (seen_of A.Source client_in.new B.Sink client_out.new C.Source instrument_in.new D.Sink instrument_out.new K.Sink sink.new) }
 {
     let mut link = Loop {
         client_in,
@@ -84,16 +73,8 @@ pub fn run_loop_on<S: Source, A: Source, B: Sink, C: Source, D: Sink, K: Sink>(
     max_reads: u32,
 ) -> Result<(), RunFault>
     ensures loops { LoopRuns (input_of S.Source commands.old) (input_of S.Source commands.new)
-        (record {
-          client = ports_of A.Source client.old.source B.Sink client.old.sink;
-          instrument = ports_of C.Source instrument_end.old.source D.Sink instrument_end.old.sink;
-          sink = taken_by K.Sink sink.old;
-        })
-        (record {
-          client = ports_of A.Source client.new.source B.Sink client.new.sink;
-          instrument = ports_of C.Source instrument_end.new.source D.Sink instrument_end.new.sink;
-          sink = taken_by K.Sink sink.new;
-        })
+        (seen_over A.Source B.Sink client.old C.Source D.Sink instrument_end.old K.Sink sink.old)
+        (seen_over A.Source B.Sink client.new C.Source D.Sink instrument_end.new K.Sink sink.new)
         result }
 
     // At most so many reads of both ends were answered, and all of them where that is the fault.
@@ -101,11 +82,8 @@ pub fn run_loop_on<S: Source, A: Source, B: Sink, C: Source, D: Sink, K: Sink>(
     ensures too_many { result ≡ Err RunFault.TooManyReads → A.reads client.new.source + C.reads instrument_end.new.source ≡ A.reads client.old.source + C.reads instrument_end.old.source + max_reads }
 
     // After want of memory nothing was read of the link, sent or written.
-    ensures memory { result ≡ Err RunFault.Memory
-        → (A.remaining client.new.source ≡ A.remaining client.old.source) × (A.reads client.new.source ≡ A.reads client.old.source)
-        × (C.remaining instrument_end.new.source ≡ C.remaining instrument_end.old.source) × (C.reads instrument_end.new.source ≡ C.reads instrument_end.old.source)
-        × (B.taken client.new.sink ≡ B.taken client.old.sink) × (D.taken instrument_end.new.sink ≡ D.taken instrument_end.old.sink)
-        × (K.taken sink.new ≡ K.taken sink.old) }
+    ensures memory { result ≡ Err RunFault.Memory → IsUnused (seen_over A.Source B.Sink client.old C.Source D.Sink instrument_end.old K.Sink sink.old)
+        (seen_over A.Source B.Sink client.new C.Source D.Sink instrument_end.new K.Sink sink.new) }
 {
     let mut link = Loop {
         client_in: &mut client.source,

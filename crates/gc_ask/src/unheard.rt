@@ -1,7 +1,8 @@
 //! What was read of a link and isn't used yet.
 
 ghost use Rattle.std.specs.Prelude.{◌≡◌, ◌+◌, ◌≤◌, [], drop, length, true, false, not, Ok, MatchResult};
-ghost use Rattle.std.specs.Io.KnownBytes.{Consumes, Keeps};
+ghost use Rattle.gc_ask.specs.Links.{ReadsOnce};
+ghost use Rattle.gc_texts.specs.WholeTexts.{input_of};
 
 use gc_lines::{PortFailed, Source};
 use std::marker::Model;
@@ -59,11 +60,7 @@ impl Unheard {
     pub(crate) fn read<S: Source>(&mut self, source: &mut S) -> Result<bool, PortFailed>
         ensures few { length self.new ≤ 256 }
         ensures end { result ≡ Ok false → self.new ≡ [] }
-        ensures bytes { MatchResult result (λ more. Consumes (S.remaining source.old) (S.remaining source.new) self.new
-            × (S.reads source.new ≡ S.reads source.old + 1) × (S.ended source.new ≡ not more)
-            × (S.failed source.old ≡ false) × (S.failed source.new ≡ false))
-            (λ _. Keeps (S.remaining source.old) (S.remaining source.new) × (S.reads source.new ≡ S.reads source.old)
-            × (S.ended source.new ≡ S.ended source.old) × (S.failed source.new ≡ true)) }
+        ensures bytes { ReadsOnce (input_of S.Source source.old) (input_of S.Source source.new) self.new result }
     {
         self.at = 0;
         self.end = 0;

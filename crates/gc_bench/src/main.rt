@@ -13,32 +13,26 @@ use std::{env, io};
 // The words: what to do, how often, and for rows in which file. The sum that is printed keeps all that was done.
 fn main(rt: HostRuntime) -> io::Result<ExitCode> {
     let words: Vec<String> = env::args(&rt)?.collect(rt.alloc())?;
-    let (Some(thing), Some(count)) = (words.get(1), words.get(2)) else {
-        return refused(&rt);
-    };
-    let Ok(count) = count.parse::<u32>() else {
-        return refused(&rt);
-    };
-    let sum = match thing.as_str() {
-        "read" => decimals::read(count),
-        "write" => decimals::write(count),
-        "send-ring" => sending::send(Ring::new(rt.alloc())?, count),
-        "send-slots" => sending::send(Slots::new(), count),
-        "rows" | "rows-sync" => {
-            let Some(path) = words.get(3) else {
-                return refused(&rt);
-            };
-            rows::append(&rt, path.as_str(), count, thing.as_str() == "rows-sync")
+    match sum_of(&rt, words.as_slice()) {
+        Some(sum) => {
+            println!(rt; "checksum {sum}")?;
+            Ok(ExitCode::SUCCESS)
         }
-        _ => return refused(&rt),
-    };
-    println!(rt; "{count} times {thing}, checksum {sum}")?;
-    Ok(ExitCode::SUCCESS)
+        None => Ok(ExitCode::from(2)),
+    }
 }
 
-fn refused(rt: &HostRuntime) -> io::Result<ExitCode> {
-    eprintln!(rt;
-        "usage: gc_bench read|write|send-ring|send-slots COUNT, or gc_bench rows|rows-sync COUNT FILE"
-    )?;
-    Ok(ExitCode::from(2))
+// None where the words aren't `read`, `write`, `send-ring` or `send-slots` with a count, or `rows` or `rows-sync` with a count and a file.
+fn sum_of(rt: &HostRuntime, words: &[String]) -> Option<u64> {
+    let thing = words.get(1)?.as_str();
+    let count = words.get(2)?.as_str().parse::<u32>().ok()?;
+    match thing {
+        "read" => Some(decimals::read(count)),
+        "write" => Some(decimals::write(count)),
+        "send-ring" => Some(sending::send(Ring::new(rt.alloc()).ok()?, count)),
+        "send-slots" => Some(sending::send(Slots::new(), count)),
+        "rows" => Some(rows::append(rt, words.get(3)?.as_str(), count, false)),
+        "rows-sync" => Some(rows::append(rt, words.get(3)?.as_str(), count, true)),
+        _ => None,
+    }
 }

@@ -2,7 +2,7 @@
 
 use arrayvec::ArrayVec;
 use gc_catalogue::{Answer, Call, Reading};
-use gc_client::{Client, Hearing, Outcome, Settlement, WINDOW, Window};
+use gc_client::{Client, Outcome, Settlement, WINDOW, Window};
 use gc_lines::Line;
 
 // Replies to a simple measurement, with the request's id, 0 to 7.
@@ -51,18 +51,19 @@ fn answered<W: Window>(
     reply: &[u8],
     settled: &mut ArrayVec<Settlement, WINDOW>,
 ) -> u64 {
-    if client.hear(reply, settled) != Hearing::Settled {
-        return 0;
+    let _ = client.hear(reply, settled);
+    scale_of(settled.as_slice())
+}
+
+// The scale of the first settlement's distance.
+fn scale_of(settled: &[Settlement]) -> u64 {
+    match settled.first() {
+        Some(settlement) => match &settlement.outcome {
+            Outcome::Answered(Reading::Value(Answer::Measured { distance, .. }), _) => {
+                u64::from(distance.scale())
+            }
+            _ => 0,
+        },
+        None => 0,
     }
-    let mut sum = 0u64;
-    for settlement in settled.as_slice() {
-        if let Outcome::Answered(
-            Reading::Value(Answer::Measured { distance, .. }),
-            _,
-        ) = &settlement.outcome
-        {
-            sum = sum.wrapping_add(u64::from(distance.scale()));
-        }
-    }
-    sum
 }

@@ -5,6 +5,12 @@ use std::alloc::{AllocError, Global};
 /// The bytes that a value stands for.
 pub fn bytes_of(alloc: Global, value: &str) -> Result<Vec<u8>, AllocError> {
     let mut bytes = Vec::new(alloc);
+    push_all(&mut bytes, value)?;
+    Ok(bytes)
+}
+
+/// Appends the bytes that a value stands for.
+pub fn push_all(bytes: &mut Vec<u8>, value: &str) -> Result<(), AllocError> {
     let mut rest = value.as_bytes();
     for _ in 0..value.len() {
         let Some((byte, behind)) = next_byte(rest) else {
@@ -13,7 +19,19 @@ pub fn bytes_of(alloc: Global, value: &str) -> Result<Vec<u8>, AllocError> {
         bytes.push(byte)?;
         rest = behind;
     }
-    Ok(bytes)
+    Ok(())
+}
+
+/// Whether a value stands for these bytes.
+pub fn spells(value: &str, bytes: &[u8]) -> bool {
+    let mut rest = value.as_bytes();
+    for byte in bytes {
+        match next_byte(rest) {
+            Some((next, behind)) if next == *byte => rest = behind,
+            _ => return false,
+        }
+    }
+    rest.is_empty()
 }
 
 // The first byte that a value stands for, and what follows.
@@ -53,21 +71,31 @@ fn digit_of(digit: u8) -> u8 {
 /// A value that stands for these bytes.
 pub fn text_of(alloc: Global, bytes: &[u8]) -> Result<String, AllocError> {
     let mut text = String::new(alloc);
+    push_text(&mut text, bytes)?;
+    Ok(text)
+}
+
+/// Appends a value that stands for these bytes.
+pub fn push_text(text: &mut String, bytes: &[u8]) -> Result<(), AllocError> {
     for byte in bytes {
-        match *byte {
-            b'\n' => text.push_str("\\n")?,
-            b'\r' => text.push_str("\\r")?,
-            b'\t' => text.push_str("\\t")?,
-            b'\\' => text.push_str("\\\\")?,
-            b' '..=b'~' => text.push(char::from(*byte))?,
-            _ => {
-                text.push_str("\\x")?;
-                text.push(hex_of(*byte / 16))?;
-                text.push(hex_of(*byte % 16))?;
-            }
+        push_escaped(text, *byte)?;
+    }
+    Ok(())
+}
+
+fn push_escaped(text: &mut String, byte: u8) -> Result<(), AllocError> {
+    match byte {
+        b'\n' => text.push_str("\\n"),
+        b'\r' => text.push_str("\\r"),
+        b'\t' => text.push_str("\\t"),
+        b'\\' => text.push_str("\\\\"),
+        b' '..=b'~' => text.push(char::from(byte)),
+        _ => {
+            text.push_str("\\x")?;
+            text.push(hex_of(byte / 16))?;
+            text.push(hex_of(byte % 16))
         }
     }
-    Ok(text)
 }
 
 fn hex_of(digit: u8) -> char {

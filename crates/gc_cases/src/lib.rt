@@ -9,9 +9,11 @@ mod escapes;
 mod input;
 mod playing;
 mod rows;
+mod telling;
 
 pub use case::{Case, cut_case};
-pub use escapes::{bytes_of, text_of};
+pub use escapes::{bytes_of, push_all, push_text, text_of};
 pub use input::input_of;
-pub use playing::{Player, play_folder};
+pub use playing::{Player, names_of, play_folder};
 pub use rows::{Rows, cut_word, play_rows, push_bytes};
+pub use telling::tell;

@@ -1,7 +1,7 @@
-//! Cases of rows: each line `do WORD WHAT -> CAME` is played, one after the other, and comes to itself where the right thing came.
+//! Cases of rows: each line `do WORD WHAT -> CAME` is played, one after the other.
 
 use crate::case::Case;
-use crate::escapes::bytes_of;
+use crate::escapes::{bytes_of, push_text, spells};
 use std::alloc::{AllocError, Global};
 
 /// The most rows of a case.
@@ -9,46 +9,61 @@ const MOST_ROWS: usize = 10_000;
 
 /// What plays the rows of a case.
 pub trait Rows {
-    /// Plays a row, by its first word and what stands behind that. What came is appended; nothing is where the row has no arrow.
+    /// Plays a row, by its first word, what stands behind that, and the bytes for which this stands. What came is appended; nothing is
+    /// where the row has no arrow.
     fn play(
         &mut self,
         alloc: Global,
         word: &str,
         what: &str,
+        bytes: &[u8],
         came: &mut String,
     ) -> Result<(), AllocError>;
 }
 
-/// Plays the rows of a case, and gives each one with what came.
+/// Plays the rows of a case. Where another thing came than stands behind a row's arrow, a line with it is appended to `wrong`.
 pub fn play_rows<R: Rows>(
     alloc: Global,
     case: &Case<'_>,
     rows: &mut R,
-) -> Result<Vec<Vec<u8>>, AllocError> {
-    let mut played = Vec::new(alloc);
+    wrong: &mut String,
+) -> Result<(), AllocError> {
+    if case.value("do").is_empty() {
+        return write!(wrong, "{}: a case without rows\n", case.name);
+    }
     for place in 0..MOST_ROWS {
         let Some(row) = case.value_at("do", place) else {
             break;
         };
-        played.push(play_row(alloc, row, rows)?)?;
+        let (given, expected) = row.split_once(" -> ").unwrap_or((row, ""));
+        let came = play_row(alloc, given, rows)?;
+        tell_row(case, given, expected, came.as_str(), wrong)?;
     }
-    if played.is_empty() {
-        played.push(bytes_of(alloc, "a case without rows")?)?;
-    }
-    Ok(played)
+    Ok(())
 }
 
-fn play_row<R: Rows>(alloc: Global, row: &str, rows: &mut R) -> Result<Vec<u8>, AllocError> {
-    let (given, _) = row.split_once(" -> ").unwrap_or((row, ""));
+// Plays what stands before a row's arrow.
+fn play_row<R: Rows>(alloc: Global, given: &str, rows: &mut R) -> Result<String, AllocError> {
     let (word, what) = cut_word(given);
+    let bytes = bytes_of(alloc, what)?;
     let mut came = String::new(alloc);
-    rows.play(alloc, word, what, &mut came)?;
-    let mut bytes = bytes_of(alloc, given)?;
-    if !came.is_empty() {
-        bytes.extend_from_slice(b" -> ")?;
-        bytes.extend_from_slice(came.as_bytes())?;
+    rows.play(alloc, word, what, bytes.as_slice(), &mut came)?;
+    Ok(came)
+}
+
+fn tell_row(
+    case: &Case<'_>,
+    given: &str,
+    expected: &str,
+    came: &str,
+    wrong: &mut String,
+) -> Result<(), AllocError> {
+    if spells(expected, came.as_bytes()) {
+        return Ok(());
     }
-    Ok(bytes)
+    write!(wrong, "{}: do is {given} -> ", case.name)?;
+    push_text(wrong, came.as_bytes())?;
+    wrong.push('\n')
 }
 
 /// The first word of a text, and what stands behind the space after it.

@@ -40,7 +40,8 @@ before-params v (w ∷ vs) = rw (before-params w vs) (simp append_assoc)
 pub behind-before : (vs : List Value) → 44 ∷ before_commas vs ≡ behind_commas vs ++ 44 ∷ []
 behind-before [] = refl
 behind-before (v ∷ vs) =
-    ap (λ rest. 44 ∷ rest) (append_assoc (text v) (44 ∷ []) (before_commas vs)) ∙ ap (λ rest. 44 ∷ (text v ++ rest)) (behind-before vs) ∙ sym (ap (λ rest. 44 ∷ rest) (append_assoc (text v) (behind_commas vs) (44 ∷ [])))
+    ap (λ rest. 44 ∷ rest) (append_assoc (text v) (44 ∷ []) (before_commas vs)) ∙ ap (λ rest. 44 ∷ (text v ++ rest)) (behind-before vs)
+    ∙ sym (ap (λ rest. 44 ∷ rest) (append_assoc (text v) (behind_commas vs) (44 ∷ [])))
 
 without_last : (xs : List ℕ) (a : ℕ) → take (length (xs ++ a ∷ []) - 1) (xs ++ a ∷ []) ≡ xs
 without_last xs a =
@@ -48,9 +49,12 @@ without_last xs a =
     ap (λ k. take k (xs ++ a ∷ [])) n ∙ take-append_seam xs (a ∷ [])
 
 -- a comma, values before commas, and the last comma taken off
-pub comma_list : (head : List ℕ) (vs : List Value) (begun old new : List ℕ) → begun ≡ head ++ 44 ∷ [] → old ≡ begun ++ before_commas vs → new ≡ take (length old - 1) old → new ≡ head ++ behind_commas vs
+pub comma_list : (head : List ℕ) (vs : List Value) (begun old new : List ℕ) → begun ≡ head ++ 44 ∷ [] → old ≡ begun ++ before_commas vs
+    → new ≡ take (length old - 1) old → new ≡ head ++ behind_commas vs
 comma_list head vs begun old new start is cut =
-    let all : old ≡ (head ++ behind_commas vs) ++ 44 ∷ [] = is ∙ ap (λ bytes. bytes ++ before_commas vs) start ∙ append_assoc head (44 ∷ []) (before_commas vs) ∙ ap (λ bytes. head ++ bytes) (behind-before vs) ∙ sym (append_assoc head (behind_commas vs) (44 ∷ [])) in
+    let all : old ≡ (head ++ behind_commas vs) ++ 44 ∷ [] = is ∙ ap (λ bytes. bytes ++ before_commas vs) start
+    ∙ append_assoc head (44 ∷ []) (before_commas vs) ∙ ap (λ bytes. head ++ bytes) (behind-before vs)
+    ∙ sym (append_assoc head (behind_commas vs) (44 ∷ [])) in
     cut ∙ ap (λ bytes. take (length bytes - 1) bytes) all ∙ without_last (head ++ behind_commas vs) 44
 
 nothing_ends : (ys : List ℕ) (b : ℕ) → [] ≡ ys ++ b ∷ [] → ⊥
@@ -65,7 +69,9 @@ ends_once (x ∷ xs) [] a b e = let rest : [] ≡ xs ++ a ∷ [] = cc in absurd 
 ends_once (x ∷ xs) (y ∷ ys) a b e = let rest : xs ++ a ∷ [] ≡ ys ++ b ∷ [] = cc in ends_once xs ys a b rest
 
 -- a colon and values before commas, and the comma at the end taken off where there is one
-colon_list : (head : List ℕ) (vs : List Value) (old new : List ℕ) → old ≡ (head ++ 58 ∷ []) ++ before_commas vs → ((front : List ℕ) → old ≡ front ++ 44 ∷ [] → new ≡ front) → (((front : List ℕ) → old ≢ front ++ 44 ∷ []) → new ≡ old) → new ≡ (head ++ 58 ∷ []) ++ params_of vs
+colon_list : (head : List ℕ) (vs : List Value) (old new : List ℕ) → old ≡ (head ++ 58 ∷ []) ++ before_commas vs
+    → ((front : List ℕ) → old ≡ front ++ 44 ∷ [] → new ≡ front) → (((front : List ℕ) → old ≢ front ++ 44 ∷ []) → new ≡ old)
+    → new ≡ (head ++ 58 ∷ []) ++ params_of vs
 colon_list head [] old new is comma other =
     other (λ front e. let same : 58 ≡ 44 = ends_once head front 58 44 (sym (append-nil (head ++ 58 ∷ [])) ∙ sym is ∙ e) in omega (arith, same)) ∙ is
 colon_list head (v ∷ vs) old new is comma other =
@@ -75,12 +81,17 @@ bare_head : (rpc : ℕ) (id : Option ℕ) → request_text (record { rpc = rpc; 
 bare_head rpc id = simp append_assoc
 
 -- a request's head and values before commas, and the comma at the end taken off where there is one
-pub request_ends : (front : List ℕ) (rpc : ℕ) (id : Option ℕ) (vs : List Value) (old new : List ℕ) → old ≡ front ++ (request_text (record { rpc = rpc; id = id; params = [] }) ++ before_commas vs) → ((list : List ℕ) → old ≡ list ++ 44 ∷ [] → new ≡ list) → (((list : List ℕ) → old ≢ list ++ 44 ∷ []) → new ≡ old) → new ≡ front ++ request_text (record { rpc = rpc; id = id; params = params_of vs })
+pub request_ends : (front : List ℕ) (rpc : ℕ) (id : Option ℕ) (vs : List Value) (old new : List ℕ)
+    → old ≡ front ++ (request_text (record { rpc = rpc; id = id; params = [] }) ++ before_commas vs) → ((list : List ℕ) → old ≡ list ++ 44 ∷ [] → new ≡ list)
+    → (((list : List ℕ) → old ≢ list ++ 44 ∷ []) → new ≡ old) → new ≡ front ++ request_text (record { rpc = rpc; id = id; params = params_of vs })
 request_ends front rpc id vs old new is comma other =
     let head : List ℕ = front ++ (request_signature ++ (decimal rpc ++ id_text id)) in
-    let start : front ++ (request_text (record { rpc = rpc; id = id; params = [] }) ++ before_commas vs) ≡ (head ++ 58 ∷ []) ++ before_commas vs = ap (λ bytes. front ++ (bytes ++ before_commas vs)) (bare_head rpc id) ∙ simp append_assoc in
+    let start : front ++ (request_text (record { rpc = rpc; id = id; params = [] }) ++ before_commas vs) ≡ (head ++ 58 ∷ []) ++ before_commas vs =
+    ap (λ bytes. front ++ (bytes ++ before_commas vs)) (bare_head rpc id) ∙ simp append_assoc in
     let end : (head ++ 58 ∷ []) ++ params_of vs ≡ front ++ request_text (record { rpc = rpc; id = id; params = params_of vs }) = simp append_assoc in
     colon_list head vs old new (is ∙ start) comma other ∙ end
 
-pub reply_text-params : (rc_com : ℕ) (id : Option ℕ) (rc : ℕ) (params : List ℕ) → reply_text (record { rc_com = rc_com; id = id; rc = rc; params = [] }) ++ params_text params ≡ reply_text (record { rc_com = rc_com; id = id; rc = rc; params = params })
+pub reply_text-params : (rc_com : ℕ) (id : Option ℕ) (rc : ℕ) (params : List ℕ)
+    → reply_text (record { rc_com = rc_com; id = id; rc = rc; params = [] }) ++ params_text params ≡ reply_text
+    (record { rc_com = rc_com; id = id; rc = rc; params = params })
 reply_text-params rc_com id rc params = simp (append_assoc, append-nil)

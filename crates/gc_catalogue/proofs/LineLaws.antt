@@ -46,13 +46,15 @@ shown_fit places (value.Text t ∷ vs) h = (h.0, shown_fit places vs h.1)
 pub rounded_fits : (places : ℕ) (answer : Answer) → IsFittingAnswer answer → IsFittingAnswer (rounded_answer places answer)
 rounded_fits places answer h = rw (values-rounded places answer) (shown_fit places (answer_fields answer).values h)
 
-pub written_is_answer : (call : Call) (answer : Answer) (places : ℕ) → IsAnswerOf call answer → IsFittingAnswer (rounded_answer places answer) → IsAnswer call (params_of (answer_fields (rounded_answer places answer)).values) (rounded_answer places answer)
+pub written_is_answer : (call : Call) (answer : Answer) (places : ℕ) → IsAnswerOf call answer → IsFittingAnswer (rounded_answer places answer)
+    → IsAnswer call (params_of (answer_fields (rounded_answer places answer)).values) (rounded_answer places answer)
 written_is_answer call answer places of_call fits = record {
   of_call = shape-rounded places answer ∙ of_call;
   values = written_reads _ fits;
 }
 
-pub answer_again : (call : Call) (id : ℕ) (answer : Answer) (places : ℕ) → id < 8 → IsAnswerOf call answer → IsFittingAnswer (rounded_answer places answer) → ReadsBackAnswer call id 0 answer places (reading.Value (rounded_answer places answer))
+pub answer_again : (call : Call) (id : ℕ) (answer : Answer) (places : ℕ) → id < 8 → IsAnswerOf call answer → IsFittingAnswer (rounded_answer places answer)
+    → ReadsBackAnswer call id 0 answer places (reading.Value (rounded_answer places answer))
 answer_again call id answer places i of_call fits = record {
   line = reply_back (reply_of id 0 answer places) (record { rc_com = lit< tt; id = i; rc = lit< tt });
   is_reading = (refl, refl, written_is_answer call answer places of_call fits);

@@ -32,7 +32,7 @@ pub fn answers_read_back()
     ensures { AnswersReadBack }
 {}
 
-/// Each double of an answer that is written is the rounding of the answer's double, and nothing else is another.
+/// An answer is written with each double rounded to the places, and with every other value as it is.
 pub fn doubles_are_rounded()
     ensures { DoublesAreRounded }
 {}

@@ -63,7 +63,7 @@ pub fn encode_answer(id: u8, rc: u16, answer: &Answer, places: u8) -> Line
     line
 }
 
-// Reads the call's answer that parameters in the common spelling are, and says whether it is there.
+// Tries to read parameters in the common spelling as the call's answer, into `reading`, and says whether that succeeded.
 fn read_quickly(call: &Call, params: &[u8], reading: &mut Reading) -> bool
     ensures { IsTrue result → IsReading call.now (beside_zeros params.now) reading.new }
 {

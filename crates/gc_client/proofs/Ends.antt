@@ -16,7 +16,8 @@ abbrev met_when : Pending → List ℕ → Bool → Rule.Settlement
 met_when p line given_up = record { target = p.target; call = p.call; outcome = if given_up then Rule.Late else Rule.Answered line }
 
 -- answered, where it was not
-pub answered_is : (p : Pending) (line : List ℕ) (fields : ReplyFields) (o : Outcome) → p.given_up ≡ false → reply_at line ≡ Ok fields → IsAnsweredBy p.call fields line o → IsSettlement (record { target = p.target; call = p.call; outcome = o }) (met p line)
+pub answered_is : (p : Pending) (line : List ℕ) (fields : ReplyFields) (o : Outcome) → p.given_up ≡ false → reply_at line ≡ Ok fields
+    → IsAnsweredBy p.call fields line o → IsSettlement (record { target = p.target; call = p.call; outcome = o }) (met p line)
 answered_is p line fields (Answered reading copy) given_up reads (same, says) =
     record {
       seen = ap₂ (met_when p) same (sym given_up);
@@ -47,7 +48,8 @@ hears_at c line None k e = absurd (none_is_not_some e) where
 hears_at c line (Some id) k e = let at = chosen _ _ k e in ap₂ (λ q b. id_settled c line q b) at.1 at.0
 
 -- a reply with these fields, to the request at place k, settles through place k
-pub settles : (c : ById) (line : List ℕ) (fields : ReplyFields) (k : ℕ) → reply_at line ≡ Ok fields → place_heard c.next (length c.waiting) fields.id ≡ Some k → hears c line (heard line) ≡ id_settled c line k true
+pub settles : (c : ById) (line : List ℕ) (fields : ReplyFields) (k : ℕ) → reply_at line ≡ Ok fields → place_heard c.next (length c.waiting) fields.id ≡ Some k
+    → hears c line (heard line) ≡ id_settled c line k true
 settles c line fields k reads fit = ap (λ r. hears c line (id_in r)) reads ∙ hears_at c line fields.id k fit
 
 -- those that are left are no more than there were

@@ -35,7 +35,8 @@ stays now p e = ap (λ b. record p { given_up = b }) (flag (nat_le p.deadline no
   flag false false e = refl
 
 -- what waits once the one at place k is given up
-given_up_in : (now k : ℕ) (ws : List Pending) (p : Pending) → slice_get ws k ≡ Some p → given_up_at k (partly now k ws) ≡ map (expired now) (take k ws) ++ record p { given_up = true } ∷ drop (suc k) ws
+given_up_in : (now k : ℕ) (ws : List Pending) (p : Pending) → slice_get ws k ≡ Some p
+    → given_up_at k (partly now k ws) ≡ map (expired now) (take k ws) ++ record p { given_up = true } ∷ drop (suc k) ws
 given_up_in now k [] p e = cc
 given_up_in now zero (w ∷ ws) p e = let same : w ≡ p = cc in ap (λ (x : Pending). record x { given_up = true } ∷ ws) same
 given_up_in now (suc k) (w ∷ ws) p e = ap (λ qs. expired now w ∷ qs) (given_up_in now k ws p e)

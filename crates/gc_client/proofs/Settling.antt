@@ -30,7 +30,8 @@ take_set (y ∷ xs) zero x lt = refl
 take_set (y ∷ xs) (suc k) x lt = ap (λ zs. y ∷ zs) (take_set xs k x (omega arith))
 
 -- settlements whose first k are the rule's, and the one at place k is written
-pub one_written : (ss : List Settlement) (k : ℕ) (rs : List Rule.Settlement) (s : Settlement) (r : Rule.Settlement) → k < length ss → AreSettlements (take k ss) rs → IsSettlement s r → AreSettlements (take (k + 1) (set ss k s)) (rs ++ r ∷ [])
+pub one_written : (ss : List Settlement) (k : ℕ) (rs : List Rule.Settlement) (s : Settlement) (r : Rule.Settlement) → k < length ss
+    → AreSettlements (take k ss) rs → IsSettlement s r → AreSettlements (take (k + 1) (set ss k s)) (rs ++ r ∷ [])
 one_written ss k rs s r lt are is =
     let n : suc k ≡ k + 1 = omega arith in
     subst (λ xs. AreSettlements xs (rs ++ r ∷ [])) (sym (take_set ss k s lt) ∙ ap (λ m. take m (set ss k s)) n) (one_more (take k ss) rs s r are is)

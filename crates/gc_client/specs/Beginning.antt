@@ -28,12 +28,12 @@ is_answered [] id = false
 is_answered (asked ∷ rest) None = false
 is_answered (asked ∷ rest) (Some id) = nat_eq id asked
 
--- what isn't answered behind one that answers, or doesn't
-abbrev pub next_if : Bool → ℕ → List ℕ → List ℕ
-next_if true asked rest = rest
-next_if false asked rest = asked ∷ rest
+-- the ids that aren't answered yet, of this one and those behind it: without this one, where it was answered, and else all
+abbrev pub left_by_one : Bool → ℕ → List ℕ → List ℕ
+left_by_one true asked rest = rest
+left_by_one false asked rest = asked ∷ rest
 
 -- what isn't answered behind a line that is heard with this id, or with none: every line that doesn't answer is dropped
 abbrev pub left_by : List ℕ → Option ℕ → List ℕ
 left_by [] id = []
-left_by (asked ∷ rest) id = next_if (is_answered (asked ∷ rest) id) asked rest
+left_by (asked ∷ rest) id = left_by_one (is_answered (asked ∷ rest) id) asked rest

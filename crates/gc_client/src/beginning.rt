@@ -23,9 +23,9 @@ pub const WORD: [u8; 8] = [6, 5, 4, 3, 2, 1, 0, 7];
 /// 4. Where `hear` answered, go on at 2 with the next null procedure. Once `has_begun`, make the client and send: its first
 ///    id is 0.
 ///
-/// The line has to keep its lines in order; it may lose, delay or repeat any of them in place. Unless the ids of all that is
-/// under way, replies and then requests, have the ids of [`WORD`] among them in this order, nothing from before is under way
-/// once it has begun.
+/// The connection has to keep its lines in order; it may lose, delay or repeat any of them in place. Nothing from before is under way
+/// once it has begun, unless [`WORD`] is a subsequence of the ids that were under way at the start: those of the replies, and behind
+/// them those of the requests.
 #[derive(Drop)]
 pub struct Beginning {
     answered: usize,

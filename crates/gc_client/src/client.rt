@@ -340,7 +340,7 @@ impl<W: Window> Client<W> {
         settled
     }
 
-    // The reply that a line is and the place of its request; or a stray, or no reply.
+    // The place of the request that a line replies to, and the reply. `Err`: the line is a stray, or no reply.
     #[inline]
     fn aim<'a>(&self, line: &'a [u8]) -> Result<(usize, Reply<'a>), Hearing>
         ensures reads { IfOk result (λ aim. reply_at line.now ≡ Ok (reply_seen aim.1)) }

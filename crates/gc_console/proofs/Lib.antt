@@ -1,5 +1,6 @@
 mod Measured
-mod Linkless
 mod Played
 mod Started
+mod Unbegun
+mod Unseen
 mod Wants

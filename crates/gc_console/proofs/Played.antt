@@ -1,7 +1,7 @@
 -- Status 0 is told only of a schedule that was played.
-use Rattle.std.proofs.Common.{◌≡◌, ℕ, Bool, List, Option, Result, Ok, Err, arith}
+use Rattle.std.proofs.Common.{◌≡◌, ℕ, Bool, true, List, Option, Result, Ok, Err, refl, arith}
 use Rattle.std.specs.Io.KnownBytes.{Appends}
-use Rattle.gc_engines.specs.Drill.{drill_text_on, DrillsOn}
+use Rattle.gc_engines.specs.Drill.{drill_text_on, DrillsOn, is_read_whole}
 use Rattle.gc_engines.specs.Schedule.{IsSchedule}
 use Rattle.gc_instrument.specs.State.{State}
 use Rattle.gc_texts.specs.Faults.{run_fault_text, Tells}
@@ -13,3 +13,9 @@ pub played_at_0 : (start : State) (width : ℕ) (given : List ℕ) (totals : Boo
     → (events : List Event) × IsSchedule given events × Appends old new (drill_text_on start width events totals)
 played_at_0 start width given totals old new (Ok x) status told messages drills tells zero = drills.1
 played_at_0 start width given totals old new (Err fault) status told messages drills tells zero = absurd (omega (arith, tells.0, zero))
+
+-- and it was read whole
+pub read_at_0 : (end : Result (Unit {0}) RunFault) (status : ℕ) (told messages : Option (List ℕ))
+    → Tells run_fault_text end status told messages → status ≡ 0 → is_read_whole end ≡ true
+read_at_0 (Ok x) status told messages tells zero = refl
+read_at_0 (Err fault) status told messages tells zero = absurd (omega (arith, tells.0, zero))

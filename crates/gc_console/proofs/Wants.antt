@@ -2,13 +2,13 @@
 use Rattle.std.proofs.Common.{◌≡◌, false, ◌&&◌, List, [], ◌∷◌, Option, Some, None, refl, ap, ◌∙◌}
 use Rattle.std.specs.Prelude.{not, if◌then◌else◌}
 use Rattle.gc_links.specs.declared.link.Moment.{Moment}
-use Rattle.gc_station.specs.declared.book.Sight.{Sight}
-use Rattle.gc_station.specs.declared.book.Sight.TheVariants.{Fine, Idle, Unconnected, Unquiet, Unheard}
+use Rattle.gc_station.specs.declared.book.LinkHealth.{LinkHealth}
+use Rattle.gc_station.specs.declared.book.LinkHealth.TheVariants.{Fine, Idle, Unconnected, Unquiet, Unheard}
 use Rattle.gc_console.specs.Wanted.{behind_look, wanted_from, WantCountsOverConnections}
 use Rattle.gc_console.specs.declared.wanted.Wanted.{Wanted}
 
 -- a look is no answer
-still_unheard : (sight : Sight) (moment : Moment) (w : Wanted) → w.heard ≡ false → (behind_look sight moment w).heard ≡ false
+still_unheard : (health : LinkHealth) (moment : Moment) (w : Wanted) → w.heard ≡ false → (behind_look health moment w).heard ≡ false
 still_unheard Fine moment w unheard = unheard
 still_unheard Idle moment w unheard = refl
 still_unheard Unconnected moment w unheard = unheard
@@ -16,7 +16,7 @@ still_unheard Unquiet moment w unheard = unheard
 still_unheard Unheard moment w unheard = unheard
 
 -- and behind no answer it leaves the moment
-still_since : (sight : Sight) (moment since : Moment) (w : Wanted) → w.heard ≡ false → w.since ≡ Some since → (behind_look sight moment w).since ≡ Some since
+still_since : (health : LinkHealth) (moment since : Moment) (w : Wanted) → w.heard ≡ false → w.since ≡ Some since → (behind_look health moment w).since ≡ Some since
 still_since Fine moment since w unheard is = is
 still_since Idle moment since w unheard is = ap (λ heard. if heard && not w.told then None else w.since) unheard ∙ is
 still_since Unconnected moment since w unheard is = ap (λ from. wanted_from from moment) is
@@ -27,4 +27,4 @@ still_since Unheard moment since w unheard is = ap (λ from. wanted_from from mo
 pub want_stays : WantCountsOverConnections
 want_stays [] since w unheard is = is
 want_stays (look ∷ later) since w unheard is =
-    want_stays later since (behind_look look.sight look.moment w) (still_unheard look.sight look.moment w unheard) (still_since look.sight look.moment since w unheard is)
+    want_stays later since (behind_look look.health look.moment w) (still_unheard look.health look.moment w unheard) (still_since look.health look.moment since w unheard is)

@@ -1,9 +1,13 @@
 pub mod Choices
+pub mod Drills
 pub mod Logging
 pub mod Measuring
 pub mod Recording
 pub mod Refusals
+pub mod Scenes
+pub mod Serves
 pub mod Stops
 pub mod Streams
 pub mod TaskTexts
+pub mod Telling
 pub mod Wanted

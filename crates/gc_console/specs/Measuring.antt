@@ -7,7 +7,7 @@ use Rattle.gc_catalogue.specs.declared.answer.Reading.{Reading}
 use Rattle.gc_catalogue.specs.declared.call.Call.{Call}
 use Rattle.gc_console.specs.Choices.{plan_of}
 use Rattle.gc_console.specs.Stops.{stop_text, end_of_run}
-use Rattle.gc_console.specs.TaskTexts.{GivesTasks, RefusesTasks}
+use Rattle.gc_console.specs.TaskTexts.{Gave, GivesTasks, RefusesTasks}
 use Rattle.gc_console.specs.declared.layout.Layout.{Layout}
 use Rattle.gc_console.specs.declared.station.Station.{Station}
 use Rattle.gc_console.specs.declared.stop.Stop.{Stop}
@@ -20,18 +20,18 @@ use Rattle.gc_station.specs.Scopes.{AreReadings}
 use Rattle.gc_station.specs.declared.plan.Plan.{Plan}
 use Rattle.gc_station.specs.declared.tally.Tally.{Tally}
 use Rattle.gc_texts.specs.Names.{name_text}
-use Rattle.gc_texts.specs.Records.{record_text, head_text}
+use Rattle.gc_rows.specs.Records.{record_text, head_text}
 use Rattle.gc_texts.specs.declared.fault.RunFault.{RunFault}
 use Rattle.gc_texts.specs.declared.fault.RunFault.TheVariants.{Output}
 use Rattle.gc_texts.specs.declared.name.Name.{Name}
-use Rattle.gc_texts.specs.declared.record.Form.{Form}
-use Rattle.gc_texts.specs.declared.record.Form.TheVariants.{Lines, Csv, Columns, Json}
+use Rattle.gc_rows.specs.declared.record.Form.{Form}
+use Rattle.gc_rows.specs.declared.record.Form.TheVariants.{Lines, Csv, Columns, Json}
 use Rattle.gc_texts.specs.declared.tasks.Task.{Task}
-use Rattle.gc_texts.specs.declared.when.When.{When}
+use Rattle.gc_rows.specs.declared.when.When.{When}
 
 -- the moments of a record of a run that began then
 abbrev pub when_of : ℕ → Record → When
-when_of run r = record { run = run; sent = r.sent; utc = r.utc; cycle = r.cycle; place = r.place }
+when_of run r = record { run = run; stamp = record { sent = r.sent; utc = r.utc; cycle = r.cycle; place = r.place } }
 
 -- the text of a record in a layout, where targets have these names
 abbrev pub text_in : Layout → List Name → Record → List ℕ
@@ -72,7 +72,7 @@ pub record FailsInFront (layout : Layout) (old new : Places) (result : Result Ta
   pub acts : new.acts ≡ old.acts
   pub messages : new.messages ≡ old.messages
 
--- what a run measures: these tasks, by this plan, in at most so many acts, with its records in this layout, where targets have these names
+-- what a run measures: tasks, by a plan, in at most this number of acts (turns), with its records in a layout, and the names of targets
 pub record Course : Type 0 where
   pub plan : Plan
   pub tasks : List Task
@@ -85,15 +85,18 @@ abbrev pub course_of : Station → ℕ → List Task → List Name → Course
 course_of station turns tasks names =
     record { plan = plan_of station.choice tasks; tasks = tasks; turns = turns; layout = station.layout; names = names }
 
--- the sink took what stands in front of the records, and then what a run over the link writes down of its tasks, for whatever function
--- says what each reply says of its call
+-- a run over a link wrote down what its acts say of these tasks, for whatever function says what each reply says of its call
+abbrev pub RunsCourse : Course → Option (List Act) → Option (List Act) → Option (List ℕ) → Option (List ℕ) → Result Tally RunFault → Type 0
+RunsCourse course acts acts' taken taken' end = (reads : Call → List ℕ → Reading) → AreReadings reads
+    → Ran course.plan course.tasks (record { turns = course.turns; reads = reads }) (text_in course.layout course.names) acts acts' taken taken' end
+
+-- the sink took what stands in front of the records, and then what a run over the link writes down of its tasks
 pub record RunsBehind (course : Course) (old new : Places) (result : Result Tally Stop) : Type 0 where
   pub between : Option (List ℕ)
   pub front : Appends old.taken between (front_text course.layout)
   pub end : Result Tally RunFault
   pub is : result ≡ end_of_run end
-  pub ran : (reads : Call → List ℕ → Reading) → AreReadings reads
-      → Ran course.plan course.tasks (record { turns = course.turns; reads = reads }) (text_in course.layout course.names) old.acts new.acts between new.taken end
+  pub ran : RunsCourse course old.acts new.acts between new.taken end
 
 -- nothing was done over the link, and nothing written
 pub record IsUnused (old new : Places) : Type 0 where
@@ -108,6 +111,15 @@ Measures given station turns old new result =
     ⊎ ((tasks : List Task) × (names : List Name) × GivesTasks given old.input new.input station.choice tasks names
     × (FailsInFront station.layout old new result ⊎ RunsBehind (course_of station turns tasks names) old new result))
 
+-- what a source gave was measured, in at most this number of acts
+abbrev pub MeasuresText : Station → ℕ → Places → Places → Result Tally Stop → Type 0
+MeasuresText station turns old new result = (given : List ℕ) × Gave given old.input new.input × Measures given station turns old new result
+
+-- what a source gave was measured, in at most as many acts as a u64 counts
+abbrev pub MeasuresGiven : Station → Places → Places → Result Tally Stop → Type 0
+MeasuresGiven station old new result =
+    (given : List ℕ) × Consumes old.input.remaining new.input.remaining given × Measures given station 18446744073709551615 old new result
+
 -- a source gave a text to its end, and the run over its tasks is done
 abbrev pub IsMeasured : Station → Places → Places → Type 0
 IsMeasured station old new = (given : List ℕ) × Consumes old.input.remaining new.input.remaining given
@@ -117,8 +129,7 @@ IsMeasured station old new = (given : List ℕ) × Consumes old.input.remaining 
 
 -- what a source gave was measured, by a run that began at some moment
 abbrev pub MeasuresBegun : Station → Places → Places → Result Tally Stop → Type 0
-MeasuresBegun station old new result = (run : ℕ) × (given : List ℕ) × Consumes old.input.remaining new.input.remaining given
-    × Measures given (begun_at run station) 18446744073709551615 old new result
+MeasuresBegun station old new result = (run : ℕ) × MeasuresGiven (begun_at run station) old new result
 
 -- where the text was refused nothing was done over the link, and nothing written
 abbrev pub IsUntouched : Places → Places → Result Tally Stop → Type 0
@@ -129,9 +140,9 @@ IsUntouched old new _ = Unit {0}
 
 -- all records last, but where the text was refused or the sink failed
 abbrev pub AllLast : Bool → Result Tally Stop → Type 0
-AllLast lasts (Ok _) = lasts ≡ true
-AllLast lasts (Err (Run fault)) = LastsBut {X = Tally} lasts (Err fault)
-AllLast lasts (Err _) = Unit {0}
+AllLast is_durable (Ok _) = is_durable ≡ true
+AllLast is_durable (Err (Run fault)) = LastsBut {X = Tally} is_durable (Err fault)
+AllLast is_durable (Err _) = Unit {0}
 
 -- the line of a cycle that was not done when the next was due
 abbrev pub overrun_line : ℕ → List ℕ

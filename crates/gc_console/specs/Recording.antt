@@ -18,13 +18,14 @@ fault_of_unfit Failed = Output
 abbrev pub rotation_line : Unfit → List ℕ
 rotation_line Unopened = []
 rotation_line Held = []
-rotation_line Foreign = codes "geocom: the file does not begin as this station's rows do: it has other columns, or a rotation cut off its header (copytruncate). To rotate it, stop the station, rename the file, and start it\n"
+rotation_line Foreign =
+    codes "geocom: the file does not begin as this station's rows do: it has other columns, or a rotation cut off its header (copytruncate). To rotate it, stop the station, rename the file, and start it\n"
 rotation_line Failed = []
 
 -- all that is told of a path that can't be had as a file of records
 abbrev pub unfit_text : Unfit → List ℕ
 unfit_text why = fault_line (run_fault_text (fault_of_unfit why)) ++ rotation_line why
 
--- what is told of so many bytes of a torn row that were cut off: nothing where there were none
+-- what is told of a torn row that was cut off, by its number of bytes: nothing where there were none
 abbrev pub torn_line : ℕ → List ℕ
 torn_line torn = if torn == 0 then [] else codes "geocom: " ++ decimal torn ++ codes " bytes of a torn row were cut off\n"

@@ -39,6 +39,6 @@ abbrev pub fault_without_link : Option Unusable → RunFault
 fault_without_link (Some unusable) = fault_of_reason (Some unusable)
 fault_without_link None = Clock
 
--- a station has no link: for some reason a device can't be used, or the clock can't be read
-abbrev pub IsLinkless : {X : Type 0} → Result X Stop → Type 0
-IsLinkless end = (reason : Option Unusable) × (end ≡ Err (Run (fault_without_link reason)))
+-- this is the fault where there is no link, for some reason
+abbrev pub IsWithoutLink : RunFault → Type 0
+IsWithoutLink fault = (reason : Option Unusable) × (fault ≡ fault_without_link reason)

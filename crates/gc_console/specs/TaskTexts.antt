@@ -1,10 +1,12 @@
 -- A station's text that is read whole: this project's own.
-use Rattle.std.specs.Prelude.{◌≡◌, ℕ, ◌<◌, ◌⊎◌, Bool, List, [], length}
+use Rattle.std.specs.Prelude.{◌≡◌, ℕ, ◌+◌, ◌<◌, ◌≤◌, ◌⊎◌, Bool, List, [], length}
+use Rattle.std.specs.Io.KnownBytes.{Consumes}
 use Rattle.gc_console.specs.declared.choice.Choice.{Choice}
 use Rattle.gc_console.specs.declared.stop.Stop.{Stop}
 use Rattle.gc_console.specs.declared.stop.Stop.TheVariants.{Text, Empty, Line}
 use Rattle.gc_texts.specs.LineForms.{line_at}
 use Rattle.gc_texts.specs.Tasks.{IsTasks, TaskFault}
+use Rattle.gc_texts.specs.Texts.{end_reads}
 use Rattle.gc_texts.specs.Troubles.{IsTrouble}
 use Rattle.gc_texts.specs.WholeTexts.{Input, WasRead, RefusesText}
 use Rattle.gc_texts.specs.declared.fault.RunFault.{RunFault}
@@ -12,6 +14,10 @@ use Rattle.gc_texts.specs.declared.fault.RunFault.TheVariants.{Schedule}
 use Rattle.gc_texts.specs.declared.name.Name.{Name}
 use Rattle.gc_texts.specs.declared.tasks.Task.{Task}
 use Rattle.gc_texts.specs.declared.trouble.Trouble.{Trouble}
+
+-- a source gave these bytes, by at most one read for each, and one for the end
+abbrev pub Gave : List ℕ → Input → Input → Type 0
+Gave given old new = Consumes old.remaining new.remaining given × (new.reads ≤ old.reads + length given + end_reads new.ended)
 
 -- why a text that has this fault is refused: of a faulty line the trouble is told
 abbrev pub IsRefusal : List ℕ → RunFault → Stop → Type 0

@@ -98,7 +98,8 @@ fn positional_of<'a>(alloc: Global, row: &Argument<'a>) -> Arg<'a> {
         .help(row.help)
 }
 
-// An argument with two hyphens in front. Nothing branches on it, which would cost its proof more: an empty list adds nothing.
+// An argument with two hyphens in front. There is no branch, since a branch on a live builder makes its proof dear: an empty list adds
+// nothing.
 fn option_of<'a>(alloc: Global, row: &Argument<'a>) -> Result<Arg<'a>, AllocError> {
     Arg::new(alloc, row.name)
         .long(row.name)

@@ -23,10 +23,10 @@ use std::time::Clock;
 const ARGUMENTS: &[Argument<'static>] = &[PLACE];
 
 /// The words of `ask`.
-pub(crate) fn ask_command<'a>(alloc: Global) -> Result<Command<'a>, AllocError> {
+pub(crate) fn ask_command<'a>(alloc: Global, name: &'a str) -> Result<Command<'a>, AllocError> {
     command_of(
         alloc,
-        "ask",
+        name,
         "Asks the commands of standard input at a place",
         COMMANDS,
         ARGUMENTS,

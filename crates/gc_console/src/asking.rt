@@ -5,15 +5,16 @@ ghost use Rattle.std.specs.Process.{exit_status};
 ghost use Rattle.gc_console.specs.Streams.{are_open, TellsClosed};
 
 use crate::ask::ask_place;
+use crate::logging::LogPlace;
 use crate::looped::loop_port;
 use crate::lossy::Lossy;
 use crate::noting::Noting;
 use crate::oddity::{Noticed, Spot};
-use crate::recording::{Recording, append_at, measure_at};
+use crate::recording::{Recording, append_at};
 use crate::standard::Standard;
-use crate::station::{Site, Station};
+use crate::station::{Site, Station, measure_at};
 use crate::streams::Streams;
-use gc_lines::{Lasting, Source};
+use gc_lines::{Durable, Source};
 use gc_links::Place;
 use std::alloc::Global;
 use std::cell::Cell;
@@ -46,7 +47,7 @@ pub(crate) enum Asking<'a> {
 pub(crate) fn run_asking<
     R: Net<Listener = TcpListener, Stream = TcpStream> + Clock + Files<File = File>,
     S: Source,
-    K: Lasting + Drop,
+    K: Durable + Drop,
     E: Write,
 >(
     rt: &Noting<'_, R>,
@@ -64,29 +65,27 @@ pub(crate) fn run_asking<
         let ended = standard.refuse(&mut streams.messages);
         return (streams, ended);
     }
+    run_open(rt, alloc, standard, asking, streams)
+}
+
+// Asks over streams that are open, and tells how it ended. The streams are handed back.
+fn run_open<
+    R: Net<Listener = TcpListener, Stream = TcpStream> + Clock + Files<File = File>,
+    S: Source,
+    K: Durable + Drop,
+    E: Write,
+>(
+    rt: &Noting<'_, R>,
+    alloc: Global,
+    standard: Standard,
+    asking: Asking<'_>,
+    streams: Streams<S, K, E>,
+) -> (Streams<S, K, E>, io::Result<ExitCode>)
+    ensures { IfOk result.1 (λ status. exit_status status ≤ 1) }
+{
     match asking {
-        Asking::Loop { scene } => {
-            let ended = loop_port(
-                rt,
-                alloc,
-                scene,
-                &mut streams.input,
-                &mut streams.output,
-                &mut streams.messages,
-            );
-            (streams, ended)
-        }
-        Asking::Ask { place } => {
-            let ended = ask_place(
-                rt,
-                alloc,
-                place,
-                &mut streams.input,
-                &mut streams.output,
-                &mut streams.messages,
-            );
-            (streams, ended)
-        }
+        Asking::Loop { scene } => run_loop(rt, alloc, scene, streams),
+        Asking::Ask { place } => run_ask(rt, alloc, place, streams),
         Asking::Station {
             site,
             station,
@@ -98,12 +97,62 @@ pub(crate) fn run_asking<
     }
 }
 
+// Asks a simulator of its own. The streams are handed back.
+fn run_loop<
+    R: Net<Listener = TcpListener, Stream = TcpStream> + Files,
+    S: Source,
+    K: Durable + Drop,
+    E: Write,
+>(
+    rt: &Noting<'_, R>,
+    alloc: Global,
+    scene: Option<&str>,
+    mut streams: Streams<S, K, E>,
+) -> (Streams<S, K, E>, io::Result<ExitCode>)
+    ensures { IfOk result.1 (λ status. exit_status status ≤ 1) }
+{
+    let ended = loop_port(
+        rt,
+        alloc,
+        scene,
+        &mut streams.input,
+        &mut streams.output,
+        &mut streams.messages,
+    );
+    (streams, ended)
+}
+
+// Asks at a place. The streams are handed back.
+fn run_ask<
+    R: Net<Listener = TcpListener, Stream = TcpStream> + Clock + Files<File = File>,
+    S: Source,
+    K: Durable + Drop,
+    E: Write,
+>(
+    rt: &Noting<'_, R>,
+    alloc: Global,
+    place: Place<'_>,
+    mut streams: Streams<S, K, E>,
+) -> (Streams<S, K, E>, io::Result<ExitCode>)
+    ensures { IfOk result.1 (λ status. exit_status status ≤ 1) }
+{
+    let ended = ask_place(
+        rt,
+        alloc,
+        place,
+        &mut streams.input,
+        &mut streams.output,
+        &mut streams.messages,
+    );
+    (streams, ended)
+}
+
 // Measures at a site, and tells how it ended. Where a message can't be written it is lost, and the status stays. The streams are
 // handed back.
 fn measure_site<
     R: Net<Listener = TcpListener, Stream = TcpStream> + Clock + Files<File = File>,
     S: Source,
-    K: Lasting + Drop,
+    K: Durable + Drop,
     E: Write,
 >(
     rt: &Noting<'_, R>,
@@ -120,33 +169,62 @@ fn measure_site<
         place: site.place,
         noticed: &noticed,
     };
+    let lossy = lossy_of(streams);
+    let (mut lossy, ended) = measure_recorded(rt, alloc, spot, site.log, station, recording, lossy);
+    let _ = spot.tell(&mut lossy.messages);
+    if !spot.is_unreached() {
+        rt.forget();
+    }
+    (lossless_of(lossy), ended)
+}
+
+// Measures at a site, with the records in a file where one is named. The streams are handed back.
+fn measure_recorded<
+    R: Net<Listener = TcpListener, Stream = TcpStream> + Clock + Files<File = File>,
+    S: Source,
+    K: Durable + Drop,
+    E: Write,
+>(
+    rt: &R,
+    alloc: Global,
+    spot: Spot<'_>,
+    log: Option<LogPlace<'_>>,
+    station: Station,
+    recording: Option<Recording<'_>>,
+    streams: Streams<S, K, E>,
+) -> (Streams<S, K, E>, io::Result<ExitCode>)
+    ensures { IfOk result.1 (λ status. exit_status status ≤ 1) }
+{
+    match recording {
+        None => measure_at(rt, alloc, spot, log, station, streams),
+        Some(recording) => append_at(rt, alloc, spot, log, station, recording, streams),
+    }
+}
+
+// Streams with messages that may be lost.
+fn lossy_of<S, K, E>(streams: Streams<S, K, E>) -> Streams<S, K, Lossy<E>> {
     let Streams {
         input,
         output,
         messages,
     } = streams;
-    let lossy = Streams {
+    Streams {
         input,
         output,
         messages: Lossy { inner: messages },
-    };
-    let (lossy, ended) = match recording {
-        None => measure_at(rt, alloc, spot, site.log, station, lossy),
-        Some(recording) => append_at(rt, alloc, spot, site.log, station, recording, lossy),
-    };
+    }
+}
+
+// The same streams, as they were.
+fn lossless_of<S, K, E>(lossy: Streams<S, K, Lossy<E>>) -> Streams<S, K, E> {
     let Streams {
         input,
         output,
-        mut messages,
+        messages,
     } = lossy;
-    let _ = spot.tell(&mut messages);
-    if !spot.is_unreached() {
-        rt.forget();
-    }
-    let streams = Streams {
+    Streams {
         input,
         output,
         messages: messages.inner,
-    };
-    (streams, ended)
+    }
 }

@@ -1,15 +1,11 @@
 //! `geocom drill`: its words, and a schedule of standard input that is played on an instrument.
 
-ghost use Rattle.std.specs.Prelude.{◌≡◌, ℕ, ◌<◌, ◌≤◌, ◌⊎◌, List, None, Result, IfOk, true};
-ghost use Rattle.std.specs.Io.KnownBytes.{Consumes, Appends, IsAtEnd};
+ghost use Rattle.std.specs.Prelude.{◌≡◌, ◌≤◌, IfOk};
 ghost use Rattle.std.specs.Process.{exit_status};
-ghost use Rattle.gc_instrument.specs.State.{State, simulator_opening};
-ghost use Rattle.gc_world.specs.declared.event.Event.{Event};
-ghost use Rattle.gc_texts.specs.declared.fault.RunFault.{RunFault};
-ghost use Rattle.gc_texts.specs.Faults.{run_fault_text, fault_line, Tells};
-ghost use Rattle.gc_console.specs.Refusals.{range_line};
-ghost use Rattle.gc_engines.specs.Schedule.{IsSchedule};
-ghost use Rattle.gc_engines.specs.Drill.{drill_text_on, DrillsOn, source_failed, sink_failed};
+ghost use Rattle.gc_console.specs.Drills.{TellsSchedule, TellsWithin, TellsDrill, PlaysWhole, AreReadWhole};
+ghost use Rattle.gc_console.specs.Scenes.{IsOfScene};
+ghost use Rattle.gc_instrument.specs.State.{State};
+ghost use Rattle.gc_lines.specs.Answering.{ports_of};
 
 use crate::arguments::{Argument, FLAG, SCENE, Takes, command_of};
 use crate::ending::{end_of, refuse_numbers};
@@ -53,10 +49,10 @@ const ARGUMENTS: &[Argument<'static>] = &[
 ];
 
 /// The words of `drill`.
-pub(crate) fn drill_command<'a>(alloc: Global) -> Result<Command<'a>, AllocError> {
+pub(crate) fn drill_command<'a>(alloc: Global, name: &'a str) -> Result<Command<'a>, AllocError> {
     command_of(
         alloc,
-        "drill",
+        name,
         "Plays the schedule of standard input, and writes a line for each settlement",
         EVENTS,
         ARGUMENTS,
@@ -83,28 +79,23 @@ pub(crate) fn drill_scene<R: Files, S: Source, K: Sink, E: Write>(
 ) -> io::Result<ExitCode>
     // Either the scene was refused, which is told, and nothing was read or written; or the width was; or what became of the schedule
     // on the instrument, which is the simulator where no scene is named.
-    ensures told { IfOk result (λ status.
-        ((fault : RunFault) × (exit_status status ≡ 1) × Appends (E.contents messages.old) (E.contents messages.new) (fault_line (run_fault_text fault))
-        × (S.remaining source.new ≡ S.remaining source.old) × (K.taken sink.new ≡ K.taken sink.old) × (drilling.entry.scene ≡ None → ⊥))
-        ⊎ (((exit_status status ≡ 2) × Appends (E.contents messages.old) (E.contents messages.new) range_line
-        × (S.remaining source.new ≡ S.remaining source.old) × (K.taken sink.new ≡ K.taken sink.old))
-        ⊎ ((start : State) × (drilling.entry.scene ≡ None → start ≡ simulator_opening) × (end : Result (Unit {0}) RunFault)
-        × ((given : List ℕ) × Consumes (S.remaining source.old) (S.remaining source.new) given × DrillsOn start drilling.entry.width given drilling.entry.totals (K.taken sink.old) (K.taken sink.new) end)
-        × (S.failed source.new ≡ source_failed end (S.failed source.old))
-        × (K.failed sink.new ≡ sink_failed end (K.failed sink.old))
-        × Tells run_fault_text end (exit_status status) (E.contents messages.old) (E.contents messages.new)))) }
+    ensures told { IfOk result (λ status. TellsDrill drilling.entry
+        (ports_of S.Source source.old K.Sink sink.old)
+        (ports_of S.Source source.new K.Sink sink.new)
+        (exit_status status) (E.contents messages.old) (E.contents messages.new)) }
 
     // A width from 1 to 7 isn't refused.
     ensures width { 1 ≤ drilling.entry.width → drilling.entry.width ≤ WINDOW → IfOk result (λ status. exit_status status ≤ 1) }
 
     // Status 0 only where the sink took the output of the text's events, on the simulator where no scene is named.
-    ensures done { IfOk result (λ status. exit_status status ≡ 0 → (start : State) × (drilling.entry.scene ≡ None → start ≡ simulator_opening)
-        × ((given : List ℕ) × Consumes (S.remaining source.old) (S.remaining source.new) given
-        × ((events : List Event) × IsSchedule given events × Appends (K.taken sink.old) (K.taken sink.new) (drill_text_on start drilling.entry.width events drilling.entry.totals)))) }
+    ensures done { IfOk result (λ status. exit_status status ≡ 0 → (start : State) × IsOfScene drilling.entry.scene start × PlaysWhole start drilling.entry
+        (ports_of S.Source source.old K.Sink sink.old)
+        (ports_of S.Source source.new K.Sink sink.new)) }
 
     // Status 0 only where the last read was the end, and the source has no byte left.
-    ensures whole { IfOk result (λ status. exit_status status ≡ 0
-        → IsAtEnd (S.remaining source.new) × (S.ended source.new ≡ true) × (S.reads source.old < S.reads source.new)) }
+    ensures whole { IfOk result (λ status. exit_status status ≡ 0 → AreReadWhole
+        (ports_of S.Source source.old K.Sink sink.old)
+        (ports_of S.Source source.new K.Sink sink.new)) }
     ensures bound { IfOk result (λ status. exit_status status ≤ 2) }
 {
     match instrument_of(rt, alloc, drilling.scene) {
@@ -123,25 +114,23 @@ fn drill_within<S: Source, K: Sink, E: Write>(
     messages: &mut E,
 ) -> io::Result<ExitCode>
     // Either status 2 behind a refused number's line, and nothing was read or written; or what became of the schedule.
-    ensures told { IfOk result (λ status.
-        ((exit_status status ≡ 2) × Appends (E.contents messages.old) (E.contents messages.new) range_line
-        × (S.remaining source.new ≡ S.remaining source.old) × (K.taken sink.new ≡ K.taken sink.old))
-        ⊎ ((end : Result (Unit {0}) RunFault)
-        × ((given : List ℕ) × Consumes (S.remaining source.old) (S.remaining source.new) given × DrillsOn instrument drilling.entry.width given drilling.entry.totals (K.taken sink.old) (K.taken sink.new) end)
-        × (S.failed source.new ≡ source_failed end (S.failed source.old))
-        × (K.failed sink.new ≡ sink_failed end (K.failed sink.old))
-        × Tells run_fault_text end (exit_status status) (E.contents messages.old) (E.contents messages.new))) }
+    ensures told { IfOk result (λ status. TellsWithin instrument drilling.entry
+        (ports_of S.Source source.old K.Sink sink.old)
+        (ports_of S.Source source.new K.Sink sink.new)
+        (exit_status status) (E.contents messages.old) (E.contents messages.new)) }
 
     // A width from 1 to 7 isn't refused.
     ensures width { 1 ≤ drilling.entry.width → drilling.entry.width ≤ WINDOW → IfOk result (λ status. exit_status status ≤ 1) }
 
     // Status 0 only where the sink took the output of the text's events.
-    ensures done { IfOk result (λ status. exit_status status ≡ 0 → (given : List ℕ) × Consumes (S.remaining source.old) (S.remaining source.new) given
-        × ((events : List Event) × IsSchedule given events × Appends (K.taken sink.old) (K.taken sink.new) (drill_text_on instrument drilling.entry.width events drilling.entry.totals))) }
+    ensures done { IfOk result (λ status. exit_status status ≡ 0 → PlaysWhole instrument drilling.entry
+        (ports_of S.Source source.old K.Sink sink.old)
+        (ports_of S.Source source.new K.Sink sink.new)) }
 
     // Status 0 only where the last read was the end, and the source has no byte left.
-    ensures whole { IfOk result (λ status. exit_status status ≡ 0
-        → IsAtEnd (S.remaining source.new) × (S.ended source.new ≡ true) × (S.reads source.old < S.reads source.new)) }
+    ensures whole { IfOk result (λ status. exit_status status ≡ 0 → AreReadWhole
+        (ports_of S.Source source.old K.Sink sink.old)
+        (ports_of S.Source source.new K.Sink sink.new)) }
     ensures bound { IfOk result (λ status. exit_status status ≤ 2) }
 {
     if drilling.width == 0 {
@@ -166,19 +155,20 @@ fn drill<S: Source, K: Sink, E: Write>(
     requires most { drilling.width ≤ WINDOW }
 
     // What became of the schedule, and that the messages and the status tell it.
-    ensures told { IfOk result (λ status. (end : Result (Unit {0}) RunFault)
-        × ((given : List ℕ) × Consumes (S.remaining source.old) (S.remaining source.new) given × DrillsOn instrument drilling.entry.width given drilling.entry.totals (K.taken sink.old) (K.taken sink.new) end)
-        × (S.failed source.new ≡ source_failed end (S.failed source.old))
-        × (K.failed sink.new ≡ sink_failed end (K.failed sink.old))
-        × Tells run_fault_text end (exit_status status) (E.contents messages.old) (E.contents messages.new)) }
+    ensures told { IfOk result (λ status. TellsSchedule instrument drilling.entry
+        (ports_of S.Source source.old K.Sink sink.old)
+        (ports_of S.Source source.new K.Sink sink.new)
+        (exit_status status) (E.contents messages.old) (E.contents messages.new)) }
 
     // Status 0 only where the sink took the output of the text's events.
-    ensures done { IfOk result (λ status. exit_status status ≡ 0 → (given : List ℕ) × Consumes (S.remaining source.old) (S.remaining source.new) given
-        × ((events : List Event) × IsSchedule given events × Appends (K.taken sink.old) (K.taken sink.new) (drill_text_on instrument drilling.entry.width events drilling.entry.totals))) }
+    ensures done { IfOk result (λ status. exit_status status ≡ 0 → PlaysWhole instrument drilling.entry
+        (ports_of S.Source source.old K.Sink sink.old)
+        (ports_of S.Source source.new K.Sink sink.new)) }
 
     // Status 0 only where the last read was the end, and the source has no byte left.
-    ensures whole { IfOk result (λ status. exit_status status ≡ 0
-        → IsAtEnd (S.remaining source.new) × (S.ended source.new ≡ true) × (S.reads source.old < S.reads source.new)) }
+    ensures whole { IfOk result (λ status. exit_status status ≡ 0 → AreReadWhole
+        (ports_of S.Source source.old K.Sink sink.old)
+        (ports_of S.Source source.new K.Sink sink.new)) }
     ensures bound { IfOk result (λ status. exit_status status ≤ 1) }
 {
     end_of(

@@ -1,15 +1,9 @@
 //! `geocom exec`: its words, and an instrument that answers the requests of standard input on standard output.
 
-ghost use Rattle.std.specs.Prelude.{◌≡◌, ℕ, ◌+◌, ◌<◌, ◌≤◌, ◌↔◌, ◌⊎◌, None, Result, IfOk, true, false};
-ghost use Rattle.std.specs.Io.KnownBytes.{Appends};
+ghost use Rattle.std.specs.Prelude.{◌≡◌, ◌≤◌, None, IfOk, false};
 ghost use Rattle.std.specs.Process.{exit_status};
-ghost use Rattle.gc_lines.specs.Answering.{fault_text, ports_of};
-ghost use Rattle.gc_lines.specs.declared.served.Served.{Served};
-ghost use Rattle.gc_lines.specs.declared.served.ServeFault.{ServeFault};
-ghost use Rattle.gc_instrument.specs.State.{State, simulator_opening};
-ghost use Rattle.gc_instrument.specs.Serving.{IsServing};
-ghost use Rattle.gc_texts.specs.declared.fault.RunFault.{RunFault};
-ghost use Rattle.gc_texts.specs.Faults.{run_fault_text, fault_line, Tells};
+ghost use Rattle.gc_console.specs.Serves.{TellsServing, TellsExec, IsDoneAtEnd, FailsByPorts};
+ghost use Rattle.gc_lines.specs.Answering.{ports_of};
 
 use crate::arguments::{Argument, SCENE, command_of};
 use crate::ending::{end_of, tell_end};
@@ -27,10 +21,10 @@ use std::process::ExitCode;
 const ARGUMENTS: &[Argument<'static>] = &[SCENE];
 
 /// The words of `exec`.
-pub(crate) fn exec_command<'a>(alloc: Global) -> Result<Command<'a>, AllocError> {
+pub(crate) fn exec_command<'a>(alloc: Global, name: &'a str) -> Result<Command<'a>, AllocError> {
     command_of(
         alloc,
-        "exec",
+        name,
         "Answers the requests of standard input on standard output",
         REQUESTS,
         ARGUMENTS,
@@ -48,25 +42,23 @@ pub(crate) fn exec_scene<R: Files, S: Source, K: Sink, E: Write>(
 ) -> io::Result<ExitCode>
     // Either the scene was refused, which is told, and nothing was read or written; or what was served, which is the simulator's
     // where no scene is named.
-    ensures told { IfOk result (λ status.
-        ((fault : RunFault) × (exit_status status ≡ 1) × Appends (E.contents messages.old) (E.contents messages.new) (fault_line (run_fault_text fault))
-        × (S.remaining source.new ≡ S.remaining source.old) × (K.taken sink.new ≡ K.taken sink.old) × (scene.entry ≡ None → ⊥))
-        ⊎ ((start : State) × (scene.entry ≡ None → start ≡ simulator_opening) × (end : Result Served ServeFault)
-        × ((after : State) × IsServing start after
+    ensures told { IfOk result (λ status. TellsExec scene.entry
         (ports_of S.Source source.old K.Sink sink.old)
         (ports_of S.Source source.new K.Sink sink.new)
-        4294967295 end)
-        × Tells fault_text end (exit_status status) (E.contents messages.old) (E.contents messages.new))) }
+        (exit_status status) (E.contents messages.old) (E.contents messages.new)) }
 
     // Status 0 exactly where the last read was the end.
-    ensures done { IfOk result (λ status. (exit_status status ≡ 0)
-        ↔ ((S.reads source.old < S.reads source.new) × (S.ended source.new ≡ true))) }
+    ensures done { IfOk result (λ status. IsDoneAtEnd
+        (ports_of S.Source source.old K.Sink sink.old)
+        (ports_of S.Source source.new K.Sink sink.new)
+        (exit_status status)) }
 
     // Without a scene, status 1 only where a port failed, or all reads that a u32 counts were used up.
     ensures fault { scene.entry ≡ None → S.failed source.old ≡ false → K.failed sink.old ≡ false
-        → IfOk result (λ status. exit_status status ≡ 1
-        → (S.failed source.new ≡ true) ⊎ ((K.failed sink.new ≡ true)
-        ⊎ (S.reads source.new ≡ S.reads source.old + 4294967295))) }
+        → IfOk result (λ status. FailsByPorts
+        (ports_of S.Source source.old K.Sink sink.old)
+        (ports_of S.Source source.new K.Sink sink.new)
+        (exit_status status)) }
     ensures bound { IfOk result (λ status. exit_status status ≤ 1) }
 {
     match instrument_of(rt, alloc, scene) {
@@ -83,22 +75,23 @@ fn exec<S: Source, K: Sink, E: Write>(
     messages: &mut E,
 ) -> io::Result<ExitCode>
     // What was served, why it ended, and that the messages and the status tell it.
-    ensures told { IfOk result (λ status. (end : Result Served ServeFault)
-        × ((after : State) × IsServing instrument after
+    ensures told { IfOk result (λ status. TellsServing instrument
         (ports_of S.Source source.old K.Sink sink.old)
         (ports_of S.Source source.new K.Sink sink.new)
-        4294967295 end)
-        × Tells fault_text end (exit_status status) (E.contents messages.old) (E.contents messages.new)) }
+        (exit_status status) (E.contents messages.old) (E.contents messages.new)) }
 
     // Status 0 exactly where the last read was the end.
-    ensures done { IfOk result (λ status. (exit_status status ≡ 0)
-        ↔ ((S.reads source.old < S.reads source.new) × (S.ended source.new ≡ true))) }
+    ensures done { IfOk result (λ status. IsDoneAtEnd
+        (ports_of S.Source source.old K.Sink sink.old)
+        (ports_of S.Source source.new K.Sink sink.new)
+        (exit_status status)) }
 
     // Status 1 only where a port failed, or all reads that a u32 counts were used up.
     ensures fault { S.failed source.old ≡ false → K.failed sink.old ≡ false
-        → IfOk result (λ status. exit_status status ≡ 1
-        → (S.failed source.new ≡ true) ⊎ ((K.failed sink.new ≡ true)
-        ⊎ (S.reads source.new ≡ S.reads source.old + 4294967295))) }
+        → IfOk result (λ status. FailsByPorts
+        (ports_of S.Source source.old K.Sink sink.old)
+        (ports_of S.Source source.new K.Sink sink.new)
+        (exit_status status)) }
     ensures bound { IfOk result (λ status. exit_status status ≤ 1) }
 {
     tell_end(serve(&mut instrument, source, sink, u32::MAX), messages)

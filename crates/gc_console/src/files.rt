@@ -101,24 +101,23 @@ impl FilesNews {
     pub(crate) fn tell<E: Write>(self, messages: &mut E) -> io::Result<()> {
         self.tell_log(messages)?;
         self.tell_moves(messages)?;
-        if self.is_astray {
-            writeln!(
-                messages,
-                "geocom: the file of rows was moved or deleted, and none can be had at its path: rows still go into the old one"
-            )?;
+        self.tell_astray(messages)
+    }
+
+    // That the rows go into a file that their path doesn't lead to.
+    fn tell_astray<E: Write>(self, messages: &mut E) -> io::Result<()> {
+        if !self.is_astray {
+            return Ok(());
         }
-        Ok(())
+        writeln!(
+            messages,
+            "geocom: the file of rows was moved or deleted, and none can be had at its path: rows still go into the old one"
+        )
     }
 
     // What became of the log.
     fn tell_log<E: Write>(self, messages: &mut E) -> io::Result<()> {
-        let torn = self.now.log_torn;
-        if torn != self.before.log_torn {
-            writeln!(
-                messages,
-                "geocom: {torn} bytes of a torn line of the log were cut off"
-            )?;
-        }
+        self.tell_torn_log(messages)?;
         if self.now.log == self.before.log {
             return Ok(());
         }
@@ -133,6 +132,18 @@ impl FilesNews {
                 "geocom: the log can't be written, and ends here: the station measures on"
             ),
         }
+    }
+
+    // That bytes of a torn line of the log were cut off.
+    fn tell_torn_log<E: Write>(self, messages: &mut E) -> io::Result<()> {
+        let torn = self.now.log_torn;
+        if torn == self.before.log_torn {
+            return Ok(());
+        }
+        writeln!(
+            messages,
+            "geocom: {torn} bytes of a torn line of the log were cut off"
+        )
     }
 
     // That the rows go on in a new file.

@@ -1,12 +1,12 @@
 //! A file of rows that is where its path leads: where it was moved or deleted, rows go on in a new one at that path.
 
 ghost use Rattle.std.specs.Prelude.{◌≡◌, None};
-ghost use Rattle.gc_files.specs.Sinks.{has_failed, lasts};
+ghost use Rattle.gc_files.specs.Sinks.{has_failed, is_durable};
 
 use crate::files::FilesSeen;
 use crate::oddity::Noticed;
 use gc_files::{RowsFile, SystemFile, open_at};
-use gc_lines::{Lasting, PortFailed, Sink};
+use gc_lines::{Durable, PortFailed, Sink};
 use std::cell::Cell;
 use std::fs::File;
 use std::rt::Files;
@@ -64,12 +64,12 @@ impl<'a, R: Files<File = File>> Sink for Followed<'a, R> {
     }
 }
 
-impl<'a, R: Files<File = File>> Lasting for Followed<'a, R> {
-    ghost lasts = { λ f. lasts f.rows };
+impl<'a, R: Files<File = File>> Durable for Followed<'a, R> {
+    ghost is_durable = { λ f. is_durable f.rows };
 
     // What was written is kept in the file that took it, before the rows go on in another.
-    fn keep(&mut self) -> Result<(), PortFailed> {
-        match self.rows.keep() {
+    fn sync(&mut self) -> Result<(), PortFailed> {
+        match self.rows.sync() {
             Ok(()) => {}
             Err(failed) => return Err(failed),
         }
@@ -99,7 +99,7 @@ impl<'a, R: Files<File = File>> Lasting for Followed<'a, R> {
                     ..files
                 });
                 self.rows = rows;
-                match self.rows.keep() {
+                match self.rows.sync() {
                     Ok(()) => Ok(()),
                     Err(failed) => Err(failed),
                 }

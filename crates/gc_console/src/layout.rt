@@ -1,6 +1,6 @@
 //! The layout of records: in which form, whether what stands in front of them stands there already, and of which run they are.
 
-use gc_texts::Form;
+use gc_rows::Form;
 
 /// How records are laid out.
 #[derive(Clone, Copy, Debug, PartialEq, Eq)]

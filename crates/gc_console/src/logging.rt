@@ -1,39 +1,30 @@
 //! The log of a station: what was on its link, written into a file.
 
-ghost use Rattle.std.specs.Prelude.{◌≡◌, ◌≤◌, ◌⊎◌, ℕ, List, [], Bool, Some, None, Result, Ok, Err, IfOk};
-ghost use Rattle.std.specs.Io.KnownBytes.{Consumes};
+ghost use Rattle.std.specs.Prelude.{◌≡◌, ◌≤◌, true, None, IfOk, IfErr};
+ghost use Rattle.std.specs.Option.{is_some};
 ghost use Rattle.std.specs.Process.{exit_status};
-ghost use Rattle.gc_links.specs.Acts.{Act};
-ghost use Rattle.gc_station.specs.Runs.{FailsAtOutput};
-ghost use Rattle.gc_station.specs.declared.tally.Tally.{Tally};
 ghost use Rattle.gc_texts.specs.declared.fault.RunFault.{RunFault};
 ghost use Rattle.gc_console.specs.Logging.{TellsLoss};
-ghost use Rattle.gc_console.specs.Measuring.{begun_at, Measures, MeasuresBegun, IsMeasured, TellsCounts};
+ghost use Rattle.gc_console.specs.Telling.{TellsMeasuring, MeasuresAll};
 ghost use Rattle.gc_logs.specs.Bounds.{has_ended, sink_of};
-ghost use Rattle.gc_console.specs.Stops.{with_fault, IsLinkless};
-ghost use Rattle.gc_texts.specs.WholeTexts.{input_of};
-ghost use Rattle.gc_console.specs.declared.stop.Stop.{Stop};
 
 use crate::arguments::{Argument, FLAG, Takes};
 use crate::files::{FilesSeen, LogSeen};
-use crate::oddity::{Noticed, Noticing, Spot};
-use crate::station::{Station, link_at, measure_over, tell_counts};
-use crate::stop::Stop;
+use crate::oddity::{Noticed, Spot};
+use crate::station::{Station, measure_over};
 use crate::streams::Streams;
 use clap::ArgMatches;
 use gc_files::{Appending, RowsFile, SystemFile, Unfit, open_file, open_rows};
-use gc_lines::{Lasting, PortFailed, Sink, Source};
-use gc_links::{Link, Telling};
+use gc_lines::{Durable, PortFailed, Sink, Source};
+use gc_links::Link;
 use gc_logs::{Bounded, Logged};
 use gc_texts::RunFault;
 use std::alloc::Global;
 use std::cell::Cell;
 use std::fs::File;
 use std::io::{self, Write};
-use std::net::{Net, TcpListener, TcpStream};
 use std::process::ExitCode;
 use std::rt::Files;
-use std::time::Clock;
 
 /// The bound of a log.
 pub(crate) const LOG_BYTES: Argument<'static> = Argument {
@@ -105,12 +96,27 @@ fn open_log<R: Files<File = File>>(rt: &R, path: &str) -> Result<RowsFile<System
     }
 }
 
-// The same, where only whether it can be had counts.
-fn log_at<R: Files<File = File>>(rt: &R, path: &str) -> Option<RowsFile<SystemFile>> {
-    match open_log(rt, path) {
-        Ok(rows) => Some(rows),
-        Err(_) => None,
-    }
+/// The log that is asked for, opened, of which is noted how many bytes of a torn line were cut off. `Log` comes where it can't be had.
+pub(crate) fn log_at<'a, R: Files<File = File>>(
+    rt: &R,
+    noticed: &'a Cell<Noticed>,
+    log: Option<LogPlace<'_>>,
+) -> Result<Option<Noted<'a, RowsFile<SystemFile>>>, RunFault>
+    ensures logged { IfOk result (λ opened. is_some opened ≡ is_some log.entry) }
+    ensures fault { IfErr result (λ fault. (is_some log.entry ≡ true) × (fault ≡ RunFault.Log)) }
+{
+    let Some(log) = log else {
+        return Ok(None);
+    };
+    let Ok(rows) = open_log(rt, log.path) else {
+        return Err(RunFault::Log);
+    };
+    note_torn(noticed, rows.torn());
+    let room = room_in(rows.file(), log.most);
+    Ok(Some(Noted {
+        sink: Bounded::new(rows, room),
+        noticed,
+    }))
 }
 
 // How many more bytes a file may have.
@@ -121,9 +127,9 @@ fn room_in<F: Appending>(file: &F, most: u64) -> u64 {
     }
 }
 
-// A log that notes down when it ends before its time.
+/// A log that notes down when it ends before its time.
 #[derive(Drop)]
-struct Noted<'a, K> {
+pub(crate) struct Noted<'a, K> {
     sink: Bounded<K>,
     noticed: &'a Cell<Noticed>,
 }
@@ -175,67 +181,8 @@ fn note_torn(noticed: &Cell<Noticed>, torn: u64) {
     });
 }
 
-/// Measures at a place as without a log, and appends what was on the link to a file, which is opened before anything else is
-/// done: where it can't be, or is held, that is fault 57. Where it can't be written to the end that is told behind the counts, or the
-/// fault, and changes no status. The streams are handed back.
-pub(crate) fn run_logged_at<
-    R: Net<Listener = TcpListener, Stream = TcpStream> + Clock + Files<File = File>,
-    S: Source,
-    K: Lasting,
-    E: Write,
->(
-    rt: &R,
-    alloc: Global,
-    spot: Spot<'_>,
-    log: LogPlace<'_>,
-    station: Station,
-    mut streams: Streams<S, K, E>,
-) -> (Streams<S, K, E>, io::Result<ExitCode>)
-    // The status and the messages tell how it ended, as without a log, and behind that whether the log was lost; or that no
-    // log, no link or no clock could be had, and then nothing was read or written.
-    ensures told { IfOk result.1 (λ status. (end : Result Tally Stop) × (between behind : E) × (acts : List Act) × (is_lost : Bool)
-        × TellsCounts end (exit_status status) (E.contents between) (E.contents behind)
-        × TellsLoss is_lost (E.contents behind) (E.contents result.0.messages)
-        × FailsAtOutput (K.failed streams.output) (K.failed result.0.output) (with_fault end)
-        × (MeasuresBegun station
-        (record { input = input_of S.Source streams.input; acts = Some []; taken = K.taken streams.output; messages = E.contents streams.messages })
-        (record { input = input_of S.Source result.0.input; acts = Some acts; taken = K.taken result.0.output; messages = E.contents between })
-        end
-        ⊎ ((IsLinkless end ⊎ (end ≡ Err (Stop.Run RunFault.Log))) × (result.0.input ≡ streams.input) × (result.0.output ≡ streams.output) × (between ≡ streams.messages)))) }
-
-    // Status 0 only where the source gave a text to its end, and the run over its commands is done.
-    ensures done { IfOk result.1 (λ status. exit_status status ≡ 0 → (between : E) × (acts : List Act) × (run : ℕ) × IsMeasured (begun_at run station)
-        (record { input = input_of S.Source streams.input; acts = Some []; taken = K.taken streams.output; messages = E.contents streams.messages })
-        (record { input = input_of S.Source result.0.input; acts = Some acts; taken = K.taken result.0.output; messages = E.contents between })) }
-    ensures bound { IfOk result.1 (λ status. exit_status status ≤ 1) }
-{
-    let Some(rows) = log_at(rt, log.path) else {
-        let ended = tell_counts(Err(Stop::Run(RunFault::Log)), &mut streams.messages);
-        return (streams, ended);
-    };
-    let (link, moment) = match link_at(rt, spot.place) {
-        Ok(found) => found,
-        Err(fault) => {
-            spot.stop(fault);
-            let ended = tell_counts(Err(Stop::Run(fault)), &mut streams.messages);
-            return (streams, ended);
-        }
-    };
-    let station = station.begun(moment);
-    note_torn(spot.noticed, rows.torn());
-    let room = room_in(rows.file(), log.most);
-    let noted = Noted {
-        sink: Bounded::new(rows, room),
-        noticed: spot.noticed,
-    };
-    let told = Telling::new(link);
-    let noticing = Noticing::new(told, spot.noticed);
-    let mut logged = Logged::new(noticing, noted, moment.utc);
-    measure_logged(alloc, &mut logged, station, spot, streams)
-}
-
-// Measures over a link with a log, and tells how it ended, and behind that whether the log was lost. The streams are handed back.
-fn measure_logged<L: Link, G: Sink, S: Source, K: Lasting, E: Write>(
+/// Measures over a link with a log, and tells how it ended, and behind that whether the log was lost. The streams are handed back.
+pub(crate) fn measure_logged<L: Link, G: Sink, S: Source, K: Durable, E: Write>(
     alloc: Global,
     logged: &mut Logged<L, G>,
     station: Station,
@@ -243,20 +190,12 @@ fn measure_logged<L: Link, G: Sink, S: Source, K: Lasting, E: Write>(
     streams: Streams<S, K, E>,
 ) -> (Streams<S, K, E>, io::Result<ExitCode>)
     // As without a log; and the log was lost exactly where that is told.
-    ensures told { IfOk result.1 (λ status. (end : Result Tally Stop) × (between behind : E)
-        × ((given : List ℕ) × Consumes (S.remaining streams.input) (S.remaining result.0.input) given
-        × Measures given station 18446744073709551615
-        (record { input = input_of S.Source streams.input; acts = L.acts logged.old.link; taken = K.taken streams.output; messages = E.contents streams.messages })
-        (record { input = input_of S.Source result.0.input; acts = L.acts logged.new.link; taken = K.taken result.0.output; messages = E.contents between })
-        end)
-        × FailsAtOutput (K.failed streams.output) (K.failed result.0.output) (with_fault end)
-        × TellsCounts end (exit_status status) (E.contents between) (E.contents behind)
+    ensures told { IfOk result.1 (λ status. (behind : E)
+        × TellsMeasuring S.Source K.Sink E.contents station (L.acts logged.old.link) (L.acts logged.new.link) streams (record result.0 { messages = behind }) (exit_status status)
         × TellsLoss (G.failed (sink_of logged.new)) (E.contents behind) (E.contents result.0.messages)) }
 
     // Status 0 only where the source gave a text to its end, and the run over its commands is done.
-    ensures done { IfOk result.1 (λ status. exit_status status ≡ 0 → (between : E) × IsMeasured station
-        (record { input = input_of S.Source streams.input; acts = L.acts logged.old.link; taken = K.taken streams.output; messages = E.contents streams.messages })
-        (record { input = input_of S.Source result.0.input; acts = L.acts logged.new.link; taken = K.taken result.0.output; messages = E.contents between })) }
+    ensures done { IfOk result.1 (λ status. exit_status status ≡ 0 → MeasuresAll S.Source K.Sink E.contents station (L.acts logged.old.link) (L.acts logged.new.link) streams result.0) }
     ensures bound { IfOk result.1 (λ status. exit_status status ≤ 1) }
 {
     let (mut streams, ended) = measure_over(alloc, logged, station, spot, streams);

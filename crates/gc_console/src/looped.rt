@@ -21,10 +21,10 @@ use std::rt::Files;
 const ARGUMENTS: &[Argument<'static>] = &[SCENE];
 
 /// The words of `loop`.
-pub(crate) fn loop_command<'a>(alloc: Global) -> Result<Command<'a>, AllocError> {
+pub(crate) fn loop_command<'a>(alloc: Global, name: &'a str) -> Result<Command<'a>, AllocError> {
     command_of(
         alloc,
-        "loop",
+        name,
         "Asks the commands of standard input over a connection to a simulator of its own",
         COMMANDS,
         ARGUMENTS,

@@ -1,36 +1,30 @@
 //! A station's text, read from a source, measured over a link, and its records written into a sink, all in one form.
 
-ghost use Rattle.std.specs.Prelude.{◌≡◌, ◌+◌, ◌≤◌, ℕ, List, length, OnOk, IfErr};
-ghost use Rattle.std.specs.Io.KnownBytes.{Consumes, Appends};
-ghost use Rattle.gc_catalogue.specs.declared.answer.Reading.{Reading};
-ghost use Rattle.gc_catalogue.specs.declared.call.Call.{Call};
-ghost use Rattle.gc_console.specs.Choices.{plan_of};
-ghost use Rattle.gc_console.specs.Measuring.{text_in, front_text, Measures, IsUntouched, AllLast, overrun_line};
+ghost use Rattle.std.specs.Prelude.{◌≡◌, ◌+◌, ◌≤◌, OnOk, IfErr};
+ghost use Rattle.std.specs.Io.KnownBytes.{Appends};
+ghost use Rattle.gc_console.specs.Measuring.{text_in, front_text, course_of, RunsCourse, MeasuresText, IsUntouched, AllLast};
 ghost use Rattle.gc_console.specs.Stops.{with_fault};
-ghost use Rattle.gc_texts.specs.WholeTexts.{input_of};
+ghost use Rattle.gc_console.specs.Telling.{places_of};
 ghost use Rattle.gc_lines.specs.Ports.{FailsWith, TakesFront};
-ghost use Rattle.gc_station.specs.Runs.{Ran, FailsAtOutput, LastsBut};
-ghost use Rattle.gc_station.specs.Scopes.{AreReadings};
-ghost use Rattle.gc_texts.specs.Texts.{end_reads};
+ghost use Rattle.gc_station.specs.Runs.{FailsAtOutput, LastsBut};
 ghost use Rattle.gc_texts.specs.declared.text.TheConstants.{TEXT_LIMIT};
 
-use crate::choice::Watch;
-use crate::files::FilesTold;
 use crate::layout::Layout;
 use crate::oddity::{Noticed, Spot};
-use crate::signs::Signs;
 use crate::station::Station;
 use crate::stop::Stop;
 use crate::streams::Streams;
 use crate::task_text::read_task_text;
+use crate::telling::Teller;
 use crate::turns::tell_turns;
-use gc_lines::{Lasting, PortFailed, Source, write_whole};
+use gc_lines::{Durable, PortFailed, Source, write_whole};
 use gc_links::{Link, Moment};
-use gc_station::{Book, Sight, Stamp, Tally, run_station};
-use gc_texts::{Command, Ending, RunFault, Task, Tasks, When, write_head, write_record};
+use gc_rows::{When, write_head, write_record};
+use gc_station::{Book, LinkHealth, Tally, run_station};
+use gc_texts::{Command, Ending, RunFault, Stamp, Task, Tasks};
 use std::alloc::Global;
 use std::cell::Cell;
-use std::io::{self, Write};
+use std::io::Write;
 
 /// Reads the whole text of the input, writes what stands in front of the records on the output, and measures the commands over a
 /// link as the station is told, in at most `max_turns` acts. The streams are handed back, with how the run ended.
@@ -44,7 +38,7 @@ use std::io::{self, Write};
 /// What is odd of the text is told on the messages at the start: each angle of a positioning that lies outside one turn. So are signs
 /// of life, each at most once a minute, where the choice has them, and once what is noticed of the line at the spot. Where that
 /// can't be written the station measures on.
-pub fn run_station_text<L: Link, S: Source, K: Lasting, E: Write>(
+pub fn run_station_text<L: Link, S: Source, K: Durable, E: Write>(
     alloc: Global,
     link: &mut L,
     station: Station,
@@ -53,11 +47,9 @@ pub fn run_station_text<L: Link, S: Source, K: Lasting, E: Write>(
     max_turns: u64,
 ) -> (Streams<S, K, E>, Result<Tally, Stop>)
     // What the text was, and what of its commands was measured: what the link told, what the output took, and why it ended.
-    ensures measures { (given : List ℕ) × Consumes (S.remaining streams.input) (S.remaining result.0.input) given
-        × (S.reads result.0.input ≤ S.reads streams.input + length given + end_reads (S.ended result.0.input))
-        × Measures given station max_turns
-        (record { input = input_of S.Source streams.input; acts = L.acts link.old; taken = K.taken streams.output; messages = E.contents streams.messages })
-        (record { input = input_of S.Source result.0.input; acts = L.acts link.new; taken = K.taken result.0.output; messages = E.contents result.0.messages })
+    ensures measures { MeasuresText station max_turns
+        (places_of S.Source K.Sink E.contents streams (L.acts link.old))
+        (places_of S.Source K.Sink E.contents result.0 (L.acts link.new))
         result.1 }
 
     // The output failed exactly where that is the fault.
@@ -65,15 +57,15 @@ pub fn run_station_text<L: Link, S: Source, K: Lasting, E: Write>(
 
     // At each end but that of the output all that was written lasts, as far as the output is meant for it. That it does before each
     // act is a clause of the private function that makes one.
-    ensures lasts { AllLast (K.lasts result.0.output) result.1 }
+    ensures is_durable { AllLast (K.is_durable result.0.output) result.1 }
 
     // At most 65,537 reads of the input were answered.
     ensures bounded { S.reads result.0.input ≤ S.reads streams.input + (TEXT_LIMIT + 1) }
 
     // Where the text was refused nothing was done over the link, and nothing written.
     ensures untouched { IsUntouched
-        (record { input = input_of S.Source streams.input; acts = L.acts link.old; taken = K.taken streams.output; messages = E.contents streams.messages })
-        (record { input = input_of S.Source result.0.input; acts = L.acts link.new; taken = K.taken result.0.output; messages = E.contents result.0.messages })
+        (places_of S.Source K.Sink E.contents streams (L.acts link.old))
+        (places_of S.Source K.Sink E.contents result.0 (L.acts link.new))
         result.1 }
 {
     let (tasks, text) = match read_task_text(alloc, &mut streams.input, &station.choice) {
@@ -103,7 +95,7 @@ pub fn run_station_text<L: Link, S: Source, K: Lasting, E: Write>(
     }
 }
 
-// What is measured: these tasks, in at most so many acts. The names of their targets stand beside no tasks.
+// What is measured: the tasks, the names of their targets (in a `Tasks` whose own tasks are empty), and the most acts that a run may make.
 #[derive(Drop)]
 struct Work {
     tasks: Vec<Task>,
@@ -112,25 +104,23 @@ struct Work {
 }
 
 // Measures tasks over a link as a station is told, and writes their records into the output. The streams are handed back.
-fn measure<L: Link, S, K: Lasting, E: Write>(
+fn measure<L: Link, S, K: Durable, E: Write>(
     link: &mut L,
     station: Station,
     work: Work,
     spot: Spot<'_>,
     streams: Streams<S, K, E>,
 ) -> (Streams<S, K, E>, Result<Tally, RunFault>)
-    ensures ran { (reads : Call → List ℕ → Reading) → AreReadings reads
-        → Ran (plan_of station.choice work.tasks.items) work.tasks.items (record { turns = work.max_turns; reads = reads })
-        (text_in station.layout work.named.names.items)
+    ensures ran { RunsCourse (course_of station work.max_turns work.tasks.items work.named.names.items)
         (L.acts link.old) (L.acts link.new) (K.taken streams.output) (K.taken result.0.output) result.1 }
     ensures output { FailsAtOutput (K.failed streams.output) (K.failed result.0.output) result.1 }
-    ensures lasts { LastsBut (K.lasts result.0.output) result.1 }
+    ensures is_durable { LastsBut (K.is_durable result.0.output) result.1 }
     ensures input { result.0.input ≡ streams.input }
 {
     let Streams {
         input,
         output,
-        mut messages,
+        messages,
     } = streams;
     let Work {
         tasks,
@@ -138,15 +128,14 @@ fn measure<L: Link, S, K: Lasting, E: Write>(
         max_turns,
     } = work;
     let plan = station.choice.plan(tasks.as_slice());
-    let _ = tell_start(spot, tasks.len(), station.choice.watch, &mut messages);
+    let mut teller = Teller::new(station.choice.watch, messages);
+    teller.begin(spot.place, tasks.len());
     let mut records = Records {
         sink: output,
         layout: station.layout,
         named,
         noticed: spot.noticed,
-        signs: Signs::new(station.choice.watch),
-        files: FilesTold::new(),
-        messages,
+        teller,
     };
     let end = run_station(link, &mut records, tasks.as_slice(), &plan, max_turns);
     let Records {
@@ -154,71 +143,47 @@ fn measure<L: Link, S, K: Lasting, E: Write>(
         layout: _,
         named: _,
         noticed: _,
-        mut signs,
-        files: _,
-        mut messages,
+        teller,
     } = records;
-    let _ = signs.end(&mut messages);
     let streams = Streams {
         input,
         output: sink,
-        messages,
+        messages: teller.end(),
     };
     (streams, end)
 }
 
-// Tells at the start how many commands there are, where they are asked, and what the station waits for first.
-fn tell_start<E: Write>(
-    spot: Spot<'_>,
-    count: usize,
-    watch: Watch,
-    messages: &mut E,
-) -> io::Result<()> {
-    if watch == Watch::Nobody {
-        return Ok(());
-    }
-    let commands = if count == 1 { "command" } else { "commands" };
-    let place = spot.place;
-    writeln!(
-        messages,
-        "geocom: {count} {commands} for {place}: waits until eight null procedures are answered, one after the other"
-    )
-}
-
 // Writes what stands in front of the records, where it doesn't stand there.
-fn write_front<K: Lasting>(sink: &mut K, layout: Layout) -> Result<(), usize>
+fn write_front<K: Durable>(sink: &mut K, layout: Layout) -> Result<(), usize>
     ensures failed { FailsWith result (K.failed sink.old) (K.failed sink.new) }
     ensures ok { OnOk result (Appends (K.taken sink.old) (K.taken sink.new) (front_text layout)) }
     ensures err { IfErr result (λ n. TakesFront (K.taken sink.old) (K.taken sink.new) n (front_text layout)) }
 {
     if layout.headed {
-        // Nothing, and by its clauses nothing.
+        // The clauses want it shown that nothing is written: an empty text is.
         return write_whole(sink, b"");
     }
     write_head(sink, layout.form)
 }
 
-// A book of records in one layout, with the names of targets, and where signs of life are told.
+// A book of records in one layout, with the names of targets, and what a station tells of itself while it writes them.
 struct Records<'a, K, E> {
     sink: K,
     layout: Layout,
-    // The names, beside no tasks.
+    // The names of targets: its tasks are empty.
     named: Tasks,
     noticed: &'a Cell<Noticed>,
-    signs: Signs,
-    // What was told of the files of the station.
-    files: FilesTold,
-    messages: E,
+    teller: Teller<E>,
 }
 
-impl<'a, K: Lasting, E: Write> Book for Records<'a, K, E> {
+impl<'a, K: Durable, E: Write> Book for Records<'a, K, E> {
     ghost text = { λ book. text_in book.layout book.named.names.items };
 
     ghost taken = { λ book. K.taken book.sink };
 
     ghost failed = { λ book. K.failed book.sink };
 
-    ghost lasts = { λ book. K.lasts book.sink };
+    ghost is_durable = { λ book. K.is_durable book.sink };
 
     // Writes a record, which counts for the signs of life also where it can't be written.
     fn write(
@@ -227,13 +192,10 @@ impl<'a, K: Lasting, E: Write> Book for Records<'a, K, E> {
         command: &Command,
         ending: Ending<'_>,
     ) -> Result<(), PortFailed> {
-        self.signs.count(stamp, ending);
+        self.teller.count(stamp, ending);
         let when = When {
             run: self.layout.run,
-            sent: stamp.sent,
-            utc: stamp.utc,
-            cycle: stamp.cycle,
-            place: stamp.place,
+            stamp,
         };
         let taken = write_record(
             &mut self.sink,
@@ -250,45 +212,18 @@ impl<'a, K: Lasting, E: Write> Book for Records<'a, K, E> {
     }
 
     // What was written lasts then as far as the sink is meant for it.
-    fn keep(&mut self) -> Result<(), PortFailed> {
-        match self.sink.keep() {
+    fn sync(&mut self) -> Result<(), PortFailed> {
+        match self.sink.sync() {
             Ok(()) => Ok(()),
             Err(failed) => Err(failed),
         }
     }
 
-    // Where that can't be written the station measures on: what it writes of each request doesn't depend on it.
-    fn sees(&mut self, sight: Sight, moment: Moment) {
-        let Noticed {
-            odd,
-            is_lost,
-            files,
-            ..
-        } = self.noticed.get();
-        let _ = self.signs.see(sight, is_lost, moment, &mut self.messages);
-        let _ = self.signs.tell_odd(odd, &mut self.messages);
-        // What became of the files is told also where no signs of life are.
-        if let Some(news) = self.files.news(files, moment) {
-            let _ = self.signs.clear(&mut self.messages);
-            let _ = news.tell(&mut self.messages);
-        }
+    fn sees(&mut self, health: LinkHealth, moment: Moment) {
+        self.teller.tell(self.noticed.get(), health, moment);
     }
 
-    // As signs of life are.
     fn overran(&mut self, cycle: u64) {
-        if self.signs.may_tell_late() {
-            let _ = self.signs.clear(&mut self.messages);
-            let _ = tell_overrun(&mut self.messages, cycle);
-        }
+        self.teller.overran(cycle);
     }
-}
-
-// The line of a cycle that was not done when the next was due.
-fn tell_overrun<E: Write>(messages: &mut E, cycle: u64) -> io::Result<()>
-    ensures { OnOk result (Appends (E.contents messages.old) (E.contents messages.new) (overrun_line cycle)) }
-{
-    writeln!(
-        messages,
-        "geocom: cycle {cycle} was not done when the next was due"
-    )
 }

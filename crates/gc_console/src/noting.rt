@@ -67,7 +67,7 @@ impl<'a, R> Noting<'a, R> {
         }
     }
 
-    /// What was refused is no reason of what is told next.
+    /// Drops the note: what was refused isn't the reason of the fault that is told next.
     pub(crate) fn forget(&self) {
         self.last.set(None);
     }

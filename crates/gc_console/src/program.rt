@@ -6,16 +6,16 @@ ghost use Rattle.std.specs.Process.{exit_status};
 ghost use Rattle.gc_texts.specs.declared.fault.RunFault.{RunFault};
 ghost use Rattle.gc_texts.specs.Faults.{run_fault_text, fault_line};
 
-use crate::asking::run_asking;
-use crate::check::{check, check_log};
-use crate::drill::drill_scene;
+use crate::asking::{Asking, run_asking};
+use crate::check::check;
+use crate::drill::{Drilling, drill_scene};
 use crate::ending::{refuse_numbers, refuse_place};
 use crate::exec::exec_scene;
 use crate::noting::Noting;
-use crate::serve::serve_filled;
+use crate::serve::{Serving, serve_filled};
 use crate::standard::Standard;
 use crate::streams::Streams;
-use crate::words::{Subcommand, subcommand_of};
+use crate::words::{Asked, Subcommand, asked_of};
 use clap::Error;
 use clap::error::ErrorKind;
 use gc_lines::{FromReader, ReadAhead, ToWriter};
@@ -53,8 +53,8 @@ pub fn run_program<
         Ok(words) => words,
         Err(error) => return refuse_words(&error, &mut streams.messages),
     };
-    match subcommand_of(alloc, words.as_slice()) {
-        Ok(subcommand) => run_subcommand(rt, alloc, standard, subcommand, streams),
+    match asked_of(alloc, words.as_slice()) {
+        Ok(asked) => run_asked(rt, alloc, standard, asked, streams),
         Err(error) => {
             let reads = reads_a_text(words.as_slice());
             answer(&error, reads, &mut streams.output, &mut streams.messages)
@@ -62,8 +62,8 @@ pub fn run_program<
     }
 }
 
-// Runs a subcommand over the streams, and tells how it ended. What `exec` and `check` read is read ahead.
-fn run_subcommand<
+// Runs what is asked for over the streams, and tells how it ended.
+fn run_asked<
     R: Net<Listener = TcpListener, Stream = TcpStream> + Clock + Files<File = File>,
     I: Read + Drop,
     O: Write + Drop,
@@ -72,7 +72,63 @@ fn run_subcommand<
     rt: &R,
     alloc: Global,
     standard: Standard,
-    subcommand: Subcommand<'_>,
+    asked: Asked<'_>,
+    mut streams: Streams<I, O, E>,
+) -> io::Result<ExitCode>
+    ensures { IfOk result (λ status. exit_status status ≤ 2) }
+{
+    match asked {
+        Asked::Exec { scene } => run_exec(rt, alloc, scene, streams),
+        Asked::Check { log } => run_check(log, streams),
+        Asked::Drill(drilling) => run_drill(rt, alloc, drilling, streams),
+        Asked::Serve(serving) => run_serve(rt, alloc, standard, serving, &mut streams.messages),
+        Asked::Over(asking) => run_over(rt, alloc, standard, asking, streams),
+        Asked::Nowhere { serves } => refuse_place(serves, &mut streams.messages),
+        Asked::Unnumbered => refuse_numbers(&mut streams.messages),
+    }
+}
+
+// Answers requests. What it reads is read ahead.
+fn run_exec<R: Files, I: Read + Drop, O: Write + Drop, E: Write + Drop>(
+    rt: &R,
+    alloc: Global,
+    scene: Option<&str>,
+    streams: Streams<I, O, E>,
+) -> io::Result<ExitCode>
+    ensures { IfOk result (λ status. exit_status status ≤ 1) }
+{
+    let Streams {
+        input,
+        output,
+        mut messages,
+    } = streams;
+    let mut source = FromReader::new(ReadAhead::new(input));
+    let mut sink = ToWriter::new(output);
+    exec_scene(rt, alloc, scene, &mut source, &mut sink, &mut messages)
+}
+
+// Checks a log, or a stream. What it reads is read ahead.
+fn run_check<I: Read + Drop, O: Write + Drop, E: Write + Drop>(
+    log: bool,
+    streams: Streams<I, O, E>,
+) -> io::Result<ExitCode>
+    ensures { IfOk result (λ status. exit_status status ≤ 1) }
+{
+    let Streams {
+        input,
+        output,
+        mut messages,
+    } = streams;
+    let mut source = FromReader::new(ReadAhead::new(input));
+    let mut sink = ToWriter::new(output);
+    check(log, &mut source, &mut sink, &mut messages)
+}
+
+// Plays a schedule.
+fn run_drill<R: Files, I: Read + Drop, O: Write + Drop, E: Write + Drop>(
+    rt: &R,
+    alloc: Global,
+    drilling: Drilling<'_>,
     streams: Streams<I, O, E>,
 ) -> io::Result<ExitCode>
     ensures { IfOk result (λ status. exit_status status ≤ 2) }
@@ -82,41 +138,57 @@ fn run_subcommand<
         output,
         mut messages,
     } = streams;
+    let mut source = FromReader::new(input);
     let mut sink = ToWriter::new(output);
+    drill_scene(rt, alloc, drilling, &mut source, &mut sink, &mut messages)
+}
+
+// Serves a simulator.
+fn run_serve<
+    R: Net<Listener = TcpListener, Stream = TcpStream> + Clock + Files<File = File>,
+    E: Write,
+>(
+    rt: &R,
+    alloc: Global,
+    standard: Standard,
+    serving: Serving<'_>,
+    messages: &mut E,
+) -> io::Result<ExitCode>
+    ensures { IfOk result (λ status. exit_status status ≤ 2) }
+{
     let noting = Noting::new(rt);
-    match subcommand {
-        Subcommand::Exec { scene } => {
-            let mut source = FromReader::new(ReadAhead::new(input));
-            exec_scene(rt, alloc, scene, &mut source, &mut sink, &mut messages)
-        }
-        Subcommand::Check { log: true } => {
-            let mut source = FromReader::new(ReadAhead::new(input));
-            check_log(&mut source, &mut sink, &mut messages)
-        }
-        Subcommand::Check { log: false } => {
-            let mut source = FromReader::new(ReadAhead::new(input));
-            check(&mut source, &mut sink, &mut messages)
-        }
-        Subcommand::Drill(drilling) => {
-            let mut source = FromReader::new(input);
-            drill_scene(rt, alloc, drilling, &mut source, &mut sink, &mut messages)
-        }
-        Subcommand::Serve(serving) => {
-            let ended = serve_filled(&noting, alloc, standard, serving, &mut messages);
-            noting.tell(standard, ended, &mut messages)
-        }
-        Subcommand::Nowhere { serves } => refuse_place(serves, &mut messages),
-        Subcommand::Unnumbered => refuse_numbers(&mut messages),
-        Subcommand::Asks(asking) => {
-            let streams = Streams {
-                input: FromReader::new(input),
-                output: sink,
-                messages,
-            };
-            let (mut streams, ended) = run_asking(&noting, alloc, standard, asking, streams);
-            noting.tell(standard, ended, &mut streams.messages)
-        }
-    }
+    let ended = serve_filled(&noting, alloc, standard, serving, messages);
+    noting.tell(standard, ended, messages)
+}
+
+// Asks over a connection.
+fn run_over<
+    R: Net<Listener = TcpListener, Stream = TcpStream> + Clock + Files<File = File>,
+    I: Read + Drop,
+    O: Write + Drop,
+    E: Write + Drop,
+>(
+    rt: &R,
+    alloc: Global,
+    standard: Standard,
+    asking: Asking<'_>,
+    streams: Streams<I, O, E>,
+) -> io::Result<ExitCode>
+    ensures { IfOk result (λ status. exit_status status ≤ 2) }
+{
+    let Streams {
+        input,
+        output,
+        messages,
+    } = streams;
+    let noting = Noting::new(rt);
+    let streams = Streams {
+        input: FromReader::new(input),
+        output: ToWriter::new(output),
+        messages,
+    };
+    let (mut streams, ended) = run_asking(&noting, alloc, standard, asking, streams);
+    noting.tell(standard, ended, &mut streams.messages)
 }
 
 // Tells why words ask for no subcommand: memory was wanted, they don't parse, or they ask for the help or the version.
@@ -154,7 +226,10 @@ fn show<O: Write, E: Write>(text: &Error, output: &mut O, messages: &mut E) -> i
 // Whether words ask for a subcommand that reads a text.
 fn reads_a_text(words: &[String]) -> bool {
     match words.get(1) {
-        Some(word) => matches!(word.as_str(), "drill" | "loop" | "ask" | "station"),
+        Some(word) => match Subcommand::named(word.as_str()) {
+            Some(subcommand) => subcommand.reads_a_text(),
+            None => false,
+        },
         None => false,
     }
 }
@@ -173,12 +248,12 @@ fn refuse<E: Write>(error: &Error, reads: bool, messages: &mut E) -> io::Result<
     Ok(ExitCode::from(2))
 }
 
-// The words as the system gave them, kept. It fails where one is no text, or no memory is found.
+// The words of the command line in a vector. It fails where one isn't UTF-8, or for want of memory.
 fn all_words(alloc: Global, words: io::Result<Args>) -> io::Result<Vec<String>> {
     Ok(words?.collect(alloc)?)
 }
 
-// A word that is no text doesn't parse.
+// The words couldn't be read: one isn't UTF-8, which ends with status 2, or memory was wanted.
 fn refuse_words<E: Write>(error: &io::Error, messages: &mut E) -> io::Result<ExitCode>
     ensures refused { IfOk result (λ status. 1 ≤ exit_status status) }
     ensures bound { IfOk result (λ status. exit_status status ≤ 2) }

@@ -1,34 +1,28 @@
 //! Records in a file that outlasts the program: what the words say of it, and a station that appends to it.
 
-ghost use Rattle.std.specs.Prelude.{◌≡◌, ◌≤◌, ◌⊎◌, ℕ, Bool, List, [], Some, None, Result, Ok, Err, IfOk, OnOk, OnErr};
+ghost use Rattle.std.specs.Prelude.{◌≡◌, ◌≤◌, ◌⊎◌, Ok, IfOk, OnOk, OnErr};
 ghost use Rattle.std.specs.Io.KnownBytes.{Appends};
+ghost use Rattle.std.specs.Option.{is_some};
 ghost use Rattle.std.specs.Process.{exit_status};
-ghost use Rattle.gc_console.specs.Logging.{TellsLoss};
-ghost use Rattle.gc_console.specs.Measuring.{appended, begun_at, form_of_rows, MeasuresBegun, IsMeasured, TellsCounts};
+ghost use Rattle.gc_console.specs.Measuring.{form_of_rows};
 ghost use Rattle.gc_console.specs.Recording.{fault_of_unfit, rotation_line, unfit_text, torn_line};
-ghost use Rattle.gc_console.specs.Stops.{with_fault, IsLinkless};
-ghost use Rattle.gc_texts.specs.Records.{head_text, sign_text};
-ghost use Rattle.gc_texts.specs.WholeTexts.{input_of};
-ghost use Rattle.gc_console.specs.declared.stop.Stop.{Stop};
+ghost use Rattle.gc_console.specs.Telling.{RefusesFile, TellsAppended, AppendsAll};
+ghost use Rattle.gc_rows.specs.Records.{head_text, sign_text};
 ghost use Rattle.gc_files.specs.Sinks.{torn_in, IsOpenedAs};
-ghost use Rattle.gc_files.specs.declared.system.Unfit.{Unfit};
-ghost use Rattle.gc_links.specs.Acts.{Act};
-ghost use Rattle.gc_station.specs.Runs.{FailsAtOutput};
-ghost use Rattle.gc_station.specs.declared.tally.Tally.{Tally};
-ghost use Rattle.gc_texts.specs.declared.fault.RunFault.{RunFault};
 
+use crate::counts::tell_counts;
 use crate::following::Followed;
-use crate::logging::{LogPlace, run_logged_at};
+use crate::logging::LogPlace;
 use crate::oddity::Spot;
-use crate::station::{Station, run_station_at, tell_counts};
+use crate::station::{Station, measure_at};
 use crate::stop::Stop;
 use crate::streams::Streams;
 use clap::ArgMatches;
 use gc_files::{RowsFile, SystemFile, Unfit, open_at};
-use gc_lines::{Lasting, Source};
-use gc_texts::{RunFault, head, sign};
+use gc_lines::{Durable, Source};
+use gc_rows::{head, sign};
+use gc_texts::RunFault;
 use std::alloc::Global;
-use std::cell::Cell;
 use std::fs::File;
 use std::io::{self, Write};
 use std::net::{Net, TcpListener, TcpStream};
@@ -71,7 +65,7 @@ fn tell_torn<E: Write>(torn: u64, messages: &mut E) -> io::Result<()>
     ensures { OnOk result (Appends (E.contents messages.old) (E.contents messages.new) (torn_line torn)) }
 {
     if torn == 0 {
-        // Nothing, and by its clause nothing.
+        // The clause wants it shown that nothing is written: an empty text is.
         return write!(messages, "");
     }
     writeln!(messages, "geocom: {torn} bytes of a torn row were cut off")
@@ -99,7 +93,7 @@ fn write_rotation<E: Write>(why: Unfit, messages: &mut E) -> io::Result<()>
             messages,
             "geocom: the file does not begin as this station's rows do: it has other columns, or a rotation cut off its header (copytruncate). To rotate it, stop the station, rename the file, and start it"
         ),
-        // Nothing, and by its clause nothing.
+        // The clause wants it shown that nothing is written: an empty text is.
         Unfit::Unopened | Unfit::Held | Unfit::Failed => write!(messages, ""),
     }
 }
@@ -126,44 +120,6 @@ fn open_records<R: Files<File = File>, E: Write>(
     }
 }
 
-/// Measures at a site, and tells how it ended. The streams are handed back.
-pub(crate) fn measure_at<
-    R: Net<Listener = TcpListener, Stream = TcpStream> + Clock + Files<File = File>,
-    S: Source,
-    K: Lasting,
-    E: Write,
->(
-    rt: &R,
-    alloc: Global,
-    spot: Spot<'_>,
-    log: Option<LogPlace<'_>>,
-    station: Station,
-    streams: Streams<S, K, E>,
-) -> (Streams<S, K, E>, io::Result<ExitCode>)
-    // The status and the messages tell how it ended, and behind that whether a log was lost; or that no log, no link or no clock could
-    // be had, and then nothing was read or written.
-    ensures told { IfOk result.1 (λ status. (end : Result Tally Stop) × (between behind : E) × (acts : List Act) × (is_lost : Bool)
-        × TellsCounts end (exit_status status) (E.contents between) (E.contents behind)
-        × TellsLoss is_lost (E.contents behind) (E.contents result.0.messages)
-        × FailsAtOutput (K.failed streams.output) (K.failed result.0.output) (with_fault end)
-        × (MeasuresBegun station
-        (record { input = input_of S.Source streams.input; acts = Some []; taken = K.taken streams.output; messages = E.contents streams.messages })
-        (record { input = input_of S.Source result.0.input; acts = Some acts; taken = K.taken result.0.output; messages = E.contents between })
-        end
-        ⊎ ((IsLinkless end ⊎ (end ≡ Err (Stop.Run RunFault.Log))) × (result.0.input ≡ streams.input) × (result.0.output ≡ streams.output) × (between ≡ streams.messages)))) }
-
-    // Status 0 only where the source gave a text to its end, and the run over its commands is done.
-    ensures done { IfOk result.1 (λ status. exit_status status ≡ 0 → (between : E) × (acts : List Act) × (run : ℕ) × IsMeasured (begun_at run station)
-        (record { input = input_of S.Source streams.input; acts = Some []; taken = K.taken streams.output; messages = E.contents streams.messages })
-        (record { input = input_of S.Source result.0.input; acts = Some acts; taken = K.taken result.0.output; messages = E.contents between })) }
-    ensures bound { IfOk result.1 (λ status. exit_status status ≤ 1) }
-{
-    match log {
-        Some(log) => run_logged_at(rt, alloc, spot, log, station, streams),
-        None => run_station_at(rt, alloc, spot, station, streams),
-    }
-}
-
 /// Measures at a site, and appends the records as rows to a file, which is opened before anything else is done. Where it can't be had,
 /// nothing is read, and nothing is sent: `RecordsUnopened`, `RecordsHeld`, `RecordsForeign`, and `Output` where a call of the system
 /// failed. Of `RecordsForeign` it is told, too, how a file is rotated. What stood in it stays, but for half a row at its end, which is
@@ -172,7 +128,7 @@ pub(crate) fn measure_at<
 pub(crate) fn append_at<
     R: Net<Listener = TcpListener, Stream = TcpStream> + Clock + Files<File = File>,
     S: Source,
-    K: Lasting,
+    K: Durable,
     E: Write,
 >(
     rt: &R,
@@ -185,22 +141,11 @@ pub(crate) fn append_at<
 ) -> (Streams<S, K, E>, io::Result<ExitCode>)
     // Either the file can't be had, which is told with status 1, and nothing was read; or the status and the messages tell how it ended, as
     // where the rows go elsewhere, but for what was told of half a row.
-    ensures told { IfOk result.1 (λ status.
-        ((why : Unfit) × (exit_status status ≡ 1) × Appends (E.contents streams.messages) (E.contents result.0.messages) (unfit_text why)
-        × (result.0.input ≡ streams.input))
-        ⊎ ((end : Result Tally Stop) × (begun between behind : E) × (acts : List Act) × (is_lost : Bool)
-        × TellsCounts end (exit_status status) (E.contents between) (E.contents behind)
-        × TellsLoss is_lost (E.contents behind) (E.contents result.0.messages)
-        × (MeasuresBegun (appended station)
-        (record { input = input_of S.Source streams.input; acts = Some []; taken = None; messages = E.contents begun })
-        (record { input = input_of S.Source result.0.input; acts = Some acts; taken = None; messages = E.contents between })
-        end
-        ⊎ ((IsLinkless end ⊎ (end ≡ Err (Stop.Run RunFault.Log))) × (result.0.input ≡ streams.input) × (between ≡ begun))))) }
+    ensures told { IfOk result.1 (λ status. RefusesFile E.contents streams result.0 (exit_status status)
+        ⊎ TellsAppended S.Source E.contents (is_some log.entry) station streams result.0 (exit_status status)) }
 
     // Status 0 only where the source gave a text to its end, and the run over its commands is done.
-    ensures done { IfOk result.1 (λ status. exit_status status ≡ 0 → (begun between : E) × (acts : List Act) × (run : ℕ) × IsMeasured (begun_at run (appended station))
-        (record { input = input_of S.Source streams.input; acts = Some []; taken = None; messages = E.contents begun })
-        (record { input = input_of S.Source result.0.input; acts = Some acts; taken = None; messages = E.contents between })) }
+    ensures done { IfOk result.1 (λ status. exit_status status ≡ 0 → AppendsAll S.Source E.contents station streams result.0) }
 
     // Nothing is written on the output.
     ensures output { result.0.output ≡ streams.output }
@@ -216,10 +161,17 @@ pub(crate) fn append_at<
             (streams, ended)
         }
         Err(why) => {
-            let stop = Stop::Run(fault_of_unfit(why));
-            let ended = tell_counts(Err(stop), &mut streams.messages);
-            let ended = tell_rotation(ended, why, &mut streams.messages);
+            let ended = refuse_file(why, &mut streams.messages);
             (streams, ended)
         }
     }
+}
+
+// Tells that a file of records can't be had, and where it holds something else how it is rotated.
+fn refuse_file<E: Write>(why: Unfit, messages: &mut E) -> io::Result<ExitCode>
+    ensures told { IfOk result (λ status. (exit_status status ≡ 1) × Appends (E.contents messages.old) (E.contents messages.new) (unfit_text why)) }
+{
+    let stop = Stop::Run(fault_of_unfit(why));
+    let ended = tell_counts(Err(stop), messages);
+    tell_rotation(ended, why, messages)
 }

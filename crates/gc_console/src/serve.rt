@@ -68,10 +68,10 @@ const ARGUMENTS: &[Argument<'static>] = &[
 ];
 
 /// The words of `serve`.
-pub(crate) fn serve_command<'a>(alloc: Global) -> Result<Command<'a>, AllocError> {
+pub(crate) fn serve_command<'a>(alloc: Global, name: &'a str) -> Result<Command<'a>, AllocError> {
     command_of(
         alloc,
-        "serve",
+        name,
         "Serves a simulator on a port of 127.0.0.1, or on a device",
         KEPT,
         ARGUMENTS,
@@ -118,31 +118,42 @@ pub(crate) fn serve_filled<
     let Ok(places) = standard.fill(rt) else {
         return standard.refuse(messages);
     };
+    let ended = serve_scene(rt, alloc, serving, messages);
+    drop(places);
+    ended
+}
+
+// Reads the scene, and serves or keeps a place with its instrument.
+fn serve_scene<
+    R: Net<Listener = TcpListener, Stream = TcpStream> + Clock + Files<File = File>,
+    E: Write,
+>(rt: &R, alloc: Global, serving: Serving<'_>, messages: &mut E) -> io::Result<ExitCode>
+    ensures { IfOk result (λ status. exit_status status ≤ 2) }
+{
     let Serving {
         scene,
         place,
         connections,
         idle,
     } = serving;
-    let ended = match instrument_of(rt, alloc, scene) {
-        Ok(mut instrument) => match idle {
-            None => serve_place(
-                rt,
-                place,
-                connections.unwrap_or(1),
-                &mut instrument,
-                messages,
-            ),
-            Some(idle) => keep_place(rt, place, connections, idle, &mut instrument, messages),
-        },
+    let mut instrument = match instrument_of(rt, alloc, scene) {
+        Ok(instrument) => instrument,
         Err(fault) => {
             let ended = end_of(Err(fault), messages);
             let _ = tell_scene(scene, messages);
-            ended
+            return ended;
         }
     };
-    drop(places);
-    ended
+    match idle {
+        None => serve_place(
+            rt,
+            place,
+            connections.unwrap_or(1),
+            &mut instrument,
+            messages,
+        ),
+        Some(idle) => keep_place(rt, place, connections, idle, &mut instrument, messages),
+    }
 }
 
 // Serves a port or a device, and tells how it ended. Numbers out of their range, which clap refuses by no clause, are refused here.
@@ -238,7 +249,7 @@ fn tell_served<E: Write>(
     ended
 }
 
-// Whether so many connections may be asked for, where it is said how many.
+// Whether this number of connections may be asked for: none given, or 1 to 1000.
 fn are_few(connections: Option<u32>) -> bool {
     match connections {
         None => true,

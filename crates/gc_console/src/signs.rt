@@ -1,12 +1,16 @@
 //! Signs of life: what a station tells of itself while it runs. No record, and nothing that goes out, rests on it.
 
+ghost use Rattle.std.specs.Prelude.{◌≡◌};
+ghost use Rattle.gc_station.specs.Tallies.{counted};
+ghost use Rattle.gc_texts.specs.Endings.{ending_seen};
+
 use crate::bounded::Bounded;
 use crate::choice::Watch;
 use crate::oddity::Oddities;
 use crate::wanted::{Wanted, has_lasted};
 use gc_links::Moment;
-use gc_station::{Sight, Stamp, Tally};
-use gc_texts::{Ending, stamp_text};
+use gc_station::{LinkHealth, Tally};
+use gc_texts::{Ending, Stamp, stamp_text};
 use std::io::{self, Write};
 
 // How far apart the lines of one kind are at least, in milliseconds.
@@ -21,28 +25,28 @@ const COLUMNS: usize = 79;
 // How far apart the line of a terminal is written over at least, in milliseconds.
 const SECOND: u64 = 1_000;
 
-// When a line of one kind was told last, in milliseconds of the clock for deadlines.
+// How often a line of one kind may be written: when it was written last, in milliseconds of the clock for deadlines.
 #[derive(Clone, Copy)]
-struct Told {
+struct RateLimit {
     last: Option<u64>,
 }
 
-impl Told {
-    // No line of its kind was told yet.
-    fn new() -> Told {
-        Told { last: None }
+impl RateLimit {
+    // No line of this kind was written yet.
+    fn new() -> RateLimit {
+        RateLimit { last: None }
     }
 
-    // Whether a line of this kind may be told again, so many milliseconds after the last. Then it counts as told.
-    fn may(&mut self, elapsed: u64, apart: u64) -> bool {
-        let may = match self.last {
+    // Whether a line of this kind may be written now: the last one is at least `apart` milliseconds old. If so, it counts as written now.
+    fn allows(&mut self, elapsed: u64, apart: u64) -> bool {
+        let allows = match self.last {
             Some(last) => elapsed.saturating_sub(last) >= apart,
             None => true,
         };
-        if may {
+        if allows {
             self.last = Some(elapsed);
         }
-        may
+        allows
     }
 }
 
@@ -51,7 +55,7 @@ impl Told {
 pub(crate) struct Signs {
     watch: Watch,
     // How things stood before the last act, since when, and the moment that was seen last.
-    sight: Sight,
+    health: LinkHealth,
     since: Moment,
     elapsed: u64,
     // Since when an answer is wanted.
@@ -72,13 +76,13 @@ pub(crate) struct Signs {
     is_shown: bool,
     // What was told of what is odd about the line.
     odd: Oddities,
-    unconnected: Told,
-    connected: Told,
-    unquiet: Told,
-    unanswered: Told,
-    late: Told,
-    passed_over: Told,
-    shown: Told,
+    unconnected: RateLimit,
+    connected: RateLimit,
+    unquiet: RateLimit,
+    unanswered: RateLimit,
+    late: RateLimit,
+    passed_over: RateLimit,
+    shown: RateLimit,
 }
 
 impl Signs {
@@ -86,7 +90,7 @@ impl Signs {
     pub(crate) fn new(watch: Watch) -> Signs {
         Signs {
             watch,
-            sight: Sight::Idle,
+            health: LinkHealth::Idle,
             since: Moment { elapsed: 0, utc: 0 },
             elapsed: 0,
             wanted: Wanted::new(),
@@ -96,59 +100,53 @@ impl Signs {
             skipped_before: 0,
             skipped_since: 0,
             cycle: 0,
-            counts: Tally {
-                answered: 0,
-                late: 0,
-                lost: 0,
-                skipped: 0,
-                unreadable: 0,
-                missed: 0,
-            },
+            counts: Tally::new(),
             answered: None,
             is_shown: false,
             odd: Oddities::none(),
-            unconnected: Told::new(),
-            connected: Told::new(),
-            unquiet: Told::new(),
-            unanswered: Told::new(),
-            late: Told::new(),
-            passed_over: Told::new(),
-            shown: Told::new(),
+            unconnected: RateLimit::new(),
+            connected: RateLimit::new(),
+            unquiet: RateLimit::new(),
+            unanswered: RateLimit::new(),
+            late: RateLimit::new(),
+            passed_over: RateLimit::new(),
+            shown: RateLimit::new(),
         }
     }
 
-    /// Notes a record down.
-    pub(crate) fn count(&mut self, stamp: Stamp, ending: Ending<'_>) {
+    /// Counts a record, and notes what it shows.
+    pub(crate) fn count(&mut self, stamp: Stamp, ending: Ending<'_>)
+        ensures { self.new.counts ≡ counted (ending_seen ending.entry) self.old.counts }
+    {
+        self.note(stamp, ending);
+        self.counts.count(ending);
+    }
+
+    // Notes the cycle of a record, and whether a command was answered or skipped.
+    fn note(&mut self, stamp: Stamp, ending: Ending<'_>)
+        ensures { self.new.counts ≡ self.old.counts }
+    {
         self.cycle = stamp.cycle;
-        let counts = &mut self.counts;
         match ending {
-            Ending::Answered(..) => {
-                counts.answered = counts.answered.saturating_add(1);
-                self.answer();
-            }
-            Ending::Unreadable(_, _) => {
-                counts.unreadable = counts.unreadable.saturating_add(1);
-                self.answer();
-            }
-            Ending::Late => counts.late = counts.late.saturating_add(1),
-            Ending::Lost => counts.lost = counts.lost.saturating_add(1),
-            Ending::Skipped => {
-                counts.skipped = counts.skipped.saturating_add(1);
-                self.skip(stamp.utc);
-            }
-            Ending::Missed => counts.missed = counts.missed.saturating_add(1),
+            Ending::Answered(..) | Ending::Unreadable(_, _) => self.answer(),
+            Ending::Skipped => self.skip(stamp.utc),
+            Ending::Late | Ending::Lost | Ending::Missed => {}
         }
     }
 
     // An answer came, whether its values read or not.
-    fn answer(&mut self) {
+    fn answer(&mut self)
+        ensures { self.new.counts ≡ self.old.counts }
+    {
         self.answered = Some(self.elapsed);
         self.is_answered = true;
         self.wanted.hear();
     }
 
     // Counts a command that was skipped, for the next line of those.
-    fn skip(&mut self, utc: u64) {
+    fn skip(&mut self, utc: u64)
+        ensures { self.new.counts ≡ self.old.counts }
+    {
         if self.skipped == 0 {
             self.skipped_since = utc;
         }
@@ -157,13 +155,13 @@ impl Signs {
 
     /// Whether a cycle that isn't done in time may be told.
     pub(crate) fn may_tell_late(&mut self) -> bool {
-        self.watch != Watch::Nobody && self.late.may(self.elapsed, MINUTE)
+        self.watch != Watch::Nobody && self.late.allows(self.elapsed, MINUTE)
     }
 
     /// Tells how things stand, where that is to be told. The last connection was lost or couldn't be made, or it wasn't.
     pub(crate) fn see<E: Write>(
         &mut self,
-        sight: Sight,
+        health: LinkHealth,
         is_lost: bool,
         moment: Moment,
         messages: &mut E,
@@ -171,25 +169,48 @@ impl Signs {
         if self.watch == Watch::Nobody {
             return Ok(());
         }
-        let before = self.sight;
+        let before = self.health;
+        self.stand(health, moment);
+        if moment.utc != 0 {
+            self.tell_troubles(before, is_lost, moment, messages)?;
+        }
+        self.tell_passed_over(messages)?;
+        self.show(messages)
+    }
+
+    // Notes how things stand, and since when.
+    fn stand(&mut self, health: LinkHealth, moment: Moment) {
         // Until the clock is read first the moment is the beginning of 1970.
-        if before != sight || self.since.utc == 0 {
-            self.sight = sight;
+        if self.health != health || self.since.utc == 0 {
+            self.health = health;
             self.since = moment;
         }
         self.elapsed = moment.elapsed;
-        if moment.utc != 0 {
-            self.wanted.look(sight, moment);
-            self.tell_connection(before, is_lost, messages)?;
-            self.tell_unquiet(messages)?;
-            self.tell_unanswered(messages)?;
-            self.tell_again(messages)?;
-        }
-        if self.skipped == self.skipped_before {
+    }
+
+    // Tells of a connection, a line that isn't quiet and an answer that doesn't come, and that a command was answered behind that.
+    fn tell_troubles<E: Write>(
+        &mut self,
+        before: LinkHealth,
+        is_lost: bool,
+        moment: Moment,
+        messages: &mut E,
+    ) -> io::Result<()> {
+        self.wanted.look(self.health, moment);
+        self.tell_connection(before, is_lost, messages)?;
+        self.tell_unquiet(messages)?;
+        self.tell_unanswered(messages)?;
+        self.tell_again(messages)
+    }
+
+    // Tells how many commands were skipped, once no more were since the last look.
+    fn tell_passed_over<E: Write>(&mut self, messages: &mut E) -> io::Result<()> {
+        let before = self.skipped_before;
+        if self.skipped == before {
             self.tell_skipped(messages)?;
         }
         self.skipped_before = self.skipped;
-        self.show(messages)
+        Ok(())
     }
 
     /// Tells what is odd about the line, each thing once.
@@ -215,30 +236,33 @@ impl Signs {
         Ok(())
     }
 
-    // Tells that there is no connection, where it was lost or couldn't be made, and one is wanted. As a cycle begins one is made at once.
+    // Tells that there is no connection, where it was lost or couldn't be made, and one is wanted. Not where a cycle just began: then the
+    // station makes one at once.
     fn tell_connection<E: Write>(
         &mut self,
-        before: Sight,
+        before: LinkHealth,
         is_lost: bool,
         messages: &mut E,
     ) -> io::Result<()> {
-        if self.sight != Sight::Unconnected {
+        if self.health != LinkHealth::Unconnected {
             return Ok(());
         }
         self.is_answered = false;
-        if !is_lost || before == Sight::Idle {
+        if !is_lost || before == LinkHealth::Idle {
             return Ok(());
         }
-        let may = self.unconnected.may(self.elapsed, MINUTE);
+        let may = self.unconnected.allows(self.elapsed, MINUTE);
         self.tell_since(may, self.since.utc, "no connection", messages)
     }
 
     // Tells that a new connection isn't quiet, once that has lasted.
     fn tell_unquiet<E: Write>(&mut self, messages: &mut E) -> io::Result<()> {
-        if self.sight != Sight::Unquiet || !has_lasted(self.since.elapsed, self.elapsed, LASTING) {
+        if self.health != LinkHealth::Unquiet
+            || !has_lasted(self.since.elapsed, self.elapsed, LASTING)
+        {
             return Ok(());
         }
-        let may = self.unquiet.may(self.elapsed, MINUTE);
+        let may = self.unquiet.allows(self.elapsed, MINUTE);
         self.tell_since(may, self.since.utc, "not quiet", messages)
     }
 
@@ -247,7 +271,7 @@ impl Signs {
         match self.wanted.lasting(self.elapsed, LASTING) {
             Some(since) => {
                 self.wanted.told = true;
-                let may = self.unanswered.may(self.elapsed, MINUTE);
+                let may = self.unanswered.allows(self.elapsed, MINUTE);
                 self.tell_since(may, since.utc, "no answer", messages)
             }
             None => Ok(()),
@@ -275,7 +299,7 @@ impl Signs {
 
     // Tells behind a trouble that a command was answered, where that may be told.
     fn tell_again<E: Write>(&mut self, messages: &mut E) -> io::Result<()> {
-        if !self.is_troubled || !self.is_answered || !self.connected.may(self.elapsed, MINUTE) {
+        if !self.is_troubled || !self.is_answered || !self.connected.allows(self.elapsed, MINUTE) {
             return Ok(());
         }
         self.is_troubled = false;
@@ -285,7 +309,7 @@ impl Signs {
 
     // Tells how many commands were skipped.
     fn tell_skipped<E: Write>(&mut self, messages: &mut E) -> io::Result<()> {
-        if self.skipped == 0 || !self.passed_over.may(self.elapsed, MINUTE) {
+        if self.skipped == 0 || !self.passed_over.allows(self.elapsed, MINUTE) {
             return Ok(());
         }
         self.clear(messages)?;
@@ -298,7 +322,7 @@ impl Signs {
 
     // Writes the line of a terminal over, where that is a second old.
     fn show<E: Write>(&mut self, messages: &mut E) -> io::Result<()> {
-        if self.watch != Watch::Terminal || !self.shown.may(self.elapsed, SECOND) {
+        if self.watch != Watch::Terminal || !self.shown.allows(self.elapsed, SECOND) {
             return Ok(());
         }
         self.clear(messages)?;

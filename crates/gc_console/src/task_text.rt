@@ -1,10 +1,8 @@
 //! A station's text, read whole from a source.
 
-ghost use Rattle.std.specs.Prelude.{◌+◌, ◌≤◌, ℕ, List, length, IfOk, IfErr};
-ghost use Rattle.std.specs.Io.KnownBytes.{Consumes};
-ghost use Rattle.gc_console.specs.TaskTexts.{GivesTasks, RefusesTasks, IsRefusal};
+ghost use Rattle.std.specs.Prelude.{◌+◌, ◌≤◌, ℕ, List, IfOk, IfErr};
+ghost use Rattle.gc_console.specs.TaskTexts.{Gave, GivesTasks, RefusesTasks, IsRefusal};
 ghost use Rattle.gc_texts.specs.WholeTexts.{input_of};
-ghost use Rattle.gc_texts.specs.Texts.{end_reads};
 ghost use Rattle.gc_texts.specs.declared.text.TheConstants.{TEXT_LIMIT};
 
 use crate::choice::Choice;
@@ -13,26 +11,18 @@ use gc_lines::Source;
 use gc_texts::{RunFault, Tasks, line_at, read_tasks, read_text, trouble_of};
 use std::alloc::Global;
 
-/// Reads the whole text of a station from a source, and hands over what it gives, with the text itself. Until a line says otherwise the commands have the deadline that was chosen, and are
-/// chained or not, as was chosen. The faults are those of `read_tasks`, `Read` where a read failed, and `NoCommand` where
-/// the text has none; of a faulty line the trouble is told, too.
+/// Reads the whole text of a station from a source, and hands over what it gives, with the text itself. Until a line says otherwise the
+/// commands have the deadline that was chosen, and are chained or not, as was chosen. The faults are those of `read_tasks`, `Read` where
+/// a read failed, and `NoCommand` where the text has none; of a faulty line the trouble is told, too.
 pub(crate) fn read_task_text<S: Source>(
     alloc: Global,
     source: &mut S,
     choice: &Choice,
 ) -> Result<(Tasks, Vec<u8>), Stop>
-    ensures found { IfOk result (λ all. (given : List ℕ) × Consumes (S.remaining source.old) (S.remaining source.new) given
-        × (S.reads source.new ≤ S.reads source.old + length given + end_reads (S.ended source.new))
-        × GivesTasks given
-        (input_of S.Source source.old)
-        (input_of S.Source source.new)
-        choice.now all.0.tasks.items all.0.names.items) }
-    ensures refused { IfErr result (λ stop. (given : List ℕ) × Consumes (S.remaining source.old) (S.remaining source.new) given
-        × (S.reads source.new ≤ S.reads source.old + length given + end_reads (S.ended source.new))
-        × RefusesTasks given
-        (input_of S.Source source.old)
-        (input_of S.Source source.new)
-        stop) }
+    ensures found { IfOk result (λ all. (given : List ℕ) × Gave given (input_of S.Source source.old) (input_of S.Source source.new)
+        × GivesTasks given (input_of S.Source source.old) (input_of S.Source source.new) choice.now all.0.tasks.items all.0.names.items) }
+    ensures refused { IfErr result (λ stop. (given : List ℕ) × Gave given (input_of S.Source source.old) (input_of S.Source source.new)
+        × RefusesTasks given (input_of S.Source source.old) (input_of S.Source source.new) stop) }
     ensures bounded { S.reads source.new ≤ S.reads source.old + (TEXT_LIMIT + 1) }
 {
     let text = match read_text(alloc, source) {

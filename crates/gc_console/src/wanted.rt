@@ -4,7 +4,7 @@ ghost use Rattle.std.specs.Prelude.{◌≡◌};
 ghost use Rattle.gc_console.specs.Wanted.{behind_answer, behind_look, behind_cycle, wanted_from, lasting, has_lasted};
 
 use gc_links::Moment;
-use gc_station::Sight;
+use gc_station::LinkHealth;
 
 /// Since when an answer is wanted.
 #[derive(Clone, Copy)]
@@ -13,7 +13,7 @@ pub(crate) struct Wanted {
     pub since: Option<Moment>,
     // Whether there was an answer since nothing was left to be asked.
     pub heard: bool,
-    // Whether that want was told.
+    // Whether a message said that no answer comes.
     pub told: bool,
 }
 
@@ -37,15 +37,15 @@ impl Wanted {
     }
 
     /// Things stand so at this moment.
-    pub(crate) fn look(&mut self, sight: Sight, moment: Moment)
-        ensures { self.new ≡ behind_look sight moment self.old }
+    pub(crate) fn look(&mut self, health: LinkHealth, moment: Moment)
+        ensures { self.new ≡ behind_look health moment self.old }
     {
-        match sight {
-            Sight::Fine => {}
-            Sight::Idle => self.end_cycle(),
-            Sight::Unconnected => self.want(moment),
-            Sight::Unquiet => self.want(moment),
-            Sight::Unheard => self.want(moment),
+        match health {
+            LinkHealth::Fine => {}
+            LinkHealth::Idle => self.end_cycle(),
+            LinkHealth::Unconnected => self.want(moment),
+            LinkHealth::Unquiet => self.want(moment),
+            LinkHealth::Unheard => self.want(moment),
         }
     }
 
@@ -70,7 +70,7 @@ impl Wanted {
         };
     }
 
-    /// Since when one is wanted, where that has lasted for so many milliseconds.
+    /// Since when an answer is wanted, where that is at least `least` milliseconds ago.
     pub(crate) fn lasting(&self, elapsed: u64, least: u64) -> Option<Moment>
         ensures { result ≡ lasting elapsed least self.now.since }
     {
@@ -81,7 +81,7 @@ impl Wanted {
     }
 }
 
-/// Whether so many milliseconds lie between two moments.
+/// Whether at least `least` milliseconds lie between two moments.
 pub(crate) fn has_lasted(from: u64, elapsed: u64, least: u64) -> bool
     ensures { result ≡ has_lasted from elapsed least }
 {

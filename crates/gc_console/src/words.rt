@@ -3,34 +3,37 @@
 use crate::ask::ask_command;
 use crate::asking::Asking;
 use crate::check::check_command;
+use crate::choice::{station_command, station_of};
 use crate::drill::{Drilling, drill_command, drilling_of};
 use crate::exec::exec_command;
 use crate::help::SCENES_AND_FAULTS;
+use crate::logging::log_of;
 use crate::looped::loop_command;
+use crate::recording::recording_of;
 use crate::serve::{Serving, serve_command, serving_of};
-use crate::station::{measured_at, station_command};
+use crate::station::Site;
 use crate::version::VERSION;
 use clap::{ArgMatches, Command, Error};
 use gc_links::{Place, place_of};
 use std::alloc::{AllocError, Global};
 
 /// What a command line asks for. A scene is the name of its file, where one is named.
-pub(crate) enum Subcommand<'a> {
+pub(crate) enum Asked<'a> {
     Exec { scene: Option<&'a str> },
     // Of a log, or of a stream.
     Check { log: bool },
     Drill(Drilling<'a>),
     Serve(Serving<'a>),
-    Asks(Asking<'a>),
+    Over(Asking<'a>),
     // A word that is to name a place names none, of a simulator or of an instrument.
     Nowhere { serves: bool },
     // A number is missing that has a default.
     Unnumbered,
 }
 
-// The subcommands by their names.
+/// The subcommands.
 #[derive(Clone, Copy)]
-enum Name {
+pub(crate) enum Subcommand {
     Exec,
     Check,
     Drill,
@@ -41,22 +44,84 @@ enum Name {
 }
 
 // They stand in this order in help.
-const NAMES: [Name; 7] = [
-    Name::Exec,
-    Name::Check,
-    Name::Drill,
-    Name::Loop,
-    Name::Serve,
-    Name::Ask,
-    Name::Station,
+const SUBCOMMANDS: [Subcommand; 7] = [
+    Subcommand::Exec,
+    Subcommand::Check,
+    Subcommand::Drill,
+    Subcommand::Loop,
+    Subcommand::Serve,
+    Subcommand::Ask,
+    Subcommand::Station,
 ];
+
+impl Subcommand {
+    // Its name, by which it is asked for.
+    fn name<'a>(self) -> &'a str {
+        match self {
+            Subcommand::Exec => "exec",
+            Subcommand::Check => "check",
+            Subcommand::Drill => "drill",
+            Subcommand::Loop => "loop",
+            Subcommand::Serve => "serve",
+            Subcommand::Ask => "ask",
+            Subcommand::Station => "station",
+        }
+    }
+
+    /// The one of this name.
+    pub(crate) fn named(name: &str) -> Option<Subcommand> {
+        for subcommand in SUBCOMMANDS {
+            if subcommand.name() == name {
+                return Some(subcommand);
+            }
+        }
+        None
+    }
+
+    /// Whether it reads a text from standard input.
+    pub(crate) fn reads_a_text(self) -> bool {
+        match self {
+            Subcommand::Drill | Subcommand::Loop | Subcommand::Ask | Subcommand::Station => true,
+            Subcommand::Exec | Subcommand::Check | Subcommand::Serve => false,
+        }
+    }
+
+    // What its help says, and its arguments: a row in its own file.
+    fn command<'a>(self, alloc: Global) -> Result<Command<'a>, AllocError> {
+        match self {
+            Subcommand::Exec => exec_command(alloc, self.name()),
+            Subcommand::Check => check_command(alloc, self.name()),
+            Subcommand::Drill => drill_command(alloc, self.name()),
+            Subcommand::Loop => loop_command(alloc, self.name()),
+            Subcommand::Serve => serve_command(alloc, self.name()),
+            Subcommand::Ask => ask_command(alloc, self.name()),
+            Subcommand::Station => station_command(alloc, self.name()),
+        }
+    }
+
+    // What it is asked for by these words, which stand behind its name.
+    fn asked<'a>(self, words: &ArgMatches<'a>) -> Asked<'a> {
+        match self {
+            Subcommand::Exec => Asked::Exec {
+                scene: words.get_str("scene"),
+            },
+            Subcommand::Check => Asked::Check {
+                log: words.get_flag("log"),
+            },
+            Subcommand::Drill => Asked::Drill(drilling_of(words)),
+            Subcommand::Loop => Asked::Over(Asking::Loop {
+                scene: words.get_str("scene"),
+            }),
+            Subcommand::Serve => serve_asked(words),
+            Subcommand::Ask => ask_asked(words),
+            Subcommand::Station => station_asked(words),
+        }
+    }
+}
 
 /// What the words ask for. A subcommand is required.
 // A loop makes the subcommands: the proof of a chain of `.subcommand(..)?` grows faster than the chain.
-pub(crate) fn subcommand_of<'a>(
-    alloc: Global,
-    words: &'a [String],
-) -> Result<Subcommand<'a>, Error> {
+pub(crate) fn asked_of<'a>(alloc: Global, words: &'a [String]) -> Result<Asked<'a>, Error> {
     let subcommands = subcommands_of(alloc)?;
     let matches = geocom(alloc)
         .subcommands(subcommands)?
@@ -79,67 +144,53 @@ fn geocom<'a>(alloc: Global) -> Command<'a> {
 // The subcommands in turn.
 fn subcommands_of<'a>(alloc: Global) -> Result<Vec<Command<'a>>, AllocError> {
     let mut subcommands = Vec::new(alloc);
-    for name in NAMES {
-        subcommands.push(command_named(alloc, name)?)?;
+    for subcommand in SUBCOMMANDS {
+        subcommands.push(subcommand.command(alloc)?)?;
     }
     Ok(subcommands)
 }
 
-// The subcommand of a name.
-fn command_named<'a>(alloc: Global, name: Name) -> Result<Command<'a>, AllocError> {
-    match name {
-        Name::Exec => exec_command(alloc),
-        Name::Check => check_command(alloc),
-        Name::Drill => drill_command(alloc),
-        Name::Loop => loop_command(alloc),
-        Name::Serve => serve_command(alloc),
-        Name::Ask => ask_command(alloc),
-        Name::Station => station_command(alloc),
+// What the words ask for. clap refuses words without a subcommand, and an unknown one.
+fn asked_for<'a>(matches: &ArgMatches<'a>) -> Asked<'a> {
+    if let Some((name, words)) = matches.subcommand() {
+        if let Some(subcommand) = Subcommand::named(name) {
+            return subcommand.asked(words);
+        }
+    }
+    Asked::Exec { scene: None }
+}
+
+// A simulator that is served, unless the words name no place for one.
+fn serve_asked<'a>(words: &ArgMatches<'a>) -> Asked<'a> {
+    match serving_of(words) {
+        Some(serving) => Asked::Serve(serving),
+        None => Asked::Nowhere { serves: true },
     }
 }
 
-// Which subcommand the words ask for.
-fn asked_for<'a>(matches: &ArgMatches<'a>) -> Subcommand<'a> {
-    if let Some(check) = matches.subcommand_matches("check") {
-        return Subcommand::Check {
-            log: check.get_flag("log"),
-        };
+// Commands that are asked at a place, unless the words name none.
+fn ask_asked<'a>(words: &ArgMatches<'a>) -> Asked<'a> {
+    match named_place(words) {
+        Some(place) => Asked::Over(Asking::Ask { place }),
+        None => Asked::Nowhere { serves: false },
     }
-    if let Some(drill) = matches.subcommand_matches("drill") {
-        return Subcommand::Drill(drilling_of(drill));
-    }
-    if let Some(serve) = matches.subcommand_matches("serve") {
-        return match serving_of(serve) {
-            Some(serving) => Subcommand::Serve(serving),
-            None => Subcommand::Nowhere { serves: true },
-        };
-    }
-    if let Some(ask) = matches.subcommand_matches("ask") {
-        return match named_place(ask) {
-            Some(place) => Subcommand::Asks(Asking::Ask { place }),
-            None => Subcommand::Nowhere { serves: false },
-        };
-    }
-    if let Some(station) = matches.subcommand_matches("station") {
-        return match named_place(station) {
-            Some(place) => match measured_at(place, station) {
-                Some(asking) => Subcommand::Asks(asking),
-                None => Subcommand::Unnumbered,
-            },
-            None => Subcommand::Nowhere { serves: false },
-        };
-    }
-    if let Some(looped) = matches.subcommand_matches("loop") {
-        return Subcommand::Asks(Asking::Loop {
-            scene: looped.get_str("scene"),
-        });
-    }
-    match matches.subcommand_matches("exec") {
-        Some(exec) => Subcommand::Exec {
-            scene: exec.get_str("scene"),
-        },
-        None => Subcommand::Exec { scene: None },
-    }
+}
+
+// A station at a place, with its records and its log in files where the words name them, unless they name no place, or a number is
+// missing that has a default, which no clause of clap's excludes.
+fn station_asked<'a>(words: &ArgMatches<'a>) -> Asked<'a> {
+    let Some(place) = named_place(words) else {
+        return Asked::Nowhere { serves: false };
+    };
+    let Some(station) = station_of(words) else {
+        return Asked::Unnumbered;
+    };
+    let log = log_of(words);
+    Asked::Over(Asking::Station {
+        site: Site { place, log },
+        station,
+        recording: recording_of(words),
+    })
 }
 
 /// The place that the words name.

@@ -63,7 +63,8 @@ record Judged (n : ℕ) (seen : List Frame) (texts : List (List ℕ)) : Type 0 w
   numbered : texts ≡ lines_from (n + 1) said
 
 judged_next : (s u : Judge) (frame : Frame) (later : List Frame) (v : Verdict) (text : Option (List ℕ)) (rest texts : List (List ℕ)) (n : ℕ) → s.frames ≡ n → n + 1 < 2 ^ 64
-    → IsVerdict frame v → u.frames ≡ min (s.frames + 1) (2 ^ 64 - 1) → text ≡ Some (verdict_line u.frames v) → texts ≡ option_to_list text ++ rest → (u.frames ≡ n + 1 → Judged (n + 1) later rest) → Judged n (frame ∷ later) texts
+    → IsVerdict frame v → u.frames ≡ min (s.frames + 1) (2 ^ 64 - 1) → text ≡ Some (verdict_line u.frames v) → texts ≡ option_to_list text ++ rest
+    → (u.frames ≡ n + 1 → Judged (n + 1) later rest) → Judged n (frame ∷ later) texts
 judged_next s u frame later v text rest texts n at few is counts told are next =
     let more : u.frames ≡ n + 1 = omega (arith, at, few, counts) in
     let k = next more in
@@ -73,12 +74,16 @@ judged_next s u frame later v text rest texts n at few is counts told are next =
       numbered = are ∙ ap (λ (o : Option (List ℕ)). option_to_list o ++ rest) told ∙ ap (λ (m : ℕ). verdict_line m v ∷ rest) more ∙ ap (λ (ts : List (List ℕ)). verdict_line (n + 1) v ∷ ts) k.numbered;
     }
 
-judged : (s t : Judge) (seen : List Frame) (texts : List (List ℕ)) (n : ℕ) → s.frames ≡ n → n + length seen < 2 ^ 64 → AreEnded seen → AnswersInOrder Judge JudgesFrame s seen t texts → Judged n seen texts
+judged : (s t : Judge) (seen : List Frame) (texts : List (List ℕ)) (n : ℕ) → s.frames ≡ n → n + length seen < 2 ^ 64 → AreEnded seen
+    → AnswersInOrder Judge JudgesFrame s seen t texts → Judged n seen texts
 unfolding AreEnded
 judged s t [] texts n at few ended h = record { said = []; are = tt; numbered = h.1 }
-judged s t (Line line ∷ later) texts n at few ended h = judged_next s h.0 (Line line) later h.3.0 h.1 h.2 texts n at (omega (arith, few)) h.3.1 h.3.2 h.3.3 h.5 (λ more. judged h.0 t later h.2 (n + 1) more (omega (arith, few)) ended h.4)
-judged s t (Cleared ∷ later) texts n at few ended h = judged_next s h.0 Cleared later h.3.0 h.1 h.2 texts n at (omega (arith, few)) h.3.1 h.3.2 h.3.3 h.5 (λ more. judged h.0 t later h.2 (n + 1) more (omega (arith, few)) ended h.4)
-judged s t (Overlong ∷ later) texts n at few ended h = judged_next s h.0 Overlong later h.3.0 h.1 h.2 texts n at (omega (arith, few)) h.3.1 h.3.2 h.3.3 h.5 (λ more. judged h.0 t later h.2 (n + 1) more (omega (arith, few)) ended h.4)
+judged s t (Line line ∷ later) texts n at few ended h = judged_next s h.0 (Line line) later h.3.0 h.1 h.2 texts n at
+    (omega (arith, few)) h.3.1 h.3.2 h.3.3 h.5 (λ more. judged h.0 t later h.2 (n + 1) more (omega (arith, few)) ended h.4)
+judged s t (Cleared ∷ later) texts n at few ended h = judged_next s h.0 Cleared later h.3.0 h.1 h.2 texts n at (omega (arith, few)) h.3.1 h.3.2 h.3.3 h.5
+    (λ more. judged h.0 t later h.2 (n + 1) more (omega (arith, few)) ended h.4)
+judged s t (Overlong ∷ later) texts n at few ended h = judged_next s h.0 Overlong later h.3.0 h.1 h.2 texts n at (omega (arith, few)) h.3.1 h.3.2 h.3.3 h.5
+    (λ more. judged h.0 t later h.2 (n + 1) more (omega (arith, few)) ended h.4)
 judged s t (More ∷ later) texts n at few ended h = absurd ended
 
 lines_of : (s t : Judge) (seen : List Frame) (texts : List (List ℕ)) → s.frames ≡ 0 → length seen < 2 ^ 64 → AreEnded seen → AnswersInOrder Judge JudgesFrame s seen t texts → AreLinesOf seen texts
@@ -86,7 +91,8 @@ lines_of s t seen texts at few ended h =
     let k = judged s t seen texts 0 at (omega (arith, few)) ended h in
     record { said = k.said; are = k.are; numbered = k.numbered }
 
-all_checked : (s t : Judge) (given : List ℕ) (a b : Option (List ℕ)) (count : ℕ) → s.frames ≡ 0 → length given < 2 ^ 64 → AnswersAll JudgesFrame s t (frames given) a b 0 count → ChecksAll given a b count
+all_checked : (s t : Judge) (given : List ℕ) (a b : Option (List ℕ)) (count : ℕ) → s.frames ≡ 0 → length given < 2 ^ 64
+    → AnswersAll JudgesFrame s t (frames given) a b 0 count → ChecksAll given a b count
 all_checked s t given a b count at few all = record {
   lines = all.texts;
   are = lines_of s t (frames given) all.texts at (omega (arith, few, few_frames given)) (ended_pieces (pieces_behind [] given)) all.answers;
@@ -94,7 +100,8 @@ all_checked s t given a b count at few all = record {
   took = all.took;
 }
 
-part_checked : (s t : Judge) (given : List ℕ) (a b : Option (List ℕ)) (count bytes : ℕ) → s.frames ≡ 0 → length given < 2 ^ 64 → AnswersPart JudgesFrame s t (frames given) a b 0 count bytes → ChecksPart given a b count bytes
+part_checked : (s t : Judge) (given : List ℕ) (a b : Option (List ℕ)) (count bytes : ℕ) → s.frames ≡ 0 → length given < 2 ^ 64
+    → AnswersPart JudgesFrame s t (frames given) a b 0 count bytes → ChecksPart given a b count bytes
 part_checked s t given a b count bytes at few part =
     let seen = part.earlier ++ part.frame ∷ [] in
     let order : frames given ≡ seen ++ part.later = part.order ∙ sym (append_assoc part.earlier (part.frame ∷ []) part.later) in
@@ -107,14 +114,16 @@ part_checked s t given a b count bytes at few part =
       whole = part.texts;
       line = part.text;
       are = lines_of s t seen (part.texts ++ part.text ∷ []) at fewer ended
-          (in_order_then JudgesFrame s part.state t part.earlier (part.frame ∷ []) part.texts (part.text ∷ []) part.answers (in_order_one JudgesFrame part.state t part.frame (Some part.text) part.draws));
+          (in_order_then JudgesFrame s part.state t part.earlier (part.frame ∷ []) part.texts (part.text ∷ []) part.answers
+          (in_order_one JudgesFrame part.state t part.frame (Some part.text) part.draws));
       counts = omega (arith, part.counts);
       not_all = part.not_all;
       took = part.took;
     }
 
 -- the whole result
-pub checked : (s t : Judge) (given : List ℕ) (a b : Option (List ℕ)) (r : Result Served ServeFault) → s.frames ≡ 0 → length given < 2 ^ 64 → AnswersFrames JudgesFrame s t (frames given) a b r → Checks given a b r
+pub checked : (s t : Judge) (given : List ℕ) (a b : Option (List ℕ)) (r : Result Served ServeFault) → s.frames ≡ 0 → length given < 2 ^ 64
+    → AnswersFrames JudgesFrame s t (frames given) a b r → Checks given a b r
 checked s t given a b (Ok served) at few h = all_checked s t given a b served.replies at few h
 checked s t given a b (Err (Read n)) at few h = all_checked s t given a b n at few h
 checked s t given a b (Err (Write n bytes)) at few h = part_checked s t given a b n bytes at few h
@@ -137,5 +146,6 @@ judged_frame s u More v is counts = absurd is
 -- the parts of a line, one appended behind the other
 pub line_of_parts : (old a b c d digits verdict : List ℕ) → a ≡ old ++ digits → b ≡ a ++ 32 ∷ [] → c ≡ b ++ verdict → d ≡ c ++ 10 ∷ [] → d ≡ old ++ (digits ++ 32 ∷ [] ++ verdict ++ 10 ∷ [])
 line_of_parts old a b c d digits verdict first second third last =
-    let whole : d ≡ old ++ digits ++ 32 ∷ [] ++ verdict ++ 10 ∷ [] = last ∙ ap (λ (xs : List ℕ). xs ++ 10 ∷ []) (third ∙ ap (λ (xs : List ℕ). xs ++ verdict) (second ∙ ap (λ (xs : List ℕ). xs ++ 32 ∷ []) first)) in
+    let whole : d ≡ old ++ digits ++ 32 ∷ [] ++ verdict ++ 10 ∷ [] = last
+    ∙ ap (λ (xs : List ℕ). xs ++ 10 ∷ []) (third ∙ ap (λ (xs : List ℕ). xs ++ verdict) (second ∙ ap (λ (xs : List ℕ). xs ++ 32 ∷ []) first)) in
     whole ∙ simp append_assoc

@@ -11,7 +11,9 @@ use Rattle.gc_texts.proofs.Cutting.{cut_found, digits_lack_spaces}
 use Rattle.gc_engines.specs.Schedule.{IsNumbered, IsRequested, IsSend, IsEvent, IsCounted}
 
 -- a number behind a word that the line begins with
-pub numbered_is : (word line rest : List ℕ) (max : ℕ) (r : Option ℕ) → line ≡ word ++ rest → MatchOption r ((n : ℕ) → IsNumber rest n max → ⊥) (λ n. IsNumber rest n max) → MatchOption r ((n : ℕ) → IsNumbered word line n max → ⊥) (λ n. IsNumbered word line n max)
+pub numbered_is : (word line rest : List ℕ) (max : ℕ) (r : Option ℕ) → line ≡ word ++ rest
+    → MatchOption r ((n : ℕ) → IsNumber rest n max → ⊥) (λ n. IsNumber rest n max)
+    → MatchOption r ((n : ℕ) → IsNumbered word line n max → ⊥) (λ n. IsNumbered word line n max)
 numbered_is word line rest max None e none = λ n found. none n (subst (λ (ds : List ℕ). IsNumber ds n max) (append_cancel_left word found.digits rest (sym found.line_is ∙ e)) found.number)
 numbered_is word line rest max (Some n) e number = record { digits = rest; line_is = e; number = number }
 
@@ -38,7 +40,8 @@ module _ (text : List ℕ) (t : ℕ) (call : Call) (d : ℕ) (r : IsRequested te
   pub has_target : (target rest : List ℕ) → Cuts 32 text target (Some rest) → ((n : ℕ) → IsNumber target n 4294967295 → ⊥) → ⊥
   has_target target rest cut none = none t (subst (λ (ds : List ℕ). IsNumber ds t 4294967295) (sym (first_cut target (Some rest) cut).0) r.target_is)
 
-  pub has_deadline : (target rest deadline : List ℕ) (behind : Option (List ℕ)) → Cuts 32 text target (Some rest) → Cuts 32 rest deadline behind → ((n : ℕ) → IsNumber deadline n 18446744073709551615 → ⊥) → ⊥
+  pub has_deadline : (target rest deadline : List ℕ) (behind : Option (List ℕ)) → Cuts 32 text target (Some rest) → Cuts 32 rest deadline behind
+      → ((n : ℕ) → IsNumber deadline n 18446744073709551615 → ⊥) → ⊥
   has_deadline target rest deadline behind cut next none = none d (subst (λ (ds : List ℕ). IsNumber ds d 18446744073709551615) (sym (second_cut target rest deadline behind cut next).0) r.deadline_is)
 
   pub has_procedure : (target rest deadline procedure : List ℕ) → Cuts 32 text target (Some rest) → Cuts 32 rest deadline (Some procedure) → ((c : Call) → IsProcedure procedure c → ⊥) → ⊥
@@ -46,7 +49,9 @@ module _ (text : List ℕ) (t : ℕ) (call : Call) (d : ℕ) (r : IsRequested te
       none call (subst (λ (p : List ℕ). IsProcedure p call) (sym (some_is procedure r.procedure (second_cut target rest deadline (Some procedure) cut next).1)) r.procedure_is)
 
 -- `send`, and what is requested behind it
-pub send_is : (word line rest : List ℕ) (o : Option (ℕ × Call × ℕ)) → word ≡ codes "send " → line ≡ word ++ rest → MatchOption o ((t : ℕ) (call : Call) (d : ℕ) → IsRequested rest t call d → ⊥) (λ r. IsRequested rest r.0 r.1 r.2) → MatchOption o ((t : ℕ) (call : Call) (d : ℕ) → IsSend line t call d → ⊥) (λ r. IsSend line r.0 r.1 r.2)
+pub send_is : (word line rest : List ℕ) (o : Option (ℕ × Call × ℕ)) → word ≡ codes "send " → line ≡ word ++ rest
+    → MatchOption o ((t : ℕ) (call : Call) (d : ℕ) → IsRequested rest t call d → ⊥)
+    (λ r. IsRequested rest r.0 r.1 r.2) → MatchOption o ((t : ℕ) (call : Call) (d : ℕ) → IsSend line t call d → ⊥) (λ r. IsSend line r.0 r.1 r.2)
 send_is word line rest None same e none =
     λ t call d sent. none t call d (subst (λ (x : List ℕ). IsRequested x t call d) (append_cancel_left (codes "send ") sent.rest rest (sym sent.line_is ∙ e ∙ ap (λ w. w ++ rest) same)) sent.requested)
 send_is word line rest (Some r) same e requested = record { rest = rest; line_is = e ∙ ap (λ w. w ++ rest) same; requested = requested }

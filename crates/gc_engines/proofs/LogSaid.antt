@@ -37,7 +37,8 @@ part_then rest p q a b c n m k bytes one next = record {
   counts = omega (arith, one.counts, next.counts, length-append one.texts next.whole);
   not_all = next.not_all;
   took = Appends-is a c _ _
-      (sym (append_assoc (all_of one.texts) (all_of next.whole) (take bytes next.line)) ∙ ap (λ l. l ++ take bytes next.line) (sym (all_of-append one.texts next.whole))) (Appends-append a b c _ _ one.took next.took);
+      (sym (append_assoc (all_of one.texts) (all_of next.whole) (take bytes next.line))
+      ∙ ap (λ l. l ++ take bytes next.line) (sym (all_of-append one.texts next.whole))) (Appends-append a b c _ _ one.took next.took);
 }
 
 -- what comes behind a failed write changes nothing
@@ -58,7 +59,8 @@ pieces_one : (rest : List ℕ) (b : ℕ) (feed : Bool) → feed ≡ true → (co
 pieces_one rest b true feeds = (refl, refl)
 pieces_one rest b false feeds = let bad : false ≡ true = feeds in cc
 
-pub byte_said : (rest : List ℕ) (b : ℕ) (a c : Option (List ℕ)) (n m : ℕ) (kept : Underway) (text : List ℕ) → is_line_feed b ≡ true → KeepsLine kept [] → IsLogVerdict rest text → Appends a c text → m ≡ n + 1
+pub byte_said : (rest : List ℕ) (b : ℕ) (a c : Option (List ℕ)) (n m : ℕ) (kept : Underway) (text : List ℕ) → is_line_feed b ≡ true → KeepsLine kept []
+    → IsLogVerdict rest text → Appends a c text → m ≡ n + 1
     → KeepsLine kept (rest_behind rest (b ∷ [])) × SaysAll rest (b ∷ []) a c n m
 byte_said rest b a c n m kept text feeds keeps said took more =
     let both = pieces_one rest b (is_line_feed b) feeds in (
@@ -71,7 +73,8 @@ byte_said rest b a c n m kept text feeds keeps said took more =
       },
     )
 
-pub byte_part : (rest : List ℕ) (b : ℕ) (a c : Option (List ℕ)) (n bytes : ℕ) (text : List ℕ) → is_line_feed b ≡ true → IsLogVerdict rest text → TakesFront a c bytes text → SaysPart rest (b ∷ []) a c n n bytes
+pub byte_part : (rest : List ℕ) (b : ℕ) (a c : Option (List ℕ)) (n bytes : ℕ) (text : List ℕ) → is_line_feed b ≡ true → IsLogVerdict rest text
+    → TakesFront a c bytes text → SaysPart rest (b ∷ []) a c n n bytes
 byte_part rest b a c n bytes text feeds said took = record {
   seen = rest ∷ [];
   later = [];
@@ -106,7 +109,8 @@ module _ (kept next : Underway) (rest bs : List ℕ) (i : ℕ) (within : i < len
       → ((r : List ℕ) → KeepsLine kept r → SaysPart r (get_or bs i 0 ∷ []) b c m k bytes) → SaysPart rest bs a c n k bytes
   loop_fails bytes so byte =
       subst (λ l. SaysPart rest l a c n k bytes) (sym (piece_more bs i within).1)
-      (part_before rest (take i bs ++ get_or bs i 0 ∷ []) (drop (i + 1) bs) a c n k bytes (part_then rest (take i bs) (get_or bs i 0 ∷ []) a b c n m k bytes so.1 (byte (rest_behind rest (take i bs)) so.0)))
+      (part_before rest (take i bs ++ get_or bs i 0 ∷ []) (drop (i + 1) bs) a c n k bytes
+      (part_then rest (take i bs) (get_or bs i 0 ∷ []) a b c n m k bytes so.1 (byte (rest_behind rest (take i bs)) so.0)))
 
 -- what was read so far, and what was said of its lines
 pub record SaidSoFar (source_old source_new sink_old sink_new : Option (List ℕ)) (kept : Underway) (reads count : ℕ) : Type 0 where

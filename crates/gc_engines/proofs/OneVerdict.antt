@@ -7,7 +7,7 @@ use Rattle.gc_lines.specs.Requests.{RequestFields, IsRequest}
 use Rattle.gc_lines.specs.declared.fault.LineFault.{LineFault}
 use Rattle.gc_lines.specs.declared.frame.Frame.{Frame}
 use Rattle.gc_lines.specs.declared.frame.Frame.TheVariants.{Line, Cleared, Overlong, More}
-use Rattle.gc_lines.proofs.Requests.{request_one, request_again, request_bad}
+use Rattle.gc_lines.proofs.Requests.{one_request, request_again, request_bad}
 use Rattle.gc_lines.proofs.Replies.{reply_one, reply_again, reply_bad}
 use Rattle.gc_catalogue.proofs.CallLaws.{one_refusal, no_refusal}
 use Rattle.gc_catalogue.specs.declared.fault.CallFault.{CallFault}
@@ -41,7 +41,7 @@ one_of_request q v w (refuses e is says) (refuses f other tells) =
     says ∙ ap (λ (g : CallFault). verdict.RequestFault q.rpc g) (one_refusal q.rpc q.params e f is other) ∙ sym tells
 
 one_of_line : (line : List ℕ) (v w : Verdict) → IsLineVerdict line v → IsLineVerdict line w → v ≡ w
-one_of_line line v w (request q is says) (request p other tells) = one_of_request q v w says (subst (λ (f : RequestFields). IsRequestVerdict f w) (request_one line p q other is) tells)
+one_of_line line v w (request q is says) (request p other tells) = one_of_request q v w says (subst (λ (f : RequestFields). IsRequestVerdict f w) (one_request line p q other is) tells)
 one_of_line line v w (request q is says) (reply r other tells) = absurd (no_both line q is (begins line r other))
 one_of_line line v w (request q is says) (no_reply f so bad tells) = absurd (no_both line q is so)
 one_of_line line v w (request q is says) (no_request f none bad tells) = absurd (never (request_at line) q f (request_again line q is) (request_bad line f bad))

@@ -19,7 +19,8 @@ use Rattle.gc_engines.specs.declared.scene_line.SceneLine.TheVariants as says
 use Rattle.gc_engines.proofs.Forms.{some_is}
 
 -- `target`, and three decimals behind it
-pub target_is : (line rest : List ℕ) (o : Option Target) → line ≡ codes "target " ++ rest → MatchOption o ((t : Target) → IsPrism rest t → ⊥) (λ t. IsPrism rest t) → MatchOption o ((t : Target) → IsTarget line t → ⊥) (λ t. IsTarget line t)
+pub target_is : (line rest : List ℕ) (o : Option Target) → line ≡ codes "target " ++ rest
+    → MatchOption o ((t : Target) → IsPrism rest t → ⊥) (λ t. IsPrism rest t) → MatchOption o ((t : Target) → IsTarget line t → ⊥) (λ t. IsTarget line t)
 target_is line rest None e none =
     λ t found. none t (subst (λ (ws : List ℕ). IsPrism ws t) (append_cancel_left (codes "target ") found.words rest (sym found.line_is ∙ e)) found.prism)
 target_is line rest (Some t) e prism = record { words = rest; line_is = e; prism = prism }

@@ -27,12 +27,14 @@ text_shown r w totals is =
     let settled : length r.settled ≡ length w.settled = sym (length-map r.settled settlement_seen) ∙ ap length is.settled.seen in
     totals_where totals _ _ _ _
     (ap settlement_lines is.settled.seen)
-    (six totals_text (length r.sent) (length r.executed) (length r.made) (length r.settled) r.refused_sends r.idle_events (length w.sent) (length w.executed) (length w.made) (length w.settled) w.refused w.idle
+    (six totals_text (length r.sent) (length r.executed) (length r.made) (length r.settled) r.refused_sends r.idle_events (length w.sent) (length w.executed)
+    (length w.made) (length w.settled) w.refused w.idle
     sent (ap length is.executed) made settled is.refused is.idle)
 
 text_of_run : (opening : State) (width : ℕ) (events : List Event) (totals : Bool) → drill_text_on opening width events totals ≡ wire_text (played width opening events).wire totals
 text_of_run opening width events totals = unfold drill_text_on in refl
 
 -- what is written of a report of an instrument's run
-pub drill_shown : (opening : State) (width : ℕ) (events : List Event) (totals : Bool) (r : Report) → IsReport r (played width opening events).wire → report_text r totals ≡ drill_text_on opening width events totals
+pub drill_shown : (opening : State) (width : ℕ) (events : List Event) (totals : Bool) (r : Report) → IsReport r (played width opening events).wire
+    → report_text r totals ≡ drill_text_on opening width events totals
 drill_shown opening width events totals r is = text_shown r (played width opening events).wire totals is ∙ sym (text_of_run opening width events totals)

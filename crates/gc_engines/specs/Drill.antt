@@ -39,7 +39,8 @@ DrillsOn opening width given totals old new (Err Read) = (length given ≤ TEXT_
 DrillsOn opening width given totals old new (Err InputTooLong) = (length given ≡ TEXT_LIMIT + 1) × (new ≡ old)
 DrillsOn opening width given totals old new (Err (Schedule n)) = (length given ≤ TEXT_LIMIT) × IsFirstFaulty given n × (new ≡ old)
 DrillsOn opening width given totals old new (Err Memory) = (length given ≤ TEXT_LIMIT) × (new ≡ old)
-DrillsOn opening width given totals old new (Err Output) = (length given ≤ TEXT_LIMIT) × ((events : List Event) × IsSchedule given events × TookPart old new (drill_text_on opening width events totals))
+DrillsOn opening width given totals old new (Err Output) = (length given ≤ TEXT_LIMIT)
+    × ((events : List Event) × IsSchedule given events × TookPart old new (drill_text_on opening width events totals))
 DrillsOn opening width given totals old new (Err _) = ⊥
 
 -- the same, with the simulator

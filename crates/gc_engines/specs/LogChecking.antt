@@ -39,7 +39,8 @@ IsSaid mark.Link bytes text = text ≡ escaped bytes
 pub data IsLogVerdict (line text : List ℕ) : Type 0 where
   reads : (moment said bytes : List ℕ) (mark : LogMark) → length line ≤ 2100 → length bytes ≤ 514 → IsLogLine line moment mark bytes → IsSaid mark bytes said
       → text ≡ moment ++ 32 ∷ (mark_text mark ++ 32 ∷ (said ++ 10 ∷ [])) → IsLogVerdict line text
-  unread : (length line ≤ 2100 → (moment : List ℕ) (mark : LogMark) (bytes : List ℕ) → length bytes ≤ 514 → IsLogLine line moment mark bytes → ⊥) → text ≡ codes "no log line\n" → IsLogVerdict line text
+  unread : (length line ≤ 2100 → (moment : List ℕ) (mark : LogMark) (bytes : List ℕ) → length bytes ≤ 514 → IsLogLine line moment mark bytes → ⊥)
+      → text ≡ codes "no log line\n" → IsLogVerdict line text
 
 -- what is written of lines, of each in order
 abbrev pub AreSaid : List (List ℕ) → List (List ℕ) → Type 0

@@ -11,9 +11,11 @@ mod texts;
 mod world;
 
 use engines::Engines;
+pub use engines::differing;
 use failing::Failing;
 use gc_cases::play_folder;
 use records::Records;
+pub use setup::{Engine, Setup};
 use std::io;
 use texts::Texts;
 use world::World;

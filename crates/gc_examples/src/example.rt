@@ -1,89 +1,44 @@
 //! One example: what goes in, and what must come out.
 
-use gc_engines::{run_check, run_drill, run_exec};
-use gc_probes::{PieceSink, PieceSource};
+use crate::cases::{Engine, Setup, differing};
 use std::alloc::{AllocError, Global};
-use std::{fmt, fs, io};
-
-/// Which engine an example goes through.
-#[derive(Clone, Copy)]
-pub enum Engine {
-    Exec,
-    Check,
-    Drill,
-}
+use std::{fs, io};
 
 /// The files of an example.
 #[derive(Drop)]
 pub struct Example {
-    pub engine: Engine,
-    pub input: Vec<u8>,
+    /// The engine, and its input.
+    pub setup: Setup,
     pub expected: Vec<u8>,
-}
-
-/// How an input was cut.
-#[derive(Clone, Copy)]
-pub enum Cut {
-    Whole,
-    Single,
-    At(usize),
-}
-
-impl fmt::Display for Cut {
-    fn fmt<W: fmt::Write>(&self, f: &mut fmt::Formatter<W>) -> fmt::Result {
-        match self {
-            Cut::Whole => f.write_str("whole"),
-            Cut::Single => f.write_str("in single bytes"),
-            Cut::At(place) => write!(f, "cut at {place}"),
-        }
-    }
 }
 
 impl Example {
     /// Reads the example whose input has this name; none where it is the name of no input.
     pub fn find(rt: &HostRuntime, name: &str) -> io::Result<Option<Example>> {
-        if let Some(stem) = name.strip_suffix(".requests") {
-            return Ok(Some(read(rt, Engine::Exec, name, stem, ".replies")?));
+        match parts_of(name) {
+            Some((engine, stem, ending)) => Ok(Some(read(rt, engine, name, stem, ending)?)),
+            None => Ok(None),
         }
-        if let Some(stem) = name.strip_suffix(".recording") {
-            return Ok(Some(read(rt, Engine::Check, name, stem, ".verdicts")?));
-        }
-        if let Some(stem) = name.strip_suffix(".schedule") {
-            return Ok(Some(read(rt, Engine::Drill, name, stem, ".expected")?));
-        }
-        Ok(None)
     }
 
-    /// The first cut at which another output comes than is expected.
-    pub fn first_difference(&self, alloc: Global) -> Result<Option<Cut>, AllocError> {
-        if !self.plays(alloc, &[]) {
-            return Ok(Some(Cut::Whole));
+    /// What is said where another output comes than is expected, whole or in some cut.
+    pub fn fault(&self, alloc: Global) -> Result<&'static str, AllocError> {
+        let whole = self.setup.run(alloc, &[])?;
+        if !whole.wrote(self.expected.as_slice()) {
+            return Ok(", whole");
         }
-        let mut ones = Vec::new(alloc);
-        for _ in self.input.as_slice() {
-            ones.push(1)?;
-        }
-        if !self.plays(alloc, ones.as_slice()) {
-            return Ok(Some(Cut::Single));
-        }
-        for place in 1..self.input.len() {
-            if !self.plays(alloc, &[place]) {
-                return Ok(Some(Cut::At(place)));
-            }
-        }
-        Ok(None)
+        differing(alloc, &self.setup, &whole, true)
     }
+}
 
-    // Whether the input, cut into pieces of these sizes, gives the expected output.
-    fn plays(&self, alloc: Global, sizes: &[usize]) -> bool {
-        let mut source = PieceSource::new(self.input.as_slice(), sizes, u64::MAX);
-        let mut sink = PieceSink::new(alloc, 5, u64::MAX);
-        let is_done = match self.engine {
-            Engine::Exec => run_exec(&mut source, &mut sink, u32::MAX).is_ok(),
-            Engine::Check => run_check(&mut source, &mut sink, u32::MAX).is_ok(),
-            Engine::Drill => run_drill(alloc, &mut source, &mut sink, true).is_ok(),
-        };
-        is_done && sink.taken() == self.expected.as_slice()
+// The engine of an input's name, the name's stem, and how the name of the output ends.
+fn parts_of(name: &str) -> Option<(Engine, &str, &'static str)> {
+    let (stem, ending) = name.split_once('.')?;
+    match ending {
+        "requests" => Some((Engine::Exec, stem, ".replies")),
+        "recording" => Some((Engine::Check, stem, ".verdicts")),
+        "schedule" => Some((Engine::Drill, stem, ".expected")),
+        _ => None,
     }
 }
 
@@ -95,11 +50,10 @@ fn read(
     stem: &str,
     ending: &str,
 ) -> io::Result<Example> {
-    let mut output = String::from_str(rt.alloc(), stem)?;
-    output.push_str(ending)?;
+    let output = format!(in rt.alloc(); "{stem}{ending}")?;
+    let input = fs::read(rt, input)?;
     Ok(Example {
-        engine,
-        input: fs::read(rt, input)?,
+        setup: Setup::new(rt.alloc(), engine, input),
         expected: fs::read(rt, output.as_str())?,
     })
 }

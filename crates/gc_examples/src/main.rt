@@ -14,42 +14,35 @@ mod outcome;
 
 use cases::play_cases;
 use example::Example;
+use gc_cases::names_of;
 use once::play_once;
 use std::process::ExitCode;
-use std::{env, fs, io};
-
-// The names of the examples, in order.
-fn names(rt: &HostRuntime) -> io::Result<Vec<String>> {
-    let mut names = Vec::new(rt.alloc());
-    for entry in fs::read_dir(rt, ".")? {
-        let entry = entry?;
-        names.push(String::from_str(rt.alloc(), entry.file_name())?)?;
-    }
-    names.sort()?;
-    Ok(names)
-}
+use std::{env, io};
 
 // Plays each example of the folder whole and in all cuts, and says whether each gave what was expected.
 fn play_cuts(rt: &HostRuntime, names: &[String]) -> io::Result<bool> {
     let mut is_right = true;
     for name in names {
-        let Some(example) = Example::find(rt, name.as_str())? else {
-            continue;
-        };
-        match example.first_difference(rt.alloc())? {
-            None => println!(rt; "{name}: as expected, whole and in all cuts")?,
-            Some(cut) => {
-                println!(rt; "{name}: another output, {cut}")?;
-                is_right = false;
-            }
+        if let Some(example) = Example::find(rt, name.as_str())? {
+            is_right &= tell_cuts(rt, name.as_str(), example.fault(rt.alloc())?)?;
         }
     }
     Ok(is_right)
 }
 
+// Prints the line of an example, and says whether there is no fault.
+fn tell_cuts(rt: &HostRuntime, name: &str, fault: &str) -> io::Result<bool> {
+    if fault.is_empty() {
+        println!(rt; "{name}: as expected, whole and in all cuts")?;
+        return Ok(true);
+    }
+    println!(rt; "{name}: another output{fault}")?;
+    Ok(false)
+}
+
 fn main(rt: HostRuntime) -> io::Result<ExitCode> {
     let words: Vec<String> = env::args(&rt)?.collect(rt.alloc())?;
-    let names = names(&rt)?;
+    let names = names_of(&rt, ".", "")?;
     let is_once = words.get(1).is_some_and(|word| word.as_str() == "once");
     let are_cut = is_once || play_cuts(&rt, names.as_slice())?;
     let are_right = play_once(&rt, names.as_slice())?;

@@ -1,10 +1,11 @@
 //! Each example once, and what became of it. `bench/memory.sh` refuses one allocation of this run after another.
 
+use crate::cases::Engine;
 use crate::client::{client, ring};
-use crate::example::{Engine, Example};
+use crate::example::Example;
 use crate::links::{ask, loop_commands};
 use crate::outcome::Outcome;
-use gc_client::{Ring, Slots};
+use gc_client::{Client, Ring, Slots, Window};
 use gc_engines::{read_schedule, run_check, run_drill, run_exec};
 use gc_instrument::Instrument;
 use gc_lines::ToWriter;
@@ -16,28 +17,34 @@ use std::io;
 
 /// Plays each example once, and says whether none gave another answer than its own.
 pub fn play_once(rt: &HostRuntime, names: &[String]) -> io::Result<bool> {
+    let mut is_right = play_parts(rt)?;
+    for name in names {
+        if let Some(example) = Example::find(rt, name.as_str())? {
+            is_right &= play_example(rt, name.as_str(), &example)?;
+        }
+    }
+    Ok(is_right)
+}
+
+// Plays what has no files.
+fn play_parts(rt: &HostRuntime) -> io::Result<bool> {
     let alloc = rt.alloc();
     let mut is_right = tell(rt, "a client with places", "called", client())?;
     is_right &= tell(rt, "a ring", "made", ring(alloc))?;
     is_right &= tell(rt, "a stray, then two answers", "asked", ask(alloc))?;
     is_right &= tell(rt, "three commands", "looped", loop_commands(alloc))?;
-    for name in names {
-        let Some(example) = Example::find(rt, name.as_str())? else {
-            continue;
-        };
-        is_right &= play_example(rt, name.as_str(), &example)?;
-    }
     Ok(is_right)
 }
 
 // Plays an example of the folder. A schedule is drilled, and then played over both windows.
 fn play_example(rt: &HostRuntime, name: &str, example: &Example) -> io::Result<bool> {
-    match example.engine {
-        Engine::Exec => tell(rt, name, "served", serves(example)),
-        Engine::Check => tell(rt, name, "checked", checks(example)),
-        Engine::Drill => {
-            let is_drilled = tell(rt, name, "drilled", drills(rt.alloc(), example))?;
-            let is_played = tell(rt, name, "played", plays(rt.alloc(), example))?;
+    let (input, expected) = (example.setup.input.as_slice(), example.expected.as_slice());
+    match example.setup.engine {
+        Engine::Exec => tell(rt, name, "served", serves(input, expected)),
+        Engine::Check => tell(rt, name, "checked", checks(input, expected)),
+        _ => {
+            let is_drilled = tell(rt, name, "drilled", drills(rt.alloc(), input, expected))?;
+            let is_played = tell(rt, name, "played", plays(rt.alloc(), input))?;
             Ok(is_drilled && is_played)
         }
     }
@@ -53,19 +60,27 @@ fn tell(rt: &HostRuntime, name: &str, done: &str, outcome: Outcome) -> io::Resul
 const ROOM: usize = 4096;
 
 // A stream through `exec`, into an array.
-fn serves(example: &Example) -> Outcome {
+fn serves(input: &[u8], expected: &[u8]) -> Outcome {
     let mut taken = [0; ROOM];
-    let mut source = PieceSource::new(example.input.as_slice(), &[], u64::MAX);
-    let is_done = run_exec(&mut source, &mut ToWriter::new(&mut taken[..]), u32::MAX).is_ok();
-    Outcome::of_answer(is_done && holds(&taken, example.expected.as_slice()))
+    let is_done = is_served(input, &mut taken[..]);
+    Outcome::of_answer(is_done && holds(&taken, expected))
+}
+
+fn is_served(input: &[u8], taken: &mut [u8]) -> bool {
+    let mut source = PieceSource::new(input, &[], u64::MAX);
+    run_exec(&mut source, &mut ToWriter::new(taken), u32::MAX).is_ok()
 }
 
 // A recording through `check`, into an array.
-fn checks(example: &Example) -> Outcome {
+fn checks(input: &[u8], expected: &[u8]) -> Outcome {
     let mut taken = [0; ROOM];
-    let mut source = PieceSource::new(example.input.as_slice(), &[], u64::MAX);
-    let is_done = run_check(&mut source, &mut ToWriter::new(&mut taken[..]), u32::MAX).is_ok();
-    Outcome::of_answer(is_done && holds(&taken, example.expected.as_slice()))
+    let is_done = is_checked(input, &mut taken[..]);
+    Outcome::of_answer(is_done && holds(&taken, expected))
+}
+
+fn is_checked(input: &[u8], taken: &mut [u8]) -> bool {
+    let mut source = PieceSource::new(input, &[], u64::MAX);
+    run_check(&mut source, &mut ToWriter::new(taken), u32::MAX).is_ok()
 }
 
 // Whether these bytes were written into an array of zeros, and nothing behind them.
@@ -74,17 +89,21 @@ fn holds(taken: &[u8; ROOM], expected: &[u8]) -> bool {
 }
 
 // A schedule through `drill --totals`.
-fn drills(alloc: Global, example: &Example) -> Outcome {
-    let mut source = PieceSource::new(example.input.as_slice(), &[], u64::MAX);
+fn drills(alloc: Global, input: &[u8], expected: &[u8]) -> Outcome {
     let mut sink = PieceSink::new(alloc, 5, u64::MAX);
-    let end = run_drill(alloc, &mut source, &mut sink, true);
-    Outcome::of(end, &sink, example.expected.as_slice())
+    let end = drill_into(alloc, input, &mut sink);
+    Outcome::of(end, &sink, expected)
+}
+
+fn drill_into(alloc: Global, input: &[u8], sink: &mut PieceSink) -> Result<(), RunFault> {
+    let mut source = PieceSource::new(input, &[], u64::MAX);
+    run_drill(alloc, &mut source, sink, true)
 }
 
 // A schedule over a ring and over places: their reports are one. Where one allocation of the process is refused, one of the
 // two has all its memory.
-fn plays(alloc: Global, example: &Example) -> Outcome {
-    match read_schedule(alloc, example.input.as_slice()) {
+fn plays(alloc: Global, input: &[u8]) -> Outcome {
+    match read_schedule(alloc, input) {
         Ok(events) => match agrees(alloc, events.as_slice()) {
             Ok(is_same) => Outcome::of_answer(is_same),
             Err(_) => Outcome::NoMemory,
@@ -96,22 +115,35 @@ fn plays(alloc: Global, example: &Example) -> Outcome {
 
 // Whether events lead to the same over both windows.
 fn agrees(alloc: Global, events: &[Event]) -> Result<bool, AllocError> {
-    let window = Ring::new(alloc)?;
-    let (ring, client) = play(alloc, Instrument::simulator(), window, events)?;
-    let (places, other) = play(alloc, Instrument::simulator(), Slots::new(), events)?;
-    let is_same = client.waiting() == other.waiting() && client.next_id() == other.next_id();
-    Ok(is_same && is_one(&ring, &places))
+    let ring = told(alloc, Ring::new(alloc)?, events)?;
+    let places = told(alloc, Slots::new(), events)?;
+    Ok(ring.as_str() == places.as_str())
 }
 
-// Whether two reports have the same lists and counts.
-fn is_one(report: &Report, other: &Report) -> bool {
-    report.sent.as_slice() == other.sent.as_slice()
-        && report.executed.as_slice() == other.executed.as_slice()
-        && report.made.as_slice() == other.made.as_slice()
-        && report.settled.as_slice() == other.settled.as_slice()
-        && report.starts.as_slice() == other.starts.as_slice()
-        && report.up.at_start() == other.up.at_start()
-        && report.down.at_start() == other.down.at_start()
-        && report.refused_sends == other.refused_sends
-        && report.idle_events == other.idle_events
+// All that events lead to over a window.
+fn told<W: Window>(alloc: Global, window: W, events: &[Event]) -> Result<String, AllocError> {
+    let (report, client) = play(alloc, Instrument::simulator(), window, events)?;
+    let mut told = String::new(alloc);
+    tell_lists(&report, &mut told)?;
+    tell_counts(&report, &client, &mut told)?;
+    Ok(told)
+}
+
+fn tell_lists(report: &Report, told: &mut String) -> Result<(), AllocError> {
+    write!(told, "{:?}", report.sent.as_slice())?;
+    write!(told, "{:?}", report.executed.as_slice())?;
+    write!(told, "{:?}", report.made.as_slice())?;
+    write!(told, "{:?}", report.settled.as_slice())?;
+    write!(told, "{:?}", report.starts.as_slice())
+}
+
+fn tell_counts<W: Window>(
+    report: &Report,
+    client: &Client<W>,
+    told: &mut String,
+) -> Result<(), AllocError> {
+    let (up, down) = (report.up.at_start(), report.down.at_start());
+    write!(told, "{up} {down} ")?;
+    write!(told, "{} {} ", report.refused_sends, report.idle_events)?;
+    write!(told, "{} {}", client.waiting(), client.next_id())
 }

@@ -1,6 +1,6 @@
 -- A beginning over a line of ids alone: the line, its two ends, what may happen, and a run.
 use Rattle.std.specs.Prelude.{◌≡◌, ℕ, zero, suc, ◌+◌, ◌%◌, nat_eq, Bool, true, false, List, [], ◌∷◌, ◌++◌, map, Option, Some, None}
-use Rattle.gc_client.specs.Beginning.{IsSubsequence, next_if}
+use Rattle.gc_client.specs.Beginning.{IsSubsequence, left_by_one}
 use Rattle.gc_world.specs.Order.{Each}
 use Rattle.gc_world.specs.World.{without, doubled}
 
@@ -13,7 +13,7 @@ pub record Sent : Type 0 where
 
 -- all there is: the requests and the replies under way, the front of each queue first; the id of the reply that the instrument keeps; and
 -- of the word what isn't answered yet (nothing: it has begun)
-pub record Standing : Type 0 where
+pub record Model : Type 0 where
   pub up : List Sent
   pub down : List Sent
   pub kept : Option ℕ
@@ -39,26 +39,26 @@ pub data Move : Type 0 where
 -- what is left of the word once a reply with this id came: its first id is answered by that, and any other reply is dropped
 abbrev pub heard : List ℕ → ℕ → List ℕ
 heard [] id = []
-heard (asked ∷ rest) id = next_if (nat_eq id asked) asked rest
+heard (asked ∷ rest) id = left_by_one (nat_eq id asked) asked rest
 
 -- the beginner asks, while it has not begun
-abbrev pub asks : Standing → List ℕ → Standing
+abbrev pub asks : Model → List ℕ → Model
 asks s [] = s
 asks s (asked ∷ rest) = record s { up = s.up ++ record { id = asked; old = false } ∷ [] }
 
 -- the instrument replies with the id of the request: by the reply that it keeps, if that has this id, and else it executes the request, and
 -- keeps that reply. So what it keeps has this id from now on, and what it sends is for this request
-abbrev pub reaches : Standing → Bool → List Sent → Standing
+abbrev pub reaches : Model → Bool → List Sent → Model
 reaches s replies [] = s
 reaches s true (x ∷ rest) = record s { up = rest; down = s.down ++ x ∷ []; kept = Some x.id }
 reaches s false (x ∷ rest) = record s { up = rest; kept = Some x.id }
 
-abbrev pub comes : Standing → List Sent → Standing
+abbrev pub comes : Model → List Sent → Model
 comes s [] = s
 comes s (x ∷ rest) = record s { down = rest; left = heard s.left x.id }
 
 -- one move; one that isn't possible changes nothing
-abbrev pub moves : Standing → Move → Standing
+abbrev pub moves : Model → Move → Model
 moves s Ask = asks s s.left
 moves s (Reach replies) = reaches s replies s.up
 moves s Come = comes s s.down
@@ -68,7 +68,7 @@ moves s (Down_lose k) = record s { down = without k s.down }
 moves s (Down_repeat k) = record s { down = doubled k s.down }
 moves s Anew = record s { kept = None }
 
-abbrev pub moved : List Move → Standing → Standing
+abbrev pub moved : List Move → Model → Model
 moved [] s = s
 moved (m ∷ ms) s = moved ms (moves s m)
 
@@ -92,14 +92,14 @@ last z (i ∷ ids) = last i ids
 -- A beginning.
 
 -- it begins: all that is under way is from before, and the word doesn't stand in it, the replies first
-pub record Begins (word : List ℕ) (s : Standing) : Type 0 where
+pub record Begins (word : List ℕ) (s : Model) : Type 0 where
   pub left : s.left ≡ word
   pub up : Each (λ x. x.old ≡ true) s.up
   pub down : Each (λ x. x.old ≡ true) s.down
   pub absent : IsSubsequence word (ids_of s.down ++ ids_of s.up) → ⊥
 
 -- it has begun cleanly: nothing from before is under way, and what is has this id; so has what the instrument keeps, if it keeps anything
-pub record IsClean (id : ℕ) (s : Standing) : Type 0 where
+pub record IsClean (id : ℕ) (s : Model) : Type 0 where
   pub up : Each (λ x. (x.old ≡ false) × (x.id ≡ id)) s.up
   pub down : Each (λ x. (x.old ≡ false) × (x.id ≡ id)) s.down
   pub kept : (i : ℕ) → s.kept ≡ Some i → i ≡ id
@@ -115,5 +115,5 @@ upward i (suc n) = i % 8 ∷ upward (i + 1) n
 abbrev pub aged : List Sent → List Sent
 aged xs = map (λ x. record { id = x.id; old = true }) xs
 
-abbrev pub begun_anew : List ℕ → Standing → Standing
+abbrev pub begun_anew : List ℕ → Model → Model
 begun_anew word s = record { up = aged s.up; down = aged s.down; kept = s.kept; left = word }

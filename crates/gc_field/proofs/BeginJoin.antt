@@ -6,14 +6,14 @@ use Rattle.std.proofs.lemmas.Bool.{ne_eqb}
 use Rattle.std.proofs.lemmas.List.{map-append}
 use Rattle.gc_catalogue.specs.declared.call.Call.{Call}
 use Rattle.gc_catalogue.specs.declared.call.Call.TheVariants.{NullProc}
-use Rattle.gc_client.specs.Beginning.{IsSubsequence, the_word, is_answered, left_by, next_if}
+use Rattle.gc_client.specs.Beginning.{IsSubsequence, the_word, is_answered, left_by, left_by_one}
 use Rattle.gc_client.specs.Rule as rule
 use Rattle.gc_instrument.specs.Replying.{Handed}
 use Rattle.gc_instrument.specs.State.{KeptReply}
 use Rattle.gc_world.specs.Order.{Each}
 use Rattle.gc_world.specs.World.{Ends, Request, without, doubled}
 use Rattle.gc_world.proofs.Options.{some_is, none_is_not}
-use Rattle.gc_field.specs.Begin.{Aged, AreLines, AreTurns, Standing, Turn, Asks, Comes, Foreign, Reaches, Up_lose, Up_repeat, Down_lose, Down_repeat, Anew, Changes, UnderWay, begins, leaves, ids_under_way, asks, comes, reaches, turns, turned}
+use Rattle.gc_field.specs.Begin.{Aged, AreLines, AreTurns, Model, Turn, Asks, Comes, Foreign, Reaches, Up_lose, Up_repeat, Down_lose, Down_repeat, Anew, Changes, UnderWay, begins, leaves, ids_under_way, asks, comes, reaches, turns, turned}
 use Rattle.gc_field.specs.Begun.{HasBegunCleanly, eighth}
 use Rattle.gc_field.specs.Instrument.{IsAnInstrument}
 use Rattle.gc_field.proofs.BeginIds as ids
@@ -56,7 +56,7 @@ mark_down x = record { id = id_or (rule.heard x.line); old = x.old }
 word_small : IsSmall the_word
 word_small = (omega arith, (omega arith, (omega arith, (omega arith, (omega arith, (omega arith, (omega arith, (omega arith, tt))))))))
 
-small_if : (b : Bool) (asked : ℕ) (rest : List ℕ) → IsSmall (asked ∷ rest) → IsSmall (next_if b asked rest)
+small_if : (b : Bool) (asked : ℕ) (rest : List ℕ) → IsSmall (asked ∷ rest) → IsSmall (left_by_one b asked rest)
 small_if true asked rest h = h.1
 small_if false asked rest h = h
 
@@ -67,7 +67,7 @@ small_left (asked ∷ rest) o h = small_if (is_answered (asked ∷ rest) o) aske
 same_left : (left : List ℕ) (o : Option ℕ) → IsSmall left → ids.heard left (id_or o) ≡ left_by left o
 same_left [] o h = refl
 same_left (asked ∷ rest) (Some id) h = refl
-same_left (asked ∷ rest) None h = ap (λ b. next_if b asked rest) (ne_eqb 8 asked (λ e. omega (arith, e, h.0)))
+same_left (asked ∷ rest) None h = ap (λ b. left_by_one b asked rest) (ne_eqb 8 asked (λ e. omega (arith, e, h.0)))
 
 none_left : (left : List ℕ) → left_by left None ≡ left
 none_left [] = refl
@@ -79,7 +79,7 @@ abbrev IsKnown : Aged Request → Type 0
 IsKnown x = (x.line.id < 8) × (x.old ≡ false → x.line.call ≡ NullProc)
 
 module _ {State : Type 0} (ends : Ends State) (Good : State → Type 0) (kept : State → Option KeptReply) (is : IsAnInstrument ends Good kept) where
-  pub record Shows (s : Standing State) (p : ids.Standing) : Type 0 where
+  pub record Shows (s : Model State) (p : ids.Model) : Type 0 where
     pub up : p.up ≡ map mark_up s.up
     pub down : p.down ≡ map mark_down s.down
     pub left : p.left ≡ s.left
@@ -88,7 +88,7 @@ module _ {State : Type 0} (ends : Ends State) (Good : State → Type 0) (kept : 
     pub known : Each IsKnown s.up
     pub small : IsSmall s.left
 
-  shows_asks : (s : Standing State) (p : ids.Standing) (left : List ℕ) → s.left ≡ left → Shows s p → Shows (asks s left) (ids.asks p left)
+  shows_asks : (s : Model State) (p : ids.Model) (left : List ℕ) → s.left ≡ left → Shows s p → Shows (asks s left) (ids.asks p left)
   shows_asks s p [] e g = g
   shows_asks s p (asked ∷ rest) e g =
       let new : Aged Request = record { old = false; line = record { id = asked; call = NullProc } } in
@@ -102,7 +102,7 @@ module _ {State : Type 0} (ends : Ends State) (Good : State → Type 0) (kept : 
         small = g.small;
       }
 
-  shows_comes : (s : Standing State) (p : ids.Standing) (q : List (Aged (List ℕ))) → s.down ≡ q → Shows s p → Shows (comes s q) (ids.comes p (map mark_down q))
+  shows_comes : (s : Model State) (p : ids.Model) (q : List (Aged (List ℕ))) → s.down ≡ q → Shows s p → Shows (comes s q) (ids.comes p (map mark_down q))
   shows_comes s p [] e g = g
   shows_comes s p (x ∷ rest) e g = record {
     up = g.up;
@@ -114,7 +114,7 @@ module _ {State : Type 0} (ends : Ends State) (Good : State → Type 0) (kept : 
     small = small_left s.left (rule.heard x.line) g.small;
   }
 
-  shows_foreign : (s : Standing State) (p : ids.Standing) (line : List ℕ) → rule.heard line ≡ None → Shows s p → Shows (record s { left = left_by s.left (rule.heard line) }) p
+  shows_foreign : (s : Model State) (p : ids.Model) (line : List ℕ) → rule.heard line ≡ None → Shows s p → Shows (record s { left = left_by s.left (rule.heard line) }) p
   shows_foreign s p line e g = record {
     up = g.up;
     down = g.down;
@@ -130,7 +130,7 @@ module _ {State : Type 0} (ends : Ends State) (Good : State → Type 0) (kept : 
   kept_behind k o id line r (inl none) e = absurd (none_is_not r (sym none ∙ e))
   kept_behind k o id line r (inr some) e = ap (λ (x : KeptReply). Some x.id) (some_is (record { id = id; line = line }) r (sym some ∙ e))
 
-  shows_reaches : (s : Standing State) (p : ids.Standing) (q : List (Aged Request)) → s.up ≡ q → Shows s p → Shows (reaches ends s q) (ids.reaches p true (map mark_up q))
+  shows_reaches : (s : Model State) (p : ids.Model) (q : List (Aged Request)) → s.up ≡ q → Shows s p → Shows (reaches ends s q) (ids.reaches p true (map mark_up q))
   shows_reaches s p [] e g = g
   shows_reaches s p (x ∷ rest) e g =
       let known = subst (Each IsKnown) e g.known in
@@ -150,25 +150,26 @@ module _ {State : Type 0} (ends : Ends State) (Good : State → Type 0) (kept : 
         small = g.small;
       }
 
-  shows_up : (s : Standing State) (p : ids.Standing) (up : List (Aged Request)) (ups : List Sent) → ups ≡ map mark_up up → Each IsKnown up → Shows s p → Shows (record s { up = up }) (record p { up = ups })
+  shows_up : (s : Model State) (p : ids.Model) (up : List (Aged Request)) (ups : List Sent) → ups ≡ map mark_up up → Each IsKnown up → Shows s p → Shows (record s { up = up }) (record p { up = ups })
   shows_up s p up ups e known g = record { up = e; down = g.down; left = g.left; keeps = g.keeps; good = g.good; known = known; small = g.small }
 
-  shows_down : (s : Standing State) (p : ids.Standing) (down : List (Aged (List ℕ))) (downs : List Sent) → downs ≡ map mark_down down → Shows s p → Shows (record s { down = down }) (record p { down = downs })
+  shows_down : (s : Model State) (p : ids.Model) (down : List (Aged (List ℕ))) (downs : List Sent) → downs ≡ map mark_down down → Shows s p
+      → Shows (record s { down = down }) (record p { down = downs })
   shows_down s p down downs e g = record { up = g.up; down = e; left = g.left; keeps = g.keeps; good = g.good; known = g.known; small = g.small }
 
   still_kept : (k after : Option KeptReply) (o : Option ℕ) → (after ≡ None) ⊎ (after ≡ k) → ((r : KeptReply) → k ≡ Some r → o ≡ Some r.id) → (r : KeptReply) → after ≡ Some r → o ≡ Some r.id
   still_kept k after o (inl none) f r e = absurd (none_is_not r (sym none ∙ e))
   still_kept k after o (inr same) f r e = f r (sym same ∙ e)
 
-  shows_state : (s : Standing State) (p : ids.Standing) (state : State) → Good state → (kept state ≡ None) ⊎ (kept state ≡ kept s.state) → Shows s p → Shows (record s { state = state }) p
+  shows_state : (s : Model State) (p : ids.Model) (state : State) → Good state → (kept state ≡ None) ⊎ (kept state ≡ kept s.state) → Shows s p → Shows (record s { state = state }) p
   shows_state s p state good same g =
       record { up = g.up; down = g.down; left = g.left; keeps = still_kept (kept s.state) (kept state) p.kept same g.keeps; good = good; known = g.known; small = g.small }
 
   -- any turns are some moves over the ids
-  abbrev IsShown : Standing State → ids.Standing → Type 0
+  abbrev IsShown : Model State → ids.Model → Type 0
   IsShown s p = (ms : List ids.Move) × Shows s (moved ms p)
 
-  pub shown : (ts : List (Turn State)) (s : Standing State) (p : ids.Standing) → AreTurns ends Good kept ts s → Shows s p → IsShown (turned ends ts s) p
+  pub shown : (ts : List (Turn State)) (s : Model State) (p : ids.Model) → AreTurns ends Good kept ts s → Shows s p → IsShown (turned ends ts s) p
   shown [] s p h g = ([], g)
   shown (Asks ∷ ts) s p h g =
       let r = shown ts (turns ends s Asks) (ids.moves p ids.Ask) h.1 (subst (λ l. Shows (asks s s.left) (ids.asks p l)) (sym g.left) (shows_asks s p s.left refl g)) in
@@ -181,16 +182,20 @@ module _ {State : Type 0} (ends : Ends State) (Good : State → Type 0) (kept : 
       let r = shown ts (turns ends s Reaches) (ids.moves p (ids.Reach true)) h.1 (subst (λ l. Shows (reaches ends s s.up) (ids.reaches p true l)) (sym g.up) (shows_reaches s p s.up refl g)) in
       (ids.Reach true ∷ r.0, r.1)
   shown (Up_lose k ∷ ts) s p h g =
-      let r = shown ts (turns ends s (Up_lose k)) (ids.moves p (ids.Up_lose k)) h.1 (shows_up s p (without k s.up) (without k p.up) (ap (without k) g.up ∙ map_without mark_up k s.up) (each_without IsKnown k s.up g.known) g) in
+      let r = shown ts (turns ends s (Up_lose k)) (ids.moves p (ids.Up_lose k)) h.1
+      (shows_up s p (without k s.up) (without k p.up) (ap (without k) g.up ∙ map_without mark_up k s.up) (each_without IsKnown k s.up g.known) g) in
       (ids.Up_lose k ∷ r.0, r.1)
   shown (Up_repeat k ∷ ts) s p h g =
-      let r = shown ts (turns ends s (Up_repeat k)) (ids.moves p (ids.Up_repeat k)) h.1 (shows_up s p (doubled k s.up) (doubled k p.up) (ap (doubled k) g.up ∙ map_doubled mark_up k s.up) (each_doubled IsKnown k s.up g.known) g) in
+      let r = shown ts (turns ends s (Up_repeat k)) (ids.moves p (ids.Up_repeat k)) h.1
+      (shows_up s p (doubled k s.up) (doubled k p.up) (ap (doubled k) g.up ∙ map_doubled mark_up k s.up) (each_doubled IsKnown k s.up g.known) g) in
       (ids.Up_repeat k ∷ r.0, r.1)
   shown (Down_lose k ∷ ts) s p h g =
-      let r = shown ts (turns ends s (Down_lose k)) (ids.moves p (ids.Down_lose k)) h.1 (shows_down s p (without k s.down) (without k p.down) (ap (without k) g.down ∙ map_without mark_down k s.down) g) in
+      let r = shown ts (turns ends s (Down_lose k)) (ids.moves p (ids.Down_lose k)) h.1
+      (shows_down s p (without k s.down) (without k p.down) (ap (without k) g.down ∙ map_without mark_down k s.down) g) in
       (ids.Down_lose k ∷ r.0, r.1)
   shown (Down_repeat k ∷ ts) s p h g =
-      let r = shown ts (turns ends s (Down_repeat k)) (ids.moves p (ids.Down_repeat k)) h.1 (shows_down s p (doubled k s.down) (doubled k p.down) (ap (doubled k) g.down ∙ map_doubled mark_down k s.down) g) in
+      let r = shown ts (turns ends s (Down_repeat k)) (ids.moves p (ids.Down_repeat k)) h.1
+      (shows_down s p (doubled k s.down) (doubled k p.down) (ap (doubled k) g.down ∙ map_doubled mark_down k s.down) g) in
       (ids.Down_repeat k ∷ r.0, r.1)
   shown (Anew ∷ ts) s p h g = shown ts (turns ends s Anew) p h.1 (shows_state s p (ends.restarted s.state) (is.starts_good s.state g.good) (is.starts s.state g.good) g)
   shown (Changes state ∷ ts) s p h g = shown ts (turns ends s (Changes state)) p h.1 (shows_state s p state h.0.0 (inr h.0.1) g)
@@ -202,7 +207,7 @@ module _ {State : Type 0} (ends : Ends State) (Good : State → Type 0) (kept : 
   kept_id (Some k) = Some k.id
 
   -- what is under way, as ids
-  abbrev marks : UnderWay State → ids.Standing
+  abbrev marks : UnderWay State → ids.Model
   marks u = record {
     up = map (λ x. record { id = x.id; old = true }) u.up;
     down = map (λ x. record { id = id_or (rule.heard x); old = true }) u.down;
@@ -243,7 +248,8 @@ module _ {State : Type 0} (ends : Ends State) (Good : State → Type 0) (kept : 
   ids_up (x ∷ xs) = ap (λ l. x.id ∷ l) (ids_up xs)
 
   -- among the ids of lines, and any behind them
-  of_lines : (o : Option ℕ) (word ids : List ℕ) (others : List ℕ) → IsSmall word → ((w : List ℕ) → IsSmall w → IsSubsequence w ids → IsSubsequence w others) → IsSubsequence word (id_or o ∷ ids) → IsSubsequence word (cons_option o others)
+  of_lines : (o : Option ℕ) (word ids : List ℕ) (others : List ℕ) → IsSmall word → ((w : List ℕ) → IsSmall w → IsSubsequence w ids → IsSubsequence w others)
+      → IsSubsequence word (id_or o ∷ ids) → IsSubsequence word (cons_option o others)
   of_lines o [] ids others s f h = tt
   of_lines (Some id) (w ∷ word) ids others s f (inl h) = inl (h.0, f word s.1 h.1)
   of_lines (Some id) (w ∷ word) ids others s f (inr h) = inr (f (w ∷ word) s h)
@@ -256,21 +262,28 @@ module _ {State : Type 0} (ends : Ends State) (Good : State → Type 0) (kept : 
   to_lines (Some id) (w ∷ word) ids others f (inr h) = inr (f (w ∷ word) h)
   to_lines None (w ∷ word) ids others f h = inr (f (w ∷ word) h)
 
-  marked_lines : (down : List (List ℕ)) (word up ups : List ℕ) → up ≡ ups → IsSmall word → IsSubsequence word (ids_of (map (λ x. record { id = id_or (rule.heard x); old = true }) down) ++ up) → IsSubsequence word (filter_map rule.heard down ++ ups)
+  marked_lines : (down : List (List ℕ)) (word up ups : List ℕ) → up ≡ ups → IsSmall word
+      → IsSubsequence word (ids_of (map (λ x. record { id = id_or (rule.heard x); old = true }) down) ++ up)
+      → IsSubsequence word (filter_map rule.heard down ++ ups)
   marked_lines [] word up ups e s h = subst (IsSubsequence word) e h
   marked_lines (x ∷ down) word up ups e s h =
-      split (rule.heard x) word (of_lines (rule.heard x) word (ids_of (map (λ x. record { id = id_or (rule.heard x); old = true }) down) ++ up) (filter_map rule.heard down ++ ups) s (λ w t g. marked_lines down w up ups e t g) h)
+      split (rule.heard x) word (of_lines (rule.heard x) word (ids_of (map
+      (λ x. record { id = id_or (rule.heard x); old = true }) down) ++ up) (filter_map rule.heard down ++ ups) s
+      (λ w t g. marked_lines down w up ups e t g) h)
     where
       split : (o : Option ℕ) (word : List ℕ) → IsSubsequence word (cons_option o (filter_map rule.heard down ++ ups)) → IsSubsequence word (cons_option o (filter_map rule.heard down) ++ ups)
       split None word h = h
       split (Some id) word h = h
 
-  lines_marked : (down : List (Aged (List ℕ))) (word up ups : List ℕ) → up ≡ ups → IsSubsequence word (filter_map rule.heard (map (λ x. x.line) down) ++ up) → IsSubsequence word (ids_of (map mark_down down) ++ ups)
+  lines_marked : (down : List (Aged (List ℕ))) (word up ups : List ℕ) → up ≡ ups
+      → IsSubsequence word (filter_map rule.heard (map (λ x. x.line) down) ++ up) → IsSubsequence word (ids_of (map mark_down down) ++ ups)
   lines_marked [] word up ups e h = subst (IsSubsequence word) e h
   lines_marked (x ∷ down) word up ups e h =
-      to_lines (rule.heard x.line) word (ids_of (map mark_down down) ++ ups) (filter_map rule.heard (map (λ x. x.line) down) ++ up) (λ w g. lines_marked down w up ups e g) (split (rule.heard x.line) word h)
+      to_lines (rule.heard x.line) word (ids_of (map mark_down down) ++ ups)
+      (filter_map rule.heard (map (λ x. x.line) down) ++ up) (λ w g. lines_marked down w up ups e g) (split (rule.heard x.line) word h)
     where
-      split : (o : Option ℕ) (word : List ℕ) → IsSubsequence word (cons_option o (filter_map rule.heard (map (λ x. x.line) down)) ++ up) → IsSubsequence word (cons_option o (filter_map rule.heard (map (λ x. x.line) down) ++ up))
+      split : (o : Option ℕ) (word : List ℕ) → IsSubsequence word (cons_option o
+          (filter_map rule.heard (map (λ x. x.line) down)) ++ up) → IsSubsequence word (cons_option o (filter_map rule.heard (map (λ x. x.line) down) ++ up))
       split None word h = h
       split (Some id) word h = h
 
@@ -281,7 +294,7 @@ module _ {State : Type 0} (ends : Ends State) (Good : State → Type 0) (kept : 
   up_left [] = refl
   up_left (x ∷ xs) = ap (λ l. x.line.id ∷ l) (up_left xs)
 
-  left_marks : (s : Standing State) (p : ids.Standing) (word : List ℕ) → Shows s p → IsSubsequence word (ids_under_way (leaves s)) → IsSubsequence word (under_way p)
+  left_marks : (s : Model State) (p : ids.Model) (word : List ℕ) → Shows s p → IsSubsequence word (ids_under_way (leaves s)) → IsSubsequence word (under_way p)
   left_marks s p word g h =
       subst (λ l. IsSubsequence word (ids_of l ++ ids_of p.up)) (sym g.down)
       (subst (λ l. IsSubsequence word (ids_of (map mark_down s.down) ++ ids_of l)) (sym g.up)
@@ -304,14 +317,15 @@ module _ {State : Type 0} (ends : Ends State) (Good : State → Type 0) (kept : 
   clean_down [] h = tt
   clean_down (x ∷ xs) h = ((h.0.0, heard_seven (rule.heard x.line) h.0.1), clean_down xs h.1)
 
-  clean : (s : Standing State) (p : ids.Standing) → Shows s p → IsClean 7 p → HasBegunCleanly kept s
+  clean : (s : Model State) (p : ids.Model) → Shows s p → IsClean 7 p → HasBegunCleanly kept s
   clean s p g c = record {
     up = clean_up s.up g.known (subst (Each (λ x. (x.old ≡ false) × (x.id ≡ 7))) g.up c.up);
     down = clean_down s.down (subst (Each (λ x. (x.old ≡ false) × (x.id ≡ 7))) g.down c.down);
     keeps = λ k e. c.kept k.id (g.keeps k e);
   }
 
-  pub begins_cleanly : (u : UnderWay State) (ts : List (Turn State)) → AreLines Good u → AreTurns ends Good kept ts (begins u) → (IsSubsequence the_word (ids_under_way u) → ⊥) → (turned ends ts (begins u)).left ≡ []
+  pub begins_cleanly : (u : UnderWay State) (ts : List (Turn State)) → AreLines Good u → AreTurns ends Good kept ts (begins u)
+      → (IsSubsequence the_word (ids_under_way u) → ⊥) → (turned ends ts (begins u)).left ≡ []
       → HasBegunCleanly kept (turned ends ts (begins u))
   begins_cleanly u ts lines possible none done =
       let r = shown ts (begins u) (begun_anew the_word (marks u)) possible (shows_begins u lines) in
@@ -328,7 +342,8 @@ module _ {State : Type 0} (ends : Ends State) (Good : State → Type 0) (kept : 
       only [] h = tt
       only (x ∷ xs) h = (h.0.0, only xs h.1)
 
-  pub left_absent : (u : UnderWay State) (ts : List (Turn State)) (a b : ℕ) (more : List ℕ) (c : ℕ) (tail : List ℕ) → the_word ≡ a ∷ b ∷ (more ++ c ∷ tail) → AreLines Good u → AreTurns ends Good kept ts (begins u)
+  pub left_absent : (u : UnderWay State) (ts : List (Turn State)) (a b : ℕ) (more : List ℕ) (c : ℕ) (tail : List ℕ) → the_word ≡ a ∷ b ∷ (more ++ c ∷ tail)
+      → AreLines Good u → AreTurns ends Good kept ts (begins u)
       → (IsSubsequence (a ∷ b ∷ more) (ids_under_way u) → ⊥) → IsSubsequence (a ∷ b ∷ (more ++ c ∷ [])) (ids_under_way (leaves (turned ends ts (begins u)))) → ⊥
   left_absent u ts a b more c tail e lines possible none h =
       let r = shown ts (begins u) (begun_anew the_word (marks u)) possible (shows_begins u lines) in

@@ -1,14 +1,14 @@
 -- Beginnings that are killed: each makes the front of the word that stands in the line longer by one id at most.
 use Rattle.std.proofs.Common.{◌≡◌, ℕ, zero, ◌⊎◌, inl, inr, Bool, true, false, List, [], ◌∷◌, ◌++◌, nat_eq, refl, sym, ◌∙◌, ap, subst, append-nil}
 use Rattle.std.proofs.lemmas.Bool.{eqb-true}
-use Rattle.gc_client.specs.Beginning.{next_if, IsSubsequence, the_word}
-use Rattle.gc_field.proofs.BeginIds.{Sent, Standing, Move, heard, moved, aged, begun_anew, Pairs, AllDiffer, Begins, ids_of}
+use Rattle.gc_client.specs.Beginning.{left_by_one, IsSubsequence, the_word}
+use Rattle.gc_field.proofs.BeginIds.{Sent, Model, Move, heard, moved, aged, begun_anew, Pairs, AllDiffer, Begins, ids_of}
 use Rattle.gc_world.specs.Order.{Each}
 use Rattle.gc_world.specs.World.{without, doubled}
 use Rattle.gc_field.proofs.BeginLists.{each_more, each_both, each_append, each_back, each_without, each_doubled, pairs_front, pairs_back, goes_over}
 use Rattle.gc_field.proofs.BeginWords.{Has, stands_front, stands_each, never, word_differs}
 use Rattle.gc_field.proofs.BeginMoves.{Lasts, holds_moved}
-use Rattle.gc_field.proofs.BeginLines.{IsLine, IsOld, IsOwn, IsBefore, HasNone, Follows, AreOwn, old_if, olds, olds_all, olds_push, has_without, has_doubled, line_without, line_doubled, line_asked, line_came}
+use Rattle.gc_field.proofs.BeginLines.{IsLine, IsOld, IsOwn, IsBefore, HasNone, KeepsTheId, AreOwn, old_if, olds, olds_all, olds_push, has_without, has_doubled, line_without, line_doubled, line_asked, line_came}
 use Rattle.gc_field.proofs.BeginSound.{sound_at_start}
 
 -- The invariant of one beginning.
@@ -103,7 +103,7 @@ module _ (z : ℕ) (word first : List ℕ) where
 
   own_answers : (id : ℕ) (later : List ℕ) (x : Sent) (rest : List Sent) → IsLine z (id ∷ later) (x ∷ rest) → IsOwn x → x.id ≡ id → IsOver later rest
   own_answers id later x rest h o e =
-      (id, each_both (IsBefore x) (Follows id x) (λ y. IsOwn y × IsNear id later y.id) (λ y f g. (f o, inl (g o e))) rest h.ordered.0 h.own.1.0)
+      (id, each_both (IsBefore x) (KeepsTheId id x) (λ y. IsOwn y × IsNear id later y.id) (λ y f g. (f o, inl (g o e))) rest h.ordered.0 h.own.1.0)
 
   phase_answered : (id : ℕ) (later done : List ℕ) (x : Sent) (rest : List Sent) (b : Bool) → x.old ≡ b → IsLine z (id ∷ later) (x ∷ rest) → x.id ≡ id
       → IsHearing first done (x ∷ rest) ⊎ IsOver (id ∷ later) (x ∷ rest) → IsHearing first (done ++ id ∷ []) rest ⊎ IsOver later rest
@@ -114,10 +114,10 @@ module _ (z : ℕ) (word first : List ℕ) where
   trying_came : (left : List ℕ) (x : Sent) (rest : List Sent) → IsTrying z word first left (x ∷ rest) → IsTrying z word first (heard left x.id) rest
   trying_came [] x rest h = trying_lost [] zero (x ∷ rest) h
   trying_came (id ∷ later) x rest h = chosen (nat_eq x.id id) refl (line_came z (id ∷ later) x rest h.sound) where
-    chosen : (b : Bool) → nat_eq x.id id ≡ b → IsLine z (next_if (nat_eq x.id id) id later) rest → IsTrying z word first (next_if b id later) rest
+    chosen : (b : Bool) → nat_eq x.id id ≡ b → IsLine z (left_by_one (nat_eq x.id id) id later) rest → IsTrying z word first (left_by_one b id later) rest
     chosen true e line =
         record {
-          sound = subst (λ b. IsLine z (next_if b id later) rest) e line;
+          sound = subst (λ b. IsLine z (left_by_one b id later) rest) e line;
           done = h.done ++ id ∷ [];
           split = h.split ∙ sym (goes_over h.done id later);
           phase = phase_answered id later h.done x rest x.old refl h.sound (eqb-true x.id id e) h.phase;
@@ -157,13 +157,18 @@ each_id P (x ∷ xs) h = (h.0, each_id P xs h.1)
 in_old : (xs : List Sent) (front : List ℕ) (c : ℕ) → Pairs IsBefore xs → Each (λ x. IsOwn x → c ≡ x.id → ⊥) xs → IsSubsequence (front ++ c ∷ []) (ids_of xs) → IsSubsequence (front ++ c ∷ []) (olds xs)
 in_old [] front c before none s = s
 in_old (x ∷ xs) front c before none s = chosen x.old refl (λ f. in_old xs f c before.1 none.1) front s where
-  chosen : (b : Bool) → x.old ≡ b → ((f : List ℕ) → IsSubsequence (f ++ c ∷ []) (ids_of xs) → IsSubsequence (f ++ c ∷ []) (olds xs)) → (front : List ℕ) → IsSubsequence (front ++ c ∷ []) (x.id ∷ ids_of xs) → IsSubsequence (front ++ c ∷ []) (old_if b x.id (olds xs))
+  chosen : (b : Bool) → x.old ≡ b → ((f : List ℕ) → IsSubsequence (f ++ c ∷ []) (ids_of xs) → IsSubsequence (f ++ c ∷ []) (olds xs)) → (front : List ℕ)
+      → IsSubsequence (front ++ c ∷ []) (x.id ∷ ids_of xs) → IsSubsequence (front ++ c ∷ []) (old_if b x.id (olds xs))
   chosen true o f [] (inl s) = inl (s.0, tt)
   chosen true o f [] (inr s) = inr (f [] s)
   chosen true o f (a ∷ front) (inl s) = inl (s.0, f front s.1)
   chosen true o f (a ∷ front) (inr s) = inr (f (a ∷ front) s)
   chosen false o f front s =
-      absurd (own_has_no front c (x.id ∷ ids_of xs) (none.0 o, each_id (λ i. c ≡ i → ⊥) xs (each_both (IsBefore x) (λ y. IsOwn y → c ≡ y.id → ⊥) (λ y. c ≡ y.id → ⊥) (λ y g n. n (g o)) xs before.0 none.1)) s)
+      absurd (own_has_no front c (x.id ∷ ids_of xs) (
+        none.0 o,
+        each_id
+            (λ i. c ≡ i → ⊥) xs (each_both (IsBefore x) (λ y. IsOwn y → c ≡ y.id → ⊥) (λ y. c ≡ y.id → ⊥) (λ y g n. n (g o)) xs before.0 none.1),
+      ) s)
 
 -- three ids that differ are not of two
 same_asked : (left : List ℕ) (i j : ℕ) → IsAsked i left → IsAsked j left → i ≡ j
@@ -178,9 +183,11 @@ not_three p left a b c ab ac bc (inl x) (inr y) (inr z) = bc (same_asked left b 
 not_three p left a b c ab ac bc (inr x) (inl y) (inl z) = bc (y ∙ sym z)
 not_three p left a b c ab ac bc (inr x) (inl y) (inr z) = ac (same_asked left a c x z)
 
-over_short : (p : ℕ) (left word : List ℕ) (line : List Sent) (a b c : ℕ) → AllDiffer (a ∷ b ∷ c ∷ word) → Each (λ x. IsOwn x × IsNear p left x.id) line → IsSubsequence (a ∷ b ∷ c ∷ word) (ids_of line) → ⊥
+over_short : (p : ℕ) (left word : List ℕ) (line : List Sent) (a b c : ℕ) → AllDiffer (a ∷ b ∷ c ∷ word)
+    → Each (λ x. IsOwn x × IsNear p left x.id) line → IsSubsequence (a ∷ b ∷ c ∷ word) (ids_of line) → ⊥
 over_short p left word line a b c d h s =
-    let near = stands_each (IsNear p left) (a ∷ b ∷ c ∷ word) (ids_of line) (each_id (IsNear p left) line (each_more (λ x. IsOwn x × IsNear p left x.id) (λ x. IsNear p left x.id) (λ x g. g.1) line h)) s in
+    let near = stands_each (IsNear p left) (a ∷ b ∷ c ∷ word) (ids_of line)
+    (each_id (IsNear p left) line (each_more (λ x. IsOwn x × IsNear p left x.id) (λ x. IsNear p left x.id) (λ x g. g.1) line h)) s in
     not_three p left a b c d.0.0 d.0.1.0 d.1.0.0 near.0 near.1.0 near.1.1.0
 
 -- a front of at least two ids that did not stand at the start stands now with no further one
@@ -190,7 +197,8 @@ no_longer z word first left line a b more c tail e d none h s =
     elim h.phase [
       | inl g ↦ (
           elim (fronts h.done left (a ∷ b ∷ more) c tail (sym h.split ∙ e)) [
-            | inl f ↦ none (stands_front (a ∷ b ∷ more) f.0 first (subst (λ l. IsSubsequence l first) (append-nil h.done ∙ f.1) (g.heard [] (subst AllDiffer (sym (append-nil h.done)) done_differs) tt)))
+            | inl f ↦ none (stands_front (a ∷ b ∷ more) f.0 first (subst
+                (λ l. IsSubsequence l first) (append-nil h.done ∙ f.1) (g.heard [] (subst AllDiffer (sym (append-nil h.done)) done_differs) tt)))
             | inr f ↦ none (stands_front (a ∷ b ∷ more) (c ∷ []) first (g.from front front_differs (in_old line (a ∷ b ∷ more) c h.sound.ordered (own_none f.0 f.1 f.2) s)))
           ])
       | inr g ↦ third more front_differs s g.0 g.1
@@ -228,16 +236,16 @@ ids_append : (xs ys : List Sent) → ids_of (xs ++ ys) ≡ ids_of xs ++ ids_of y
 ids_append [] ys = refl
 ids_append (x ∷ xs) ys = ap (λ l. x.id ∷ l) (ids_append xs ys)
 
-abbrev pub under_way : Standing → List ℕ
+abbrev pub under_way : Model → List ℕ
 under_way s = ids_of s.down ++ ids_of s.up
 
-ids_anew : (s : Standing) → under_way (begun_anew the_word s) ≡ under_way s
+ids_anew : (s : Model) → under_way (begun_anew the_word s) ≡ under_way s
 ids_anew s = ap (λ l. l ++ ids_of (aged s.up)) (ids_aged s.down) ∙ ap (λ l. ids_of s.down ++ l) (ids_aged s.up)
 
-pub begins_anew : (s : Standing) → (IsSubsequence the_word (under_way s) → ⊥) → Begins the_word (begun_anew the_word s)
+pub begins_anew : (s : Model) → (IsSubsequence the_word (under_way s) → ⊥) → Begins the_word (begun_anew the_word s)
 begins_anew s none = record { left = refl; up = all_aged s.up; down = all_aged s.down; absent = λ h. none (subst (λ ids. IsSubsequence the_word ids) (ids_anew s) h) }
 
-trying_at_start : (s : Standing) → Begins the_word s → IsTrying 7 the_word (under_way s) s.left (s.down ++ s.up)
+trying_at_start : (s : Model) → Begins the_word s → IsTrying 7 the_word (under_way s) s.left (s.down ++ s.up)
 trying_at_start s h =
     let same = olds_all s.down s.up h.down h.up in
     record {
@@ -248,10 +256,11 @@ trying_at_start s h =
     }
 
 -- behind one beginning, killed anywhere
-pub behind_one : (s : Standing) (ms : List Move) (a b : ℕ) (more : List ℕ) (c : ℕ) (tail : List ℕ) → the_word ≡ a ∷ b ∷ (more ++ c ∷ tail) → (IsSubsequence (a ∷ b ∷ more) (under_way s) → ⊥) → IsSubsequence (a ∷ b ∷ (more ++ c ∷ [])) (under_way (moved ms (begun_anew the_word s))) → ⊥
+pub behind_one : (s : Model) (ms : List Move) (a b : ℕ) (more : List ℕ) (c : ℕ) (tail : List ℕ) → the_word ≡ a ∷ b ∷ (more ++ c ∷ tail)
+    → (IsSubsequence (a ∷ b ∷ more) (under_way s) → ⊥) → IsSubsequence (a ∷ b ∷ (more ++ c ∷ [])) (under_way (moved ms (begun_anew the_word s))) → ⊥
 behind_one s ms a b more c tail e none h =
-    let anew : Standing = begun_anew the_word s in
-    let end : Standing = moved ms anew in
+    let anew : Model = begun_anew the_word s in
+    let end : Model = moved ms anew in
     let begins : Begins the_word anew = begins_anew s (λ g. none (stands_front (a ∷ b ∷ more) (c ∷ tail) (under_way s) (subst (λ w. IsSubsequence w (under_way s)) e g))) in
     let trying = holds_moved (IsTrying 7 the_word (under_way anew)) (trying_lasts 7 the_word (under_way anew)) ms anew (trying_at_start anew begins) in
     no_longer 7 the_word (under_way anew) end.left (end.down ++ end.up) a b more c tail e word_differs

@@ -1,7 +1,7 @@
 -- The whole line, replies first: what holds of it from the beginning on, whatever it loses or repeats, and whatever comes.
 use Rattle.std.proofs.Common.{◌≡◌, ℕ, zero, suc, inl, Bool, true, false, List, [], ◌∷◌, ◌++◌, nat_eq, refl, sym, ◌∙◌, ap, subst}
 use Rattle.std.proofs.lemmas.Bool.{eqb-true}
-use Rattle.gc_client.specs.Beginning.{next_if, IsSubsequence}
+use Rattle.gc_client.specs.Beginning.{left_by_one, IsSubsequence}
 use Rattle.gc_field.proofs.BeginIds.{Sent, heard, Pairs, AllDiffer, ids_of, last}
 use Rattle.gc_world.specs.Order.{Each}
 use Rattle.gc_world.specs.World.{without, doubled}
@@ -34,13 +34,13 @@ abbrev pub HasNone : List ℕ → Sent → Type 0
 HasNone ids x = IsOwn x → Each (λ i. i ≡ x.id → ⊥) ids
 
 -- behind an own one with the id that is asked for now there are only such
-abbrev pub Follows : ℕ → Sent → Sent → Type 0
-Follows asked x y = IsOwn x → x.id ≡ asked → y.id ≡ asked
+abbrev pub KeepsTheId : ℕ → Sent → Sent → Type 0
+KeepsTheId asked x y = IsOwn x → x.id ≡ asked → y.id ≡ asked
 
 -- the own ones: none has an id that will be asked for later; and once it has begun, each has the last one
 abbrev pub AreOwn : ℕ → List ℕ → List Sent → Type 0
 AreOwn z [] line = Each (λ x. IsOwn x → x.id ≡ z) line
-AreOwn z (asked ∷ later) line = Each (HasNone later) line × Pairs (Follows asked) line
+AreOwn z (asked ∷ later) line = Each (HasNone later) line × Pairs (KeepsTheId asked) line
 
 -- the line, where this is left of a word whose last id is z
 pub record IsLine (z : ℕ) (left : List ℕ) (line : List Sent) : Type 0 where
@@ -111,11 +111,11 @@ has_doubled (suc k) (x ∷ xs) = has_if x.old x.id (olds (doubled k xs)) (olds x
 
 own_without : (z : ℕ) (left : List ℕ) (k : ℕ) (line : List Sent) → AreOwn z left line → AreOwn z left (without k line)
 own_without z [] k line h = each_without (λ x. IsOwn x → x.id ≡ z) k line h
-own_without z (asked ∷ later) k line h = (each_without (HasNone later) k line h.0, pairs_without (Follows asked) k line h.1)
+own_without z (asked ∷ later) k line h = (each_without (HasNone later) k line h.0, pairs_without (KeepsTheId asked) k line h.1)
 
 own_doubled : (z : ℕ) (left : List ℕ) (k : ℕ) (line : List Sent) → AreOwn z left line → AreOwn z left (doubled k line)
 own_doubled z [] k line h = each_doubled (λ x. IsOwn x → x.id ≡ z) k line h
-own_doubled z (asked ∷ later) k line h = (each_doubled (HasNone later) k line h.0, pairs_doubled (Follows asked) (λ x o e. e) k line h.1)
+own_doubled z (asked ∷ later) k line h = (each_doubled (HasNone later) k line h.0, pairs_doubled (KeepsTheId asked) (λ x o e. e) k line h.1)
 
 pub line_without : (z : ℕ) (left : List ℕ) (k : ℕ) (line : List Sent) → IsLine z left line → IsLine z left (without k line)
 line_without z left k line h =
@@ -149,7 +149,7 @@ line_asked z asked later line h =
       clear = λ s. olds_push asked line ∙ h.clear (subst (λ l. IsSubsequence (asked ∷ later) l) (olds_push asked line) s);
       own = (
         each_append (HasNone later) line (new ∷ []) h.own.0 ((λ o. each_more (λ i. asked ≡ i → ⊥) (λ i. i ≡ asked → ⊥) (λ i f e. f (sym e)) later h.differ.0), tt),
-        pairs_push (Follows asked) new (λ x o e. refl) line h.own.1,
+        pairs_push (KeepsTheId asked) new (λ x o e. refl) line h.own.1,
       );
     }
 
@@ -173,10 +173,10 @@ ends_behind z asked (i ∷ later) e = e
 
 own_answered : (z asked : ℕ) (later : List ℕ) (x : Sent) (rest : List Sent) → IsLine z (asked ∷ later) (x ∷ rest) → x.id ≡ asked → AreOwn z later rest
 own_answered z asked [] x rest h e =
-    each_more (Follows asked x) (λ y. IsOwn y → y.id ≡ z) (λ y f o. f (is_own z asked x rest h e) e ∙ h.ends) rest h.own.1.0
+    each_more (KeepsTheId asked x) (λ y. IsOwn y → y.id ≡ z) (λ y f o. f (is_own z asked x rest h e) e ∙ h.ends) rest h.own.1.0
 own_answered z asked (i ∷ later) x rest h e = (
   each_more (HasNone (i ∷ later)) (HasNone later) (λ y f o. (f o).1) rest h.own.0.1,
-  pairs_of_each (HasNone (i ∷ later)) (Follows i) (λ y w f o g. absurd ((f o).0 (sym g))) rest h.own.0.1,
+  pairs_of_each (HasNone (i ∷ later)) (KeepsTheId i) (λ y w f o g. absurd ((f o).0 (sym g))) rest h.own.0.1,
 )
 
 clear_answered : (z asked : ℕ) (later : List ℕ) (x : Sent) (rest : List Sent) → IsLine z (asked ∷ later) (x ∷ rest) → x.id ≡ asked → IsSubsequence later (olds rest) → olds rest ≡ []
@@ -198,6 +198,6 @@ line_answered z asked later x rest h e =
 pub line_came : (z : ℕ) (left : List ℕ) (x : Sent) (rest : List Sent) → IsLine z left (x ∷ rest) → IsLine z (heard left x.id) rest
 line_came z [] x rest h = line_without z [] zero (x ∷ rest) h
 line_came z (asked ∷ later) x rest h = chosen (nat_eq x.id asked) refl where
-  chosen : (b : Bool) → nat_eq x.id asked ≡ b → IsLine z (next_if b asked later) rest
+  chosen : (b : Bool) → nat_eq x.id asked ≡ b → IsLine z (left_by_one b asked later) rest
   chosen true e = line_answered z asked later x rest h (eqb-true x.id asked e)
   chosen false e = line_without z (asked ∷ later) zero (x ∷ rest) h

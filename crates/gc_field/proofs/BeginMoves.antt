@@ -1,6 +1,6 @@
 -- What lasts over the four things that happen to the whole line, replies first, lasts over each move and each run.
 use Rattle.std.proofs.Common.{◌≡◌, ℕ, zero, inl, inr, Bool, true, false, List, [], ◌∷◌, ◌++◌, refl, sym, subst}
-use Rattle.gc_field.proofs.BeginIds.{Sent, Standing, Move, Ask, Reach, Come, Up_lose, Up_repeat, Down_lose, Down_repeat, Anew, heard, asks, reaches, comes, moves, moved}
+use Rattle.gc_field.proofs.BeginIds.{Sent, Model, Move, Ask, Reach, Come, Up_lose, Up_repeat, Down_lose, Down_repeat, Anew, heard, asks, reaches, comes, moves, moved}
 use Rattle.gc_world.specs.World.{without, doubled}
 use Rattle.gc_field.proofs.BeginLists.{lost_back, lost_front, twice_back, twice_front, goes_over, behind_both}
 
@@ -13,10 +13,10 @@ pub record Lasts (I : List ℕ → List Sent → Type 0) : Type 0 where
 
 module _ (I : List ℕ → List Sent → Type 0) (lasts : Lasts I) where
   -- it holds of a standing
-  abbrev pub Holds : Standing → Type 0
+  abbrev pub Holds : Model → Type 0
   Holds s = I s.left (s.down ++ s.up)
 
-  holds_asks : (s : Standing) (left : List ℕ) → s.left ≡ left → Holds s → Holds (asks s left)
+  holds_asks : (s : Model) (left : List ℕ) → s.left ≡ left → Holds s → Holds (asks s left)
   holds_asks s [] e h = h
   holds_asks s (id ∷ later) e h =
       let new : Sent = record { id = id; old = false } in
@@ -24,7 +24,7 @@ module _ (I : List ℕ → List Sent → Type 0) (lasts : Lasts I) where
       (subst (λ q. I (id ∷ later) q) (sym (behind_both s.down s.up (new ∷ [])))
       (lasts.asked id later (s.down ++ s.up) (subst (λ l. I l (s.down ++ s.up)) e h)))
 
-  holds_reaches : (s : Standing) (replies : Bool) (up : List Sent) → s.up ≡ up → Holds s → Holds (reaches s replies up)
+  holds_reaches : (s : Model) (replies : Bool) (up : List Sent) → s.up ≡ up → Holds s → Holds (reaches s replies up)
   holds_reaches s replies [] e h = h
   holds_reaches s true (x ∷ rest) e h =
       subst (λ q. I s.left q) (sym (goes_over s.down x rest)) (subst (λ q. I s.left (s.down ++ q)) e h)
@@ -32,11 +32,11 @@ module _ (I : List ℕ → List Sent → Type 0) (lasts : Lasts I) where
       let lost = lost_back zero s.down (x ∷ rest) in
       subst (λ q. I s.left q) (sym lost.1) (lasts.lost s.left lost.0 (s.down ++ x ∷ rest) (subst (λ q. I s.left (s.down ++ q)) e h))
 
-  holds_comes : (s : Standing) (down : List Sent) → s.down ≡ down → Holds s → Holds (comes s down)
+  holds_comes : (s : Model) (down : List Sent) → s.down ≡ down → Holds s → Holds (comes s down)
   holds_comes s [] e h = h
   holds_comes s (x ∷ rest) e h = lasts.came s.left x (rest ++ s.up) (subst (λ q. I s.left (q ++ s.up)) e h)
 
-  pub holds_moves : (s : Standing) (m : Move) → Holds s → Holds (moves s m)
+  pub holds_moves : (s : Model) (m : Move) → Holds s → Holds (moves s m)
   holds_moves s Ask h = holds_asks s s.left refl h
   holds_moves s (Reach replies) h = holds_reaches s replies s.up refl h
   holds_moves s Come h = holds_comes s s.down refl h
@@ -58,6 +58,6 @@ module _ (I : List ℕ → List Sent → Type 0) (lasts : Lasts I) where
       ]
   holds_moves s Anew h = h
 
-  pub holds_moved : (ms : List Move) (s : Standing) → Holds s → Holds (moved ms s)
+  pub holds_moved : (ms : List Move) (s : Model) → Holds s → Holds (moved ms s)
   holds_moved [] s h = h
   holds_moved (m ∷ ms) s h = holds_moved ms (moves s m) (holds_moves s m h)

@@ -1,14 +1,14 @@
 -- A whole run: the line's invariant through each move, and what the instrument keeps.
 use Rattle.std.proofs.Common.{◌≡◌, ℕ, Bool, true, false, List, [], ◌∷◌, ◌++◌, Option, Some, None, nat_eq, refl, sym, ◌∙◌, subst}
 use Rattle.std.proofs.lemmas.Bool.{eqb-true}
-use Rattle.gc_client.specs.Beginning.{next_if, IsSubsequence, the_word}
-use Rattle.gc_field.proofs.BeginIds.{Sent, Standing, Move, Ask, Reach, Come, Up_lose, Up_repeat, Down_lose, Down_repeat, Anew, heard, asks, reaches, comes, moves, moved, AllDiffer, ids_of, last, Begins, IsClean}
+use Rattle.gc_client.specs.Beginning.{left_by_one, IsSubsequence, the_word}
+use Rattle.gc_field.proofs.BeginIds.{Sent, Model, Move, Ask, Reach, Come, Up_lose, Up_repeat, Down_lose, Down_repeat, Anew, heard, asks, reaches, comes, moves, moved, AllDiffer, ids_of, last, Begins, IsClean}
 use Rattle.gc_world.specs.Order.{Each}
 use Rattle.gc_world.specs.World.{without, doubled}
 use Rattle.gc_field.proofs.BeginLists.{each_more, each_both, each_append, each_front, each_back, each_without, each_doubled, pairs_before, pairs_of_each}
 use Rattle.gc_field.proofs.BeginMoves.{Lasts, holds_moves}
 use Rattle.gc_field.proofs.BeginWords.{never, word_differs}
-use Rattle.gc_field.proofs.BeginLines.{IsLine, IsOld, IsOwn, IsBefore, HasNone, Follows, AreOwn, olds_all, each_own, line_without, line_doubled, line_asked, line_came, is_own}
+use Rattle.gc_field.proofs.BeginLines.{IsLine, IsOld, IsOwn, IsBefore, HasNone, KeepsTheId, AreOwn, olds_all, each_own, line_without, line_doubled, line_asked, line_came, is_own}
 
 -- The invariant.
 
@@ -26,7 +26,7 @@ Keeps z [] down kept = IsFor z kept
 Keeps z (asked ∷ later) down kept = Each (KeepsIf asked kept) down
 
 -- where z is the word's last id
-pub record IsSound (z : ℕ) (s : Standing) : Type 0 where
+pub record IsSound (z : ℕ) (s : Model) : Type 0 where
   pub line : IsLine z s.left (s.down ++ s.up)
   pub keeps : Keeps z s.left s.down s.kept
 
@@ -52,14 +52,15 @@ keeps_reached : (z : ℕ) (left : List ℕ) (down : List Sent) (x : Sent) (rest 
 keeps_reached z [] down x rest h =
     let own : IsOwn x = (each_back IsOwn down (x ∷ rest) (each_own (down ++ x ∷ rest) (h.clear tt))).0 in
     (each_back (λ y. IsOwn y → y.id ≡ z) down (x ∷ rest) h.own).0 own
-keeps_reached z (asked ∷ later) down x rest h = pairs_before (Follows asked) down x rest h.own.1
+keeps_reached z (asked ∷ later) down x rest h = pairs_before (KeepsTheId asked) down x rest h.own.1
 
 keeps_replied : (z : ℕ) (left : List ℕ) (down : List Sent) (x : Sent) → Keeps z left down (Some x.id) → Keeps z left (down ++ x ∷ []) (Some x.id)
 keeps_replied z [] down x h = h
 keeps_replied z (asked ∷ later) down x h = each_append (KeepsIf asked (Some x.id)) down (x ∷ []) h ((λ o e. e), tt)
 
 -- a reply comes, and is the answer
-keeps_answered : (z asked : ℕ) (later : List ℕ) (x : Sent) (rest up : List Sent) (kept : Option ℕ) → IsLine z (asked ∷ later) (x ∷ (rest ++ up)) → x.id ≡ asked → Keeps z (asked ∷ later) (x ∷ rest) kept → Keeps z later rest kept
+keeps_answered : (z asked : ℕ) (later : List ℕ) (x : Sent) (rest up : List Sent) (kept : Option ℕ) → IsLine z (asked ∷ later) (x ∷ (rest ++ up))
+    → x.id ≡ asked → Keeps z (asked ∷ later) (x ∷ rest) kept → Keeps z later rest kept
 keeps_answered z asked [] x rest up kept h e k = subst (λ i. IsFor i kept) h.ends (k.0 (is_own z asked x (rest ++ up) h e) e)
 keeps_answered z asked (i ∷ later) x rest up kept h e k =
     each_more (HasNone (i ∷ later)) (KeepsIf i kept) (λ y f o g. absurd ((f o).0 (sym g))) rest (each_front (HasNone (i ∷ later)) rest up h.own.0.1)
@@ -67,7 +68,7 @@ keeps_answered z asked (i ∷ later) x rest up kept h e k =
 keeps_came : (z : ℕ) (left : List ℕ) (x : Sent) (rest up : List Sent) (kept : Option ℕ) → IsLine z left (x ∷ (rest ++ up)) → Keeps z left (x ∷ rest) kept → Keeps z (heard left x.id) rest kept
 keeps_came z [] x rest up kept h k = k
 keeps_came z (asked ∷ later) x rest up kept h k = chosen (nat_eq x.id asked) refl where
-  chosen : (b : Bool) → nat_eq x.id asked ≡ b → Keeps z (next_if b asked later) rest kept
+  chosen : (b : Bool) → nat_eq x.id asked ≡ b → Keeps z (left_by_one b asked later) rest kept
   chosen true e = keeps_answered z asked later x rest up kept h (eqb-true x.id asked e) k
   chosen false e = k.1
 
@@ -76,21 +77,21 @@ keeps_came z (asked ∷ later) x rest up kept h k = chosen (nat_eq x.id asked) r
 line_lasts : (z : ℕ) → Lasts (IsLine z)
 line_lasts z = record { lost = line_without z; twice = line_doubled z; asked = line_asked z; came = line_came z }
 
-keeps_asks : (z : ℕ) (s : Standing) (left : List ℕ) → IsSound z s → Keeps z (asks s left).left (asks s left).down (asks s left).kept
+keeps_asks : (z : ℕ) (s : Model) (left : List ℕ) → IsSound z s → Keeps z (asks s left).left (asks s left).down (asks s left).kept
 keeps_asks z s [] h = h.keeps
 keeps_asks z s (asked ∷ later) h = h.keeps
 
-keeps_reaches : (z : ℕ) (s : Standing) (replies : Bool) (up : List Sent) → s.up ≡ up → IsSound z s → Keeps z (reaches s replies up).left (reaches s replies up).down (reaches s replies up).kept
+keeps_reaches : (z : ℕ) (s : Model) (replies : Bool) (up : List Sent) → s.up ≡ up → IsSound z s → Keeps z (reaches s replies up).left (reaches s replies up).down (reaches s replies up).kept
 keeps_reaches z s replies [] e h = h.keeps
 keeps_reaches z s true (x ∷ rest) e h = keeps_replied z s.left s.down x (keeps_reached z s.left s.down x rest (subst (λ q. IsLine z s.left (s.down ++ q)) e h.line))
 keeps_reaches z s false (x ∷ rest) e h = keeps_reached z s.left s.down x rest (subst (λ q. IsLine z s.left (s.down ++ q)) e h.line)
 
-keeps_comes : (z : ℕ) (s : Standing) (down : List Sent) → s.down ≡ down → IsSound z s → Keeps z (comes s down).left (comes s down).down (comes s down).kept
+keeps_comes : (z : ℕ) (s : Model) (down : List Sent) → s.down ≡ down → IsSound z s → Keeps z (comes s down).left (comes s down).down (comes s down).kept
 keeps_comes z s [] e h = h.keeps
 keeps_comes z s (x ∷ rest) e h =
     keeps_came z s.left x rest s.up s.kept (subst (λ q. IsLine z s.left (q ++ s.up)) e h.line) (subst (λ q. Keeps z s.left q s.kept) e h.keeps)
 
-keeps_moves : (z : ℕ) (s : Standing) (m : Move) → IsSound z s → Keeps z (moves s m).left (moves s m).down (moves s m).kept
+keeps_moves : (z : ℕ) (s : Model) (m : Move) → IsSound z s → Keeps z (moves s m).left (moves s m).down (moves s m).kept
 keeps_moves z s Ask h = keeps_asks z s s.left h
 keeps_moves z s (Reach replies) h = keeps_reaches z s replies s.up refl h
 keeps_moves z s Come h = keeps_comes z s s.down refl h
@@ -100,10 +101,10 @@ keeps_moves z s (Down_lose k) h = keeps_without z s.left k s.down s.kept h.keeps
 keeps_moves z s (Down_repeat k) h = keeps_doubled z s.left k s.down s.kept h.keeps
 keeps_moves z s Anew h = keeps_nothing z s.left s.down
 
-sound_moves : (z : ℕ) (s : Standing) (m : Move) → IsSound z s → IsSound z (moves s m)
+sound_moves : (z : ℕ) (s : Model) (m : Move) → IsSound z s → IsSound z (moves s m)
 sound_moves z s m h = record { line = holds_moves (IsLine z) (line_lasts z) s m h.line; keeps = keeps_moves z s m h }
 
-pub sound_moved : (z : ℕ) (ms : List Move) (s : Standing) → IsSound z s → IsSound z (moved ms s)
+pub sound_moved : (z : ℕ) (ms : List Move) (s : Model) → IsSound z s → IsSound z (moved ms s)
 sound_moved z [] s h = h
 sound_moved z (m ∷ ms) s h = sound_moved z ms (moves s m) (sound_moves z s m h)
 
@@ -120,14 +121,14 @@ own_at_start : (z : ℕ) (word : List ℕ) (line : List Sent) → Each IsOld lin
 own_at_start z [] line h = each_more IsOld (λ x. IsOwn x → x.id ≡ z) (λ x old own. absurd (both x old own)) line h
 own_at_start z (asked ∷ later) line h = (
   each_more IsOld (HasNone later) (λ x old own. absurd (both x old own)) line h,
-  pairs_of_each IsOld (Follows asked) (λ x y old own e. absurd (both x old own)) line h,
+  pairs_of_each IsOld (KeepsTheId asked) (λ x y old own e. absurd (both x old own)) line h,
 )
 
 keeps_at_start : (z : ℕ) (word : List ℕ) (down : List Sent) (kept : Option ℕ) → (word ≡ [] → ⊥) → Each IsOld down → Keeps z word down kept
 keeps_at_start z [] down kept some h = absurd (some refl)
 keeps_at_start z (asked ∷ later) down kept some h = each_more IsOld (KeepsIf asked kept) (λ x old own e. absurd (both x old own)) down h
 
-pub sound_at_start : (word : List ℕ) (s : Standing) → AllDiffer word → Begins word s → IsSound (last 0 word) s
+pub sound_at_start : (word : List ℕ) (s : Model) → AllDiffer word → Begins word s → IsSound (last 0 word) s
 sound_at_start word s differ h =
     let z : ℕ = last 0 word in
     let line : List Sent = s.down ++ s.up in
@@ -148,7 +149,7 @@ sound_at_start word s differ h =
 
 -- Its end.
 
-clean_if : (z : ℕ) (s : Standing) (left : List ℕ) → s.left ≡ left → left ≡ [] → IsSound z s → IsClean z s
+clean_if : (z : ℕ) (s : Model) (left : List ℕ) → s.left ≡ left → left ≡ [] → IsSound z s → IsClean z s
 clean_if z s left e f h =
     let done : s.left ≡ [] = e ∙ f in
     let line : IsLine z [] (s.down ++ s.up) = subst (λ l. IsLine z l (s.down ++ s.up)) done h.line in
@@ -161,10 +162,10 @@ clean_if z s left e f h =
       kept = λ i e. subst (λ k. IsFor z k) e keeps;
     }
 
-pub begins_cleanly : (word : List ℕ) (s : Standing) (ms : List Move) → AllDiffer word → Begins word s → (moved ms s).left ≡ [] → IsClean (last 0 word) (moved ms s)
+pub begins_cleanly : (word : List ℕ) (s : Model) (ms : List Move) → AllDiffer word → Begins word s → (moved ms s).left ≡ [] → IsClean (last 0 word) (moved ms s)
 begins_cleanly word s ms differ begins done = clean_if (last 0 word) (moved ms s) (moved ms s).left refl done (sound_moved (last 0 word) ms s (sound_at_start word s differ begins))
 
 -- The word.
 
-pub the_word_begins_cleanly : (s : Standing) (ms : List Move) → Begins the_word s → (moved ms s).left ≡ [] → IsClean 7 (moved ms s)
+pub the_word_begins_cleanly : (s : Model) (ms : List Move) → Begins the_word s → (moved ms s).left ≡ [] → IsClean 7 (moved ms s)
 the_word_begins_cleanly s ms begins done = begins_cleanly the_word s ms word_differs begins done

@@ -2,7 +2,7 @@
 use Rattle.std.proofs.Common.{◌≡◌, ℕ, zero, suc, ◌+◌, ◌-◌, ◌%◌, ◌<◌, ◌≤◌, inl, inr, Bool, true, false, List, [], ◌∷◌, ◌++◌, nat_eq, cond, refl, sym, ◌∙◌, subst, arith, map}
 use mathlib.Core.Path.{ap₂}
 use Rattle.std.proofs.lemmas.Bool.{eq-eqb, eqb-true, eqb-false}
-use Rattle.gc_client.specs.Beginning.{next_if, IsSubsequence, the_word}
+use Rattle.gc_client.specs.Beginning.{left_by_one, IsSubsequence, the_word}
 use Rattle.gc_field.proofs.BeginIds.{heard, AllDiffer, upward}
 use Rattle.gc_world.specs.Order.{Each, Rising}
 
@@ -91,7 +91,8 @@ abbrev pub hears : List ℕ → List ℕ → List ℕ
 hears word [] = word
 hears word (i ∷ ids) = hears (heard word i) ids
 
-hears_next : (i w : ℕ) (ids word : List ℕ) (b : Bool) → nat_eq i w ≡ b → ((v : List ℕ) → IsSubsequence v ids → hears v ids ≡ []) → IsSubsequence (w ∷ word) (i ∷ ids) → hears (next_if b w word) ids ≡ []
+hears_next : (i w : ℕ) (ids word : List ℕ) (b : Bool) → nat_eq i w ≡ b → ((v : List ℕ) → IsSubsequence v ids → hears v ids ≡ [])
+    → IsSubsequence (w ∷ word) (i ∷ ids) → hears (left_by_one b w word) ids ≡ []
 hears_next i w ids word true e f (inl h) = f word h.1
 hears_next i w ids word true e f (inr h) = f word (stands_behind w word ids h)
 hears_next i w ids word false e f (inl h) = absurd (never (sym e ∙ eq-eqb i w (sym h.0)))

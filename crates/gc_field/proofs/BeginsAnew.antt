@@ -8,7 +8,7 @@ use Rattle.gc_client.specs.declared.window.TheConstants.{WINDOW}
 use Rattle.gc_station.specs.Beginnings.{IsAnew}
 use Rattle.gc_station.specs.Parts as part
 use Rattle.gc_station.specs.Parts.{Part, parts_of}
-use Rattle.gc_station.specs.Standing.{Runs, after_all, opening}
+use Rattle.gc_station.specs.Model.{Runs, after_all, opening}
 use Rattle.gc_links.specs.Acts.{Told}
 use Rattle.gc_field.specs.Begin.{begins}
 use Rattle.gc_field.specs.BeginsAnew.{IsAnsweredAnew, acts, anew, answer, commands, first, from, given_up, left, moves, moves_anew, plan, replies, runs, scope, seventh, turns}

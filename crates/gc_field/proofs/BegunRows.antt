@@ -108,11 +108,13 @@ module _ {State : Type 0} (width : ℕ) (ends : Ends State) (Good : State → Ty
         few =
             each_more (λ n. n < total) (λ n. n < c.count + 7) (λ n l. omega (arith, l, s.few, narrow)) (numbers w.down ++ numbers w.up)
             (all_sent width ends Good c.since total w.down w.up s.coming s.going);
-        ids = ap₂ (λ xs ys. xs ++ ys) (ids_down c.since total w.down base.since s.coming) (ids_up c.since total w.up base.since s.going) ∙ sym (map-append (λ n. n % 8) (numbers w.down) (numbers w.up));
+        ids = ap₂ (λ xs ys. xs ++ ys) (ids_down c.since total w.down base.since s.coming) (ids_up c.since total w.up base.since s.going)
+            ∙ sym (map-append (λ n. n % 8) (numbers w.down) (numbers w.up));
       }
 
 module _ {State : Type 0} (ends : Ends State) (Good : State → Type 0) (kept : State → Option KeptReply) (is : IsAnInstrument ends Good kept) (width : ℕ) (narrow : width ≤ 7) where
-  pub runs_leave_rows : (u : UnderWay State) → IsClean Good kept u → (ms : List (Move State)) → ArePossible ends Good kept (by_ids width ends) ms (ids_begun u) → IsRow (on_line (behind width ends u ms).wire)
+  pub runs_leave_rows : (u : UnderWay State) → IsClean Good kept u → (ms : List (Move State))
+      → ArePossible ends Good kept (by_ids width ends) ms (ids_begun u) → IsRow (on_line (behind width ends u ms).wire)
   runs_leave_rows u clean ms p =
       let b = moved ends (by_numbers width) ms (numbers_begun u) in
       let both = both_all width narrow ends Good (ex ends Good kept is width narrow) kept ms (ids_begun u) (numbers_begun u) p (both_begun ends Good kept is width narrow u clean) in
@@ -120,10 +122,13 @@ module _ {State : Type 0} (ends : Ends State) (Good : State → Type 0) (kept : 
       (row width ends Good is.hears b.client b.wire narrow (based_all width ends Good kept ms (ids_begun u) (numbers_begun u) p (record { since = refl; count = omega arith })) both.sound)
 
   -- what it leaves are lines
-  pub runs_leave_good : (u : UnderWay State) → IsClean Good kept u → (ms : List (Move State)) → ArePossible ends Good kept (by_ids width ends) ms (ids_begun u) → Good (behind width ends u ms).wire.state × Each (λ x. x.id < 8) (map (λ x. x.line) (behind width ends u ms).wire.up)
+  pub runs_leave_good : (u : UnderWay State) → IsClean Good kept u → (ms : List (Move State))
+      → ArePossible ends Good kept (by_ids width ends) ms (ids_begun u)
+      → Good (behind width ends u ms).wire.state × Each (λ x. x.id < 8) (map (λ x. x.line) (behind width ends u ms).wire.up)
   runs_leave_good u clean ms p =
       let both = both_all width narrow ends Good (ex ends Good kept is width narrow) kept ms (ids_begun u) (numbers_begun u) p (both_begun ends Good kept is width narrow u clean) in
-      subst (λ (w : Wire State). Good w.state × Each (λ x. x.id < 8) (map (λ x. x.line) w.up)) (sym both.agree.wire) (both.sound.good, small _ _ (moved ends (by_numbers width) ms (numbers_begun u)).wire.up both.sound.going)
+      subst (λ (w : Wire State). Good w.state × Each (λ x. x.id < 8) (map (λ x. x.line) w.up)) (sym both.agree.wire)
+      (both.sound.good, small _ _ (moved ends (by_numbers width) ms (numbers_begun u)).wire.up both.sound.going)
     where
       small : (since total : ℕ) (xs : List (Numbered Request)) → Each (IsGoing since total) xs → Each (λ x. x.id < 8) (map (λ x. x.line) xs)
       small since total [] h = tt

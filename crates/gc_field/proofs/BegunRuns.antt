@@ -5,7 +5,7 @@ use Rattle.gc_client.specs.Rule.{heard}
 use Rattle.gc_instrument.specs.State.{KeptReply}
 use Rattle.gc_world.specs.Order.{Each}
 use Rattle.gc_world.specs.World.{Ends, Request}
-use Rattle.gc_field.specs.Begin.{Aged, AreLines, AreTurns, Standing, UnderWay, begins, ids_under_way, leaves}
+use Rattle.gc_field.specs.Begin.{Aged, AreLines, AreTurns, Model, UnderWay, begins, ids_under_way, leaves}
 use Rattle.gc_field.specs.Beginnings.{AreFewKilled, AreOwn, AreRuns, ArePossibleIf, IsOwnIf, IsRow, Run, killed_if, left_by_run, left_if, on_line, stood}
 use Rattle.gc_field.specs.Begun.{HasBegunCleanly, IsClean, behind, eighth}
 use Rattle.gc_field.specs.Instrument.{IsAnInstrument}
@@ -39,11 +39,12 @@ module _ {State : Type 0} (ends : Ends State) (Good : State → Type 0) (kept : 
   clean_down [] h = tt
   clean_down (x ∷ xs) h = (h.0.1, clean_down xs h.1)
 
-  pub clean_lines : (s : Standing State) → Good s.state → HasBegunCleanly kept s → IsClean Good kept (leaves s)
+  pub clean_lines : (s : Model State) → Good s.state → HasBegunCleanly kept s → IsClean Good kept (leaves s)
   clean_lines s good h = record { good = good; up = clean_up s.up h.up; down = clean_down s.down h.down; keeps = h.keeps }
 
   -- a run that is killed while it begins
-  short_killed : (n : ℕ) (u : UnderWay State) (r : Run State) → AreLines Good u → AreTurns ends Good kept r.turns (begins u) → n + 1 ≤ 5 → (tail : List ℕ) → (h : IsShort n u) → h.tail ≡ tail → IsShort (n + 1) (leaves (stood width ends u r))
+  short_killed : (n : ℕ) (u : UnderWay State) (r : Run State) → AreLines Good u → AreTurns ends Good kept r.turns (begins u) → n + 1 ≤ 5 → (tail : List ℕ)
+      → (h : IsShort n u) → h.tail ≡ tail → IsShort (n + 1) (leaves (stood width ends u r))
   short_killed n u r lines turns few [] h e = absurd (let size = h.few in let none : length h.tail ≡ 0 = ap length e in omega (arith, size, none, few))
   short_killed n u r lines turns few (c ∷ tail) h e =
       let split : the_word ≡ 6 ∷ 5 ∷ (h.more ++ c ∷ tail) = h.split ∙ ap (λ l. 6 ∷ 5 ∷ (h.more ++ l)) e in
@@ -85,5 +86,6 @@ module _ {State : Type 0} (ends : Ends State) (Good : State → Type 0) (kept : 
       let one = goes n u r (stood width ends u r).left refl lines short runs.0.0 runs.0.1 few.0 in
       (one.own, all_own rs (killed_if width ends (stood width ends u r).left n) (left_by_run width ends u r) one.lines one.short runs.1 few.1)
 
-  pub runs_are_their_own : (u : UnderWay State) → AreLines Good u → IsRow u → (rs : List (Run State)) → AreRuns width ends Good kept u rs → AreFewKilled width ends 0 u rs → AreOwn width ends Good kept u rs
+  pub runs_are_their_own : (u : UnderWay State) → AreLines Good u → IsRow u → (rs : List (Run State)) → AreRuns width ends Good kept u rs
+      → AreFewKilled width ends 0 u rs → AreOwn width ends Good kept u rs
   runs_are_their_own u lines row rs runs few = all_own rs 0 u lines (short_row u row) runs few

@@ -27,7 +27,8 @@ executing_append effect (call ∷ xs) ys s = executing_append effect xs ys (effe
 
 module _ {State : Type 0} (ends : Ends State) where
   -- two states that are alike apart from what is kept go on to two that are
-  executing_alike : (apart : State → State) (effect : State → Call → State) → HasEffect ends apart effect → (calls : List Call) (s t : State) → apart s ≡ apart t → apart (executing effect s calls) ≡ apart (executing effect t calls)
+  executing_alike : (apart : State → State) (effect : State → Call → State) → HasEffect ends apart effect → (calls : List Call) (s t : State)
+      → apart s ≡ apart t → apart (executing effect s calls) ≡ apart (executing effect t calls)
   executing_alike apart effect has [] s t e = e
   executing_alike apart effect has (call ∷ calls) s t e = executing_alike apart effect has calls (effect s call) (effect t call) (has.alike s t call e)
 
@@ -69,7 +70,8 @@ known_more : (sent more : List Sent) (x : Numbered Request) → IsKnown sent x �
 known_more sent more x h = (h.0, get_more sent more x.number h.0 h.1, h.2)
 
 begun_more : (xs ys starts : List ℕ) → Each (λ s. s ≤ length xs) starts → Each (λ s. s ≤ length (xs ++ ys)) starts
-begun_more xs ys starts h = let size : length (xs ++ ys) ≡ length xs + length ys = length-append xs ys in each_more (λ s. s ≤ length xs) (λ s. s ≤ length (xs ++ ys)) (λ s l. omega (arith, l, size)) starts h
+begun_more xs ys starts h = let size : length (xs ++ ys) ≡ length xs + length ys = length-append xs ys in
+    each_more (λ s. s ≤ length xs) (λ s. s ≤ length (xs ++ ys)) (λ s l. omega (arith, l, size)) starts h
 
 module _ {State : Type 0} (ends : Ends State) where
   -- these were executed; it didn't start where it is quiet; and where it is undisturbed, it is what they made of it
@@ -96,7 +98,8 @@ module _ {State : Type 0} (ends : Ends State) where
   }
 
   -- nothing was executed
-  did_none : (v w : Wire State) (quiet still : Type 0) (more : List Sent) → w.executed ≡ v.executed → w.sent ≡ v.sent ++ more → (quiet → w.starts ≡ v.starts) → (still → IsMadeBy ends v.state [] w.state) → Did v w quiet still
+  did_none : (v w : Wire State) (quiet still : Type 0) (more : List Sent) → w.executed ≡ v.executed → w.sent ≡ v.sent ++ more → (quiet → w.starts ≡ v.starts)
+      → (still → IsMadeBy ends v.state [] w.state) → Did v w quiet still
   did_none v w quiet still more executed sent starts state = record {
     numbers = [];
     calls = [];
@@ -114,15 +117,16 @@ module _ {State : Type 0} (ends : Ends State) where
       did_none v w quiet still [] executed (sent ∙ sym (append-nil v.sent)) (λ q. starts) (λ s. made_none ends v.state w.state state)
 
   -- of every wire: each request under way is one that was sent, with its call; and no start came behind more executions than there are
-  pub record Stands (w : Wire State) : Type 0 where
+  pub record Refines (w : Wire State) : Type 0 where
     pub known : Each (IsKnown w.sent) w.up
     pub begun : Each (λ s. s ≤ length w.executed) w.starts
 
   record Goes (v w : Wire State) (quiet still : Type 0) : Type 0 where
     did : Did v w quiet still
-    stands : Stands w
+    stands : Refines w
 
-  goes_same : (v w : Wire State) (quiet still : Type 0) → w.executed ≡ v.executed → w.sent ≡ v.sent → w.starts ≡ v.starts → w.state ≡ v.state → Each (IsKnown v.sent) w.up → Stands v → Goes v w quiet still
+  goes_same : (v w : Wire State) (quiet still : Type 0) → w.executed ≡ v.executed → w.sent ≡ v.sent → w.starts ≡ v.starts → w.state ≡ v.state
+      → Each (IsKnown v.sent) w.up → Refines v → Goes v w quiet still
   goes_same v w quiet still executed sent starts state known k = record {
     did = did_same v w quiet still executed sent starts state;
     stands = record {
@@ -132,11 +136,12 @@ module _ {State : Type 0} (ends : Ends State) where
   }
 
   -- the request in front reaches the instrument
-  module _ (v : Wire State) (x : Numbered Request) (rest : List (Numbered Request)) (quiet still : Type 0) (q : v.up ≡ x ∷ rest) (k : Stands v) where
+  module _ (v : Wire State) (x : Numbered Request) (rest : List (Numbered Request)) (quiet still : Type 0) (q : v.up ≡ x ∷ rest) (k : Refines v) where
     known_here : IsKnown v.sent x × Each (IsKnown v.sent) rest
     known_here = subst (λ l. Each (IsKnown v.sent) l) q k.known
 
-    reached_by : (hd : Handed State) (b : Bool) → hd.executed ≡ b → (hd.executed ≡ true → IsMadeBy ends v.state (x.line.call ∷ []) hd.state) → (hd.executed ≡ false → IsMadeBy ends v.state [] hd.state) → Goes v (replied v x.number rest hd) quiet still
+    reached_by : (hd : Handed State) (b : Bool) → hd.executed ≡ b → (hd.executed ≡ true → IsMadeBy ends v.state (x.line.call ∷ []) hd.state)
+        → (hd.executed ≡ false → IsMadeBy ends v.state [] hd.state) → Goes v (replied v x.number rest hd) quiet still
     reached_by hd true e new same =
         let w = replied v x.number rest hd in
         let acted : w.executed ≡ v.executed ++ x.number ∷ [] = ap (λ b. cond b (v.executed ++ x.number ∷ []) v.executed) e in
@@ -166,23 +171,23 @@ module _ {State : Type 0} (ends : Ends State) where
         let hd = ends.handed v.state x.line.id x.line.call in
         reached_by hd hd.executed refl (λ e. made_one ends v.state x.line.id x.line.call e) (λ e. made_again ends v.state x.line.id x.line.call e)
 
-  goes_up : (v : Wire State) (quiet still : Type 0) (q : List (Numbered Request)) → v.up ≡ q → Stands v → Goes v (up_delivered ends v q) quiet still
+  goes_up : (v : Wire State) (quiet still : Type 0) (q : List (Numbered Request)) → v.up ≡ q → Refines v → Goes v (up_delivered ends v q) quiet still
   goes_up v quiet still [] e k = goes_same v _ quiet still refl refl refl refl k.known k
   goes_up v quiet still (x ∷ rest) e k = reached v x rest quiet still e k
 
-  goes_with_up : (v : Wire State) (quiet still : Type 0) (up : List (Numbered Request)) (b : Bool) → Each (IsKnown v.sent) up → Stands v → Goes v (with_up v up b) quiet still
+  goes_with_up : (v : Wire State) (quiet still : Type 0) (up : List (Numbered Request)) (b : Bool) → Each (IsKnown v.sent) up → Refines v → Goes v (with_up v up b) quiet still
   goes_with_up v quiet still up true known k = goes_same v _ quiet still refl refl refl refl known k
   goes_with_up v quiet still up false known k = goes_same v _ quiet still refl refl refl refl k.known k
 
-  goes_with_down : (v : Wire State) (quiet still : Type 0) (down : List (Numbered (List ℕ))) (b : Bool) → Stands v → Goes v (with_down v down b) quiet still
+  goes_with_down : (v : Wire State) (quiet still : Type 0) (down : List (Numbered (List ℕ))) (b : Bool) → Refines v → Goes v (with_down v down b) quiet still
   goes_with_down v quiet still down true k = goes_same v _ quiet still refl refl refl refl k.known k
   goes_with_down v quiet still down false k = goes_same v _ quiet still refl refl refl refl k.known k
 
-  goes_down : (w : World ById State) (quiet still : Type 0) (q : List (Numbered (List ℕ))) → Stands w.wire → Goes w.wire (down_delivered (by_ids 7 ends) w q).wire quiet still
+  goes_down : (w : World ById State) (quiet still : Type 0) (q : List (Numbered (List ℕ))) → Refines w.wire → Goes w.wire (down_delivered (by_ids 7 ends) w q).wire quiet still
   goes_down w quiet still [] k = goes_same w.wire _ quiet still refl refl refl refl k.known k
   goes_down w quiet still (x ∷ rest) k = goes_same w.wire _ quiet still refl refl refl refl k.known k
 
-  goes_sent : (w : World ById State) (quiet still : Type 0) (target : ℕ) (call : Call) (o : Option (Sending ById)) → Stands w.wire → Goes w.wire (requested w target call o).wire quiet still
+  goes_sent : (w : World ById State) (quiet still : Type 0) (target : ℕ) (call : Call) (o : Option (Sending ById)) → Refines w.wire → Goes w.wire (requested w target call o).wire quiet still
   goes_sent w quiet still target call None k = goes_same w.wire _ quiet still refl refl refl refl k.known k
   goes_sent w quiet still target call (Some x) k =
       let v = w.wire in
@@ -195,7 +200,7 @@ module _ {State : Type 0} (ends : Ends State) where
         };
       }
 
-  goes_line : (w : World ById State) (quiet still : Type 0) (step : Step) → IsOfLine step → Stands w.wire → Goes w.wire (happens ends (by_ids 7 ends) w step).wire quiet still
+  goes_line : (w : World ById State) (quiet still : Type 0) (step : Step) → IsOfLine step → Refines w.wire → Goes w.wire (happens ends (by_ids 7 ends) w step).wire quiet still
   goes_line w quiet still (Send target call deadline) p k = absurd p
   goes_line w quiet still Up_deliver p k = goes_up w.wire quiet still w.wire.up refl k
   goes_line w quiet still (Up_lose i) p k = goes_with_up w.wire quiet still (without i w.wire.up) (ltb i (length w.wire.up)) (each_without _ i w.wire.up k.known) k
@@ -231,23 +236,25 @@ module _ {State : Type 0} (ends : Ends State) where
     stands = h.stands;
   }
 
-  goes_anew : (v : Wire State) → Stands v → Goes v (started ends v true) ⊥ ⊥
+  goes_anew : (v : Wire State) → Refines v → Goes v (started ends v true) ⊥ ⊥
   goes_anew v k = record {
     did = did_none v (started ends v true) ⊥ ⊥ [] refl (sym (append-nil v.sent)) (λ e. absurd e) (λ e. absurd e);
     stands = record { known = k.known; begun = each_append (λ s. s ≤ length v.executed) v.starts (length v.executed ∷ []) k.begun (omega arith, tt) };
   }
 
-  goes_changed : (v : Wire State) (quiet : Type 0) (state : State) → Stands v → Goes v (record v { state = state }) quiet ⊥
+  goes_changed : (v : Wire State) (quiet : Type 0) (state : State) → Refines v → Goes v (record v { state = state }) quiet ⊥
   goes_changed v quiet state k = record {
     did = did_none v (record v { state = state }) quiet ⊥ [] refl (sym (append-nil v.sent)) (λ q. refl) (λ e. absurd e);
     stands = record { known = k.known; begun = k.begun };
   }
 
   module _ (Good : State → Type 0) (kept : State → Option KeptReply) where
-    goes_all : (ms : List (Move State)) (w : World ById State) → ArePossible ends Good kept (by_ids 7 ends) ms w → Stands w.wire → Goes w.wire (moved ends (by_ids 7 ends) ms w).wire (HasNoStartBetween ms) (IsUndisturbed ms)
+    goes_all : (ms : List (Move State)) (w : World ById State) → ArePossible ends Good kept (by_ids 7 ends) ms w → Refines w.wire
+        → Goes w.wire (moved ends (by_ids 7 ends) ms w).wire (HasNoStartBetween ms) (IsUndisturbed ms)
     goes_all [] w p k = goes_same w.wire w.wire (Unit {0}) (Unit {0}) refl refl refl refl k.known k
     goes_all (Sends target call deadline ∷ ms) w p k =
-        let one = goes_sent w (HasNoStartBetween ms) (IsUndisturbed ms) target call (sends 7 w.client target call deadline) k in goes_alike w.wire _ _ (HasNoStartBetween ms) (IsUndisturbed ms) one (goes_all ms _ p.1 one.stands)
+        let one = goes_sent w (HasNoStartBetween ms) (IsUndisturbed ms) target call (sends 7 w.client target call deadline) k in
+        goes_alike w.wire _ _ (HasNoStartBetween ms) (IsUndisturbed ms) one (goes_all ms _ p.1 one.stands)
     goes_all (Tells now ∷ ms) w p k = goes_all ms _ p.1 k
     goes_all (Comes line ∷ ms) w p k =
         let one = goes_down w (HasNoStartBetween ms) (IsUndisturbed ms) w.wire.down k in goes_alike w.wire _ _ (HasNoStartBetween ms) (IsUndisturbed ms) one (goes_all ms _ p.1 one.stands)
@@ -267,23 +274,27 @@ module _ {State : Type 0} (ends : Ends State) where
     known_last : (x : Request) → x ≡ eighth → IsKnown nulls (record { number = 7; line = x })
     known_last x e = (record { target = 0; call = NullProc; line = request_line (Some 7) NullProc }, refl, sym (ap (λ (r : Request). r.call) e))
 
-    stands_begun : (u : UnderWay State) → IsClean Good kept u → Stands (ids_begun u).wire
+    stands_begun : (u : UnderWay State) → IsClean Good kept u → Refines (ids_begun u).wire
     stands_begun u clean = record { known = each_last (IsKnown nulls) (λ x. x ≡ eighth) known_last u.up clean.up; begun = tt }
 
     -- so each wire stands, once it has begun cleanly
-    pub stands_all : (ms : List (Move State)) (u : UnderWay State) → IsClean Good kept u → ArePossible ends Good kept (by_ids 7 ends) ms (ids_begun u) → Stands (moved ends (by_ids 7 ends) ms (ids_begun u)).wire
+    pub stands_all : (ms : List (Move State)) (u : UnderWay State) → IsClean Good kept u → ArePossible ends Good kept (by_ids 7 ends) ms (ids_begun u)
+        → Refines (moved ends (by_ids 7 ends) ms (ids_begun u)).wire
     stands_all ms u clean p = (goes_all ms (ids_begun u) p (stands_begun u clean)).stands
 
-    pub did_all : (ms : List (Move State)) (w : World ById State) → ArePossible ends Good kept (by_ids 7 ends) ms w → Stands w.wire → Did w.wire (moved ends (by_ids 7 ends) ms w).wire (HasNoStartBetween ms) (IsUndisturbed ms)
+    pub did_all : (ms : List (Move State)) (w : World ById State) → ArePossible ends Good kept (by_ids 7 ends) ms w → Refines w.wire
+        → Did w.wire (moved ends (by_ids 7 ends) ms w).wire (HasNoStartBetween ms) (IsUndisturbed ms)
     did_all ms w p k = (goes_all ms w p k).did
 
   -- the request in front is executed
   pub acted : (w : World ById State) (x : Numbered Request) (rest : List (Numbered Request)) → w.wire.up ≡ x ∷ rest → (ends.handed w.wire.state x.line.id x.line.call).executed ≡ true
-      → ((moves ends (by_ids 7 ends) w (OnLine Up_deliver)).wire.executed ≡ w.wire.executed ++ x.number ∷ []) × IsMadeBy ends w.wire.state (x.line.call ∷ []) (moves ends (by_ids 7 ends) w (OnLine Up_deliver)).wire.state
+      → ((moves ends (by_ids 7 ends) w (OnLine Up_deliver)).wire.executed ≡ w.wire.executed ++ x.number ∷ [])
+      × IsMadeBy ends w.wire.state (x.line.call ∷ []) (moves ends (by_ids 7 ends) w (OnLine Up_deliver)).wire.state
       × ((moves ends (by_ids 7 ends) w (OnLine Up_deliver)).wire.starts ≡ w.wire.starts)
   acted w x rest q e =
       let v = w.wire in
-      subst (λ (l : List (Numbered Request)). ((up_delivered ends v l).executed ≡ v.executed ++ x.number ∷ []) × IsMadeBy ends v.state (x.line.call ∷ []) (up_delivered ends v l).state × ((up_delivered ends v l).starts ≡ v.starts)) (sym q) (
+      subst (λ (l : List (Numbered Request)). ((up_delivered ends v l).executed ≡ v.executed ++ x.number ∷ [])
+      × IsMadeBy ends v.state (x.line.call ∷ []) (up_delivered ends v l).state × ((up_delivered ends v l).starts ≡ v.starts)) (sym q) (
         ap (λ b. cond b (v.executed ++ x.number ∷ []) v.executed) e,
         made_one ends v.state x.line.id x.line.call e,
         refl,

@@ -13,7 +13,7 @@ use Rattle.gc_field.specs.ChainWitness.{IsPointedInField, acts, before, commands
 use Rattle.gc_field.specs.Pointing.{AreStill, turns}
 use Rattle.gc_field.proofs.Witness.{asked_each, fits, one_part, opens, run_on, units}
 use Rattle.gc_station.specs.Parts.{parts_of}
-use Rattle.gc_station.specs.Standing.{opening}
+use Rattle.gc_station.specs.Model.{opening}
 use Rattle.gc_field.specs.Field.{seen}
 use Rattle.gc_field.specs.Shown.{AreShownAs, shown}
 use Rattle.gc_world.specs.Clients.{ends}

@@ -19,7 +19,7 @@ use Rattle.gc_station.specs.Progressing.{loses_all}
 use Rattle.gc_station.specs.Records.{Record}
 use Rattle.gc_station.specs.Runs.{stood}
 use Rattle.gc_station.specs.Scopes.{Scope}
-use Rattle.gc_station.specs.Standing.{Standing, Runs, opening, order_at, after}
+use Rattle.gc_station.specs.Model.{Model, Runs, opening, action_at, after}
 use Rattle.gc_station.proofs.Asked.{FirstHasNone, goes_begun, marks_none, nil_both, no_turns}
 use Rattle.gc_station.proofs.Booking.{of_length}
 use Rattle.gc_world.specs.Clients.{by_ids}
@@ -27,7 +27,7 @@ use Rattle.gc_world.specs.World.{Ends, Up_deliver}
 use Rattle.gc_world.proofs.Options.{some_is, none_is_not}
 use Rattle.gc_world.proofs.Places.{below}
 use Rattle.gc_field.specs.Begin.{AreTurns, UnderWay, begins, leaves, turned}
-use Rattle.gc_field.specs.Begin.{Standing as Begins}
+use Rattle.gc_field.specs.Begin.{Model as Begins}
 use Rattle.gc_field.specs.Beginnings.{ArePossibleIf, AreRuns, Run, left_by_run}
 use Rattle.gc_field.specs.Beginnings.{stood as stood_by}
 use Rattle.gc_field.specs.Begun.{WasMadeOn, behind, ids_begun}
@@ -71,15 +71,16 @@ front_none p true ps = (p, refl)
 front_none p false [] = (p, refl)
 front_none p false (q ∷ ps) = (joined p q, refl)
 
-front_parts : (plan : Plan) (commands : List Task) (s : Standing) (xs ys : List Act) → IsFront (parts_of plan commands s xs) (parts_of plan commands s (xs ++ ys))
+front_parts : (plan : Plan) (commands : List Task) (s : Model) (xs ys : List Act) → IsFront (parts_of plan commands s xs) (parts_of plan commands s (xs ++ ys))
 front_parts plan commands s [] [] = (nothing, refl)
 front_parts plan commands s [] (act ∷ ys) =
-    front_none (acting plan commands s (order_at plan s) act) (ends_part plan commands s act) (parts_of plan commands (after plan commands s act) ys)
+    front_none (acting plan commands s (action_at plan s) act) (ends_part plan commands s act) (parts_of plan commands (after plan commands s act) ys)
 front_parts plan commands s (act ∷ xs) ys =
-    front_more (acting plan commands s (order_at plan s) act) (ends_part plan commands s act) (parts_of plan commands (after plan commands s act) xs) (parts_of plan commands (after plan commands s act) (xs ++ ys))
+    front_more (acting plan commands s (action_at plan s) act) (ends_part plan commands s act) (parts_of plan commands (after plan commands s act) xs)
+    (parts_of plan commands (after plan commands s act) (xs ++ ys))
     (front_parts plan commands (after plan commands s act) xs ys)
 
-runs_front : (plan : Plan) (commands : List Task) (s : Standing) (xs ys : List Act) → Runs plan commands s (xs ++ ys) → Runs plan commands s xs
+runs_front : (plan : Plan) (commands : List Task) (s : Model) (xs ys : List Act) → Runs plan commands s (xs ++ ys) → Runs plan commands s xs
 runs_front plan commands s [] ys h = tt
 runs_front plan commands s (act ∷ xs) ys h = (h.0, runs_front plan commands (after plan commands s act) xs ys h.1)
 
@@ -120,18 +121,20 @@ whole_more p false (x ∷ next ∷ ps) (y ∷ qs) k h = h
 
 module _ (plan : Plan) (commands : List Task) where
   -- an act sends nothing while it begins; and once it has begun no turn comes until the next part
-  sends_or_not : (s : Standing) (act : Act) (xs ys : List Act) (b : Bool) → has_begun s.progress ≡ b → let t = after plan commands s act in
-      ((if b then doing plan commands s (order_at plan s) act else beginning s (order_at plan s) act).marks ≡ []) ⊎ ((b && loses_all t.progress) ≡ false → FirstHasNone (parts_of plan commands t xs) × FirstHasNone (parts_of plan commands t ys))
-  sends_or_not s act xs ys false e = inl (marks_none plan commands s (order_at plan s) act)
+  sends_or_not : (s : Model) (act : Act) (xs ys : List Act) (b : Bool) → has_begun s.progress ≡ b → let t = after plan commands s act in
+      ((if b then doing plan commands s (action_at plan s) act else beginning s (action_at plan s) act).marks ≡ [])
+      ⊎ ((b && loses_all t.progress) ≡ false → FirstHasNone (parts_of plan commands t xs) × FirstHasNone (parts_of plan commands t ys))
+  sends_or_not s act xs ys false e = inl (marks_none plan commands s (action_at plan s) act)
   sends_or_not s act xs ys true e =
       let t = after plan commands s act in
       inr (λ f. (no_turns plan commands t xs (goes_begun plan commands t f), no_turns plan commands t ys (goes_begun plan commands t f)))
 
-  whole_parts : (s : Standing) (xs ys : List Act) → AreWhole (parts_of plan commands s xs) (parts_of plan commands s (xs ++ ys))
+  whole_parts : (s : Model) (xs ys : List Act) → AreWhole (parts_of plan commands s xs) (parts_of plan commands s (xs ++ ys))
   whole_parts s [] [] = inl refl
-  whole_parts s [] (act ∷ ys) = whole_none (acting plan commands s (order_at plan s) act) (ends_part plan commands s act) (parts_of plan commands (after plan commands s act) ys)
+  whole_parts s [] (act ∷ ys) = whole_none (acting plan commands s (action_at plan s) act) (ends_part plan commands s act) (parts_of plan commands (after plan commands s act) ys)
   whole_parts s (act ∷ xs) ys =
-      whole_more (acting plan commands s (order_at plan s) act) (ends_part plan commands s act) (parts_of plan commands (after plan commands s act) xs) (parts_of plan commands (after plan commands s act) (xs ++ ys))
+      whole_more (acting plan commands s (action_at plan s) act) (ends_part plan commands s act) (parts_of plan commands (after plan commands s act) xs)
+      (parts_of plan commands (after plan commands s act) (xs ++ ys))
       (sends_or_not s act xs (xs ++ ys) (has_begun s.progress) refl)
       (whole_parts (after plan commands s act) xs ys)
 
@@ -166,7 +169,9 @@ record SplitSeen {State : Type 0} (ms : List (Move State)) (xs : List step.Step)
   order : ms ≡ front ++ later
   steps : seen front ≡ xs
 
-split_visible : {State : Type 0} (m : Move State) (st x : step.Step) (ms : List (Move State)) (xs ys : List step.Step) → ((l : List (Move State)) → seen (m ∷ l) ≡ st ∷ seen l) → (seen ms ≡ xs ++ ys → SplitSeen ms xs) → seen (m ∷ ms) ≡ x ∷ (xs ++ ys) → SplitSeen (m ∷ ms) (x ∷ xs)
+split_visible : {State : Type 0} (m : Move State) (st x : step.Step) (ms : List (Move State)) (xs ys : List step.Step)
+    → ((l : List (Move State)) → seen (m ∷ l) ≡ st ∷ seen l) → (seen ms ≡ xs ++ ys → SplitSeen ms xs) → seen (m ∷ ms) ≡ x ∷ (xs ++ ys)
+    → SplitSeen (m ∷ ms) (x ∷ xs)
 split_visible m st x ms xs ys shows again e =
     let both : st ∷ seen ms ≡ x ∷ (xs ++ ys) = sym (shows ms) ∙ e in
     let h = again (cons_tail st x (seen ms) (xs ++ ys) both) in
@@ -186,7 +191,8 @@ split_seen (Comes line ∷ ms) (x ∷ xs) ys e = split_visible (Comes line) (ste
 split_seen (Foreign line ∷ ms) (x ∷ xs) ys e = split_visible (Foreign line) (step.Hear line) x ms xs ys (λ l. refl) (λ f. split_seen ms xs ys f) e
 split_seen (OnLine s ∷ ms) (x ∷ xs) ys e = let h = split_seen ms (x ∷ xs) ys e in record { front = OnLine s ∷ h.front; later = h.later; order = ap (λ l. OnLine s ∷ l) h.order; steps = h.steps }
 split_seen (Anew ∷ ms) (x ∷ xs) ys e = let h = split_seen ms (x ∷ xs) ys e in record { front = Anew ∷ h.front; later = h.later; order = ap (λ l. Anew ∷ l) h.order; steps = h.steps }
-split_seen (Changes state ∷ ms) (x ∷ xs) ys e = let h = split_seen ms (x ∷ xs) ys e in record { front = Changes state ∷ h.front; later = h.later; order = ap (λ l. Changes state ∷ l) h.order; steps = h.steps }
+split_seen (Changes state ∷ ms) (x ∷ xs) ys e = let h = split_seen ms (x ∷ xs) ys e in
+    record { front = Changes state ∷ h.front; later = h.later; order = ap (λ l. Changes state ∷ l) h.order; steps = h.steps }
 split_seen (Joins line ∷ ms) (x ∷ xs) ys e = let h = split_seen ms (x ∷ xs) ys e in record { front = Joins line ∷ h.front; later = h.later; order = ap (λ l. Joins line ∷ l) h.order; steps = h.steps }
 
 -- a stretch up to some move
@@ -225,12 +231,14 @@ module _ {State : Type 0} (ends : Ends State) (Good : State → Type 0) (kept : 
     last = λ i t v size a b. first_cut (record { from = from_of u r; moves = r.moves }) (stretches ends (left_by_run 7 ends u r) rs) x.front x.later x.order i t v (omega (arith, size)) a b;
   }
 
-  later_cut : (p next : Part) (ps : List Part) (u : UnderWay State) (r : Run State) (rs : List (Run State)) (c : Cut (next ∷ ps) (left_by_run 7 ends u r) rs) (i : ℕ) (t v : Stretch State) → length (p ∷ next ∷ ps) ≡ suc i
+  later_cut : (p next : Part) (ps : List Part) (u : UnderWay State) (r : Run State) (rs : List (Run State)) (c : Cut (next ∷ ps) (left_by_run 7 ends u r) rs)
+      (i : ℕ) (t v : Stretch State) → length (p ∷ next ∷ ps) ≡ suc i
       → slice_get (stretches ends u (r ∷ c.runs)) i ≡ Some t → slice_get (stretches ends u (r ∷ rs)) i ≡ Some v → IsCutOf t v
   later_cut p next ps u r rs c zero t v size a b = absurd (omega (arith, size))
   later_cut p next ps u r rs c (suc i) t v size a b = c.last i t v (omega (arith, size)) a b
 
-  cut_last : (p : Part) (qs : List Part) (u : UnderWay State) (rs : List (Run State)) → IsFront (p ∷ []) qs → AreWhole (p ∷ []) qs → (p.marks ≡ [] → ⊥) → AreShownAs ends u rs qs → AreRuns 7 ends Good kept u rs → Cut (p ∷ []) u rs
+  cut_last : (p : Part) (qs : List Part) (u : UnderWay State) (rs : List (Run State)) → IsFront (p ∷ []) qs → AreWhole (p ∷ []) qs → (p.marks ≡ [] → ⊥)
+      → AreShownAs ends u rs qs → AreRuns 7 ends Good kept u rs → Cut (p ∷ []) u rs
   cut_last p [] u rs h w marked e good = absurd h
   cut_last p (q ∷ qs) u [] h w marked e good = absurd e
   cut_last p (q ∷ qs) u (r ∷ rs) h (inl none) marked e good = absurd (marked none)
@@ -239,7 +247,8 @@ module _ {State : Type 0} (ends : Ends State) (Good : State → Type 0) (kept : 
       cut_one p u r rs (e.0 ∙ same) (split_seen r.moves p.steps h.0.steps here) good.0.0 good.0.1
 
   cut_more : (p next : Part) (ps : List Part) (u : UnderWay State) (r : Run State) (rs : List (Run State)) → shown ends r.turns (begins u) ≡ p.turns → seen r.moves ≡ p.steps
-      → AreTurns ends Good kept r.turns (begins u) × ArePossibleIf 7 ends Good kept (stood_by 7 ends u r).left (stood_by 7 ends u r) r.moves → Cut (next ∷ ps) (left_by_run 7 ends u r) rs → Cut (p ∷ next ∷ ps) u (r ∷ rs)
+      → AreTurns ends Good kept r.turns (begins u) × ArePossibleIf 7 ends Good kept (stood_by 7 ends u r).left (stood_by 7 ends u r) r.moves
+      → Cut (next ∷ ps) (left_by_run 7 ends u r) rs → Cut (p ∷ next ∷ ps) u (r ∷ rs)
   cut_more p next ps u r rs e f good c = record {
     runs = r ∷ c.runs;
     shown = (e, f, c.shown);
@@ -247,14 +256,17 @@ module _ {State : Type 0} (ends : Ends State) (Good : State → Type 0) (kept : 
     last = λ i t v size a b. later_cut p next ps u r rs c i t v size a b;
   }
 
-  cut_on : (p next : Part) (ps qs : List Part) (u : UnderWay State) (rs : List (Run State)) → IsFront (p ∷ next ∷ ps) qs → AreWhole (p ∷ next ∷ ps) qs → AreShownAs ends u rs qs → AreRuns 7 ends Good kept u rs
-      → ((xs : List Part) (v : UnderWay State) (ts : List (Run State)) → IsFront (next ∷ ps) xs → AreWhole (next ∷ ps) xs → AreShownAs ends v ts xs → AreRuns 7 ends Good kept v ts → Cut (next ∷ ps) v ts) → Cut (p ∷ next ∷ ps) u rs
+  cut_on : (p next : Part) (ps qs : List Part) (u : UnderWay State) (rs : List (Run State)) → IsFront (p ∷ next ∷ ps) qs → AreWhole (p ∷ next ∷ ps) qs
+      → AreShownAs ends u rs qs → AreRuns 7 ends Good kept u rs
+      → ((xs : List Part) (v : UnderWay State) (ts : List (Run State)) → IsFront (next ∷ ps) xs → AreWhole (next ∷ ps) xs → AreShownAs ends v ts xs
+      → AreRuns 7 ends Good kept v ts → Cut (next ∷ ps) v ts) → Cut (p ∷ next ∷ ps) u rs
   cut_on p next ps [] u rs h w e good again = absurd h
   cut_on p next ps (q ∷ qs) u [] h w e good again = absurd e
   cut_on p next ps (q ∷ qs) u (r ∷ rs) h w e good again =
       cut_more p next ps u r rs (e.0 ∙ ap (λ (x : Part). x.turns) h.0) (e.1 ∙ ap (λ (x : Part). x.steps) h.0) good.0 (again qs (left_by_run 7 ends u r) rs h.1 w e.2 good.1)
 
-  cut_field : (ps qs : List Part) (u : UnderWay State) (rs : List (Run State)) → IsFront ps qs → AreWhole ps qs → LastIsMarked ps → AreShownAs ends u rs qs → AreRuns 7 ends Good kept u rs → Cut ps u rs
+  cut_field : (ps qs : List Part) (u : UnderWay State) (rs : List (Run State)) → IsFront ps qs → AreWhole ps qs → LastIsMarked ps → AreShownAs ends u rs qs
+      → AreRuns 7 ends Good kept u rs → Cut ps u rs
   cut_field [] qs u rs h w marked e good = absurd h
   cut_field (p ∷ []) qs u rs h w marked e good = cut_last p qs u rs h w marked e good
   cut_field (p ∷ next ∷ ps) qs u rs h w marked e good = cut_on p next ps qs u rs h w e good (λ xs v ts g x f well. cut_field (next ∷ ps) xs v ts g x marked f well)
@@ -275,13 +287,16 @@ in_more [] ys i x e = absurd (none_is_not x e)
 in_more (y ∷ xs) ys zero x e = e
 in_more (y ∷ xs) ys (suc i) x e = in_more xs ys i x e
 
-fit_at : {State : Type 0} (ends : Ends State) (Good : State → Type 0) (kept : State → Option KeptReply) (is : IsAnInstrument ends Good kept) (ps : List Part) (ss : List (Stretch State)) (i : ℕ) (p : Part) (s : Stretch State) → AllFit ends Good kept is ps ss → slice_get ps i ≡ Some p → slice_get ss i ≡ Some s → Fits ends Good kept is p s
+fit_at : {State : Type 0} (ends : Ends State) (Good : State → Type 0) (kept : State → Option KeptReply) (is : IsAnInstrument ends Good kept) (ps : List Part)
+    (ss : List (Stretch State)) (i : ℕ) (p : Part) (s : Stretch State) → AllFit ends Good kept is ps ss → slice_get ps i ≡ Some p → slice_get ss i ≡ Some s
+    → Fits ends Good kept is p s
 fit_at ends Good kept is [] ss i p s h e f = absurd (none_is_not p e)
 fit_at ends Good kept is (q ∷ ps) [] i p s h e f = absurd h
 fit_at ends Good kept is (q ∷ ps) (t ∷ ss) zero p s h e f = subst (λ x. Fits ends Good kept is x s) (some_is q p e) (subst (λ x. Fits ends Good kept is q x) (some_is t s f) h.0)
 fit_at ends Good kept is (q ∷ ps) (t ∷ ss) (suc i) p s h e f = fit_at ends Good kept is ps ss i p s h.1 e f
 
-pub sent_at : {State : Type 0} (ends : Ends State) (commands : List Task) (ps : List Part) (ss : List (Stretch State)) (i : ℕ) (p : Part) (s : Stretch State) → AreSentAs ends commands ps ss → slice_get ps i ≡ Some p → slice_get ss i ≡ Some s → AreOf commands p.marks (map asked (own_sent ends s))
+pub sent_at : {State : Type 0} (ends : Ends State) (commands : List Task) (ps : List Part) (ss : List (Stretch State)) (i : ℕ) (p : Part) (s : Stretch State)
+    → AreSentAs ends commands ps ss → slice_get ps i ≡ Some p → slice_get ss i ≡ Some s → AreOf commands p.marks (map asked (own_sent ends s))
 sent_at ends commands [] ss i p s h e f = absurd (none_is_not p e)
 sent_at ends commands (q ∷ ps) [] i p s h e f = absurd h
 sent_at ends commands (q ∷ ps) (t ∷ ss) zero p s h e f =
@@ -325,9 +340,11 @@ within c p d q e r (inr a) (inr b) same = (b.0, a.1, b.1)
 
 -- The theorem, from what is known of a station's runs.
 
-module _ {State : Type 0} (ends : Ends State) (Good : State → Type 0) (kept : State → Option KeptReply) (is : IsAnInstrument ends Good kept) (stay : ChainsStay) (go_on : MarksGoOn) (records_stay : RecordsStay) (plan : Plan) (commands : List Task) (scope : Scope) where
+module _ {State : Type 0} (ends : Ends State) (Good : State → Type 0) (kept : State → Option KeptReply) (is : IsAnInstrument ends Good kept)
+    (stay : ChainsStay) (go_on : MarksGoOn) (records_stay : RecordsStay) (plan : Plan) (commands : List Task) (scope : Scope) where
   -- where a command's own request is, whose record is known
-  own_place : (acts : List Act) → Runs plan commands (opening plan scope) acts → (i m : ℕ) (part : Part) (r : Record) (ss : List (Stretch State)) (line : List ℕ) → slice_get (parts plan commands scope acts) i ≡ Some part
+  own_place : (acts : List Act) → Runs plan commands (opening plan scope) acts
+      → (i m : ℕ) (part : Part) (r : Record) (ss : List (Stretch State)) (line : List ℕ) → slice_get (parts plan commands scope acts) i ≡ Some part
       → slice_get part.marks m ≡ Some (Some (mark_of r)) → (u : IsItsOwn ends Good kept commands (parts plan commands scope acts) ss r line) → (u.k ≡ i) × (u.m ≡ m)
   own_place acts runs i m part r ss line of_parts mark u =
       same_place u.k i u.m m
@@ -335,7 +352,8 @@ module _ {State : Type 0} (ends : Ends State) (Good : State → Type 0) (kept : 
       (λ l. not_itself r.cycle r.place (go_on plan commands scope acts runs i u.k m u.m part u.part (mark_of r) (mark_of r) of_parts u.of_parts mark u.mark l))
 
   -- the run up to a request is one in the field
-  in_front_of : (acts before rest : List Act) (u : UnderWay State) (rs : List (Run State)) → acts ≡ before ++ rest → LastIsMarked (parts plan commands scope before) → IsInField ends Good kept plan commands scope acts u rs
+  in_front_of : (acts before rest : List Act) (u : UnderWay State) (rs : List (Run State)) → acts ≡ before ++ rest
+      → LastIsMarked (parts plan commands scope before) → IsInField ends Good kept plan commands scope acts u rs
       → (c : Cut ends Good kept (parts plan commands scope before) u rs) × IsInField ends Good kept plan commands scope before u c.runs
   in_front_of acts before rest u rs e marked h =
       let front : IsFront (parts plan commands scope before) (parts plan commands scope acts) =
@@ -347,18 +365,26 @@ module _ {State : Type 0} (ends : Ends State) (Good : State → Type 0) (kept : 
       (c, record { runs = runs; lines = h.lines; none = h.none; shown = c.shown; possible = c.possible })
 
   -- there the answer of the command before was settled, and the request wasn't sent
-  settled_there : (before : List Act) (u : UnderWay State) (rs : List (Run State)) → IsInField ends Good kept plan commands scope before u rs → (i n cycle a : ℕ) (first : Part) → slice_get (parts plan commands scope before) i ≡ Some first → length first.marks ≡ n
+  settled_there : (before : List Act) (u : UnderWay State) (rs : List (Run State)) → IsInField ends Good kept plan commands scope before u rs
+      → (i n cycle a : ℕ) (first : Part) → slice_get (parts plan commands scope before) i ≡ Some first → length first.marks ≡ n
       → (back : IsAnsweredBack plan commands scope before first cycle a) → (t : Stretch State) × (slice_get (stretches ends u rs) i ≡ Some t) × (length (own_sent ends t) ≡ n)
       × (slice_get (own_settled ends t) back.m ≡ Some (record { target = back.answer.command.target; call = back.answer.command.call; outcome = Answered back.line }))
   settled_there before u rs h i n cycle a first of_first count back =
       let ss = stretches ends u rs in
       let f = run_faithful ends Good kept is plan commands scope before u rs h in
-      let o = all_at (IsOwnAnswer ends Good kept commands (parts plan commands scope before) ss) (stood plan commands scope before).records back.k back.answer f.own back.among back.line (ap answer_of back.answered) in
+      let o = all_at (IsOwnAnswer ends Good kept commands (parts plan commands scope before) ss)
+      (stood plan commands scope before).records back.k back.answer f.own back.among back.line (ap answer_of back.answered) in
       let at = own_place before h.runs i back.m first back.answer ss back.line of_first back.mark o in
       let of_ss : slice_get ss i ≡ Some o.stretch = subst (λ k. slice_get ss k ≡ Some o.stretch) at.0 o.of_stretches in
       let size : length first.marks ≡ length (own_sent ends o.stretch) =
-      of_length commands first.marks (map asked (own_sent ends o.stretch)) (sent_at ends commands (parts plan commands scope before) ss i first o.stretch f.sent of_first of_ss) ∙ length-map (own_sent ends o.stretch) asked in
-      (o.stretch, of_ss, sym size ∙ count, subst (λ m. slice_get (own_settled ends o.stretch) m ≡ Some (record { target = back.answer.command.target; call = back.answer.command.call; outcome = Answered back.line })) at.1 o.settled)
+      of_length commands first.marks (map asked (own_sent ends o.stretch))
+      (sent_at ends commands (parts plan commands scope before) ss i first o.stretch f.sent of_first of_ss) ∙ length-map (own_sent ends o.stretch) asked in (
+        o.stretch,
+        of_ss,
+        sym size ∙ count,
+        subst (λ m. slice_get (own_settled ends o.stretch) m ≡ Some
+            (record { target = back.answer.command.target; call = back.answer.command.call; outcome = Answered back.line })) at.1 o.settled,
+      )
 
   -- the line of a record was made on executing its own call
   made_its : (ps : List Part) (ss : List (Stretch State)) (b : Record) (line : List ℕ) (o : IsItsOwn ends Good kept commands ps ss b line) → Fits ends Good kept is o.part o.stretch
@@ -366,10 +392,13 @@ module _ {State : Type 0} (ends : Ends State) (Good : State → Type 0) (kept : 
   made_its ps ss b line o fit =
       let x : Settlement = record { target = b.command.target; call = b.command.call; outcome = Answered line } in
       let w = (world ends o.stretch).wire in
-      let right : b.command.call ≡ o.task.command.call = (fit.faithful.one_for_one.same (8 + o.m) x o.request (get_drop 8 o.m w.settled x o.settled) (get_drop 8 o.m w.sent o.request o.sent)).1 ∙ ap (λ (z : Asked). z.call) o.asks in
+      let right : b.command.call ≡ o.task.command.call = (fit.faithful.one_for_one.same (8 + o.m) x o.request (get_drop 8 o.m w.settled x o.settled)
+      (get_drop 8 o.m w.sent o.request o.sent)).1 ∙ ap (λ (z : Asked). z.call) o.asks in
       subst (λ call. WasMadeOn 7 ends o.stretch.from o.stretch.moves (8 + o.m) call line) (sym right) o.made_on
 
-  chained_to : (acts : List Act) (v : UnderWay State) (rs : List (Run State)) → IsInField ends Good kept plan commands scope acts v rs → (b : Record) (line : List ℕ) (u : IsItsOwn ends Good kept commands (parts plan commands scope acts) (stretches ends v rs) b line) (a : ℕ) → a < b.place → AreChained commands a b.place
+  chained_to : (acts : List Act) (v : UnderWay State) (rs : List (Run State)) → IsInField ends Good kept plan commands scope acts v rs
+      → (b : Record) (line : List ℕ) (u : IsItsOwn ends Good kept commands (parts plan commands scope acts) (stretches ends v rs) b line) (a : ℕ)
+      → a < b.place → AreChained commands a b.place
       → IsChainedTo ends Good kept scope.reads (parts plan commands scope acts) (stretches ends v rs) (stood plan commands scope acts).records a b line
   chained_to acts v rs h b line u a less chained =
       let ss = stretches ends v rs in
@@ -399,7 +428,8 @@ module _ {State : Type 0} (ends : Ends State) (Good : State → Type 0) (kept : 
       record {
         k = back.k;
         record_a = back.answer;
-        among = ap (λ l. slice_get (stood plan commands scope l).records back.k) sent.order ∙ ap (λ l. slice_get l back.k) grown.1 ∙ in_more (stood plan commands scope sent.before).records grown.0 back.k back.answer back.among;
+        among = ap (λ l. slice_get (stood plan commands scope l).records back.k) sent.order ∙ ap (λ l. slice_get l back.k) grown.1
+            ∙ in_more (stood plan commands scope sent.before).records grown.0 back.k back.answer back.among;
         cycle = same_cycle;
         place = back.own_place;
         line_a = back.line;
@@ -426,7 +456,8 @@ module _ {State : Type 0} (ends : Ends State) (Good : State → Type 0) (kept : 
             (omega (arith, size, dropped)) b.command.call line made;
       }
 
-  pub chains_executed : (acts : List Act) (u : UnderWay State) (rs : List (Run State)) → IsInField ends Good kept plan commands scope acts u rs → AreExecutedInChain ends Good kept plan commands scope acts u rs
+  pub chains_executed : (acts : List Act) (u : UnderWay State) (rs : List (Run State)) → IsInField ends Good kept plan commands scope acts u rs
+      → AreExecutedInChain ends Good kept plan commands scope acts u rs
   chains_executed acts u rs h =
       all_so (IsOwnAnswer ends Good kept commands (parts plan commands scope acts) (stretches ends u rs)) (IsExecutedInChain ends Good kept plan commands scope acts u rs)
       (λ b own line a answered less chained. chained_to acts u rs h b line (own line answered) a less chained)

@@ -20,7 +20,7 @@ use Rattle.gc_field.specs.Needed.{Keeper, held, kept, value}
 use Rattle.gc_field.proofs.ChainWitness.{all_chained}
 use Rattle.gc_field.proofs.Needed.{kept_own, reads_value}
 use Rattle.gc_station.specs.Parts.{parts_of}
-use Rattle.gc_station.specs.Standing.{Runs, opening}
+use Rattle.gc_station.specs.Model.{Runs, opening}
 use Rattle.gc_field.specs.Field.{seen}
 use Rattle.gc_field.specs.Shown.{AreShownAs, shown}
 use Rattle.gc_field.specs.Begin.{begins}
@@ -38,9 +38,10 @@ repeats : (s : Counter) (id : ℕ) (o : Option ℕ) → held s.keeps id ≡ o �
 repeats s id (Some n) e not = kept_own s.keeps id n e
 repeats s id None e not = absurd (true_is_not not)
 
-keeps : (s : Counter) (id : ℕ) (o : Option ℕ) → held s.keeps id ≡ o → kept_by (counted_or s id o).state ≡ Some (record { id = id; line = (counted_or s id o).reply })
-keeps s id (Some n) e = kept_own s.keeps id n e
-keeps s id None e = refl
+-- behind a request the reply that it got is kept with its id
+reply_is_kept : (s : Counter) (id : ℕ) (o : Option ℕ) → held s.keeps id ≡ o → kept_by (counted_or s id o).state ≡ Some (record { id = id; line = (counted_or s id o).reply })
+reply_is_kept s id (Some n) e = kept_own s.keeps id n e
+reply_is_kept s id None e = refl
 
 -- what it keeps with this id is held for it
 none_held : (x : ℕ × ℕ) (id : ℕ) → x.0 ≡ id → held (Some x) id ≡ None → ⊥
@@ -65,7 +66,7 @@ is =
       hears = λ line. refl;
       replies = λ s id call good small. reads s id (held s.keeps id) small;
       repeats = λ s id call good small not. repeats s id (held s.keeps id) refl not;
-      keeps = λ s id call good small. inr (keeps s id (held s.keeps id) refl);
+      keeps = λ s id call good small. inr (reply_is_kept s id (held s.keeps id) refl);
       starts = λ s good. inl refl;
       stays_good = λ s id call good small. tt;
       starts_good = λ s good. tt;
@@ -75,7 +76,7 @@ keeps_its : KeepsItsReply counting AnyState kept_by
 keeps_its =
     record {
       again = λ s id call line good small e. held_for s.keeps id (held s.keeps id) line refl e s;
-      always = λ s id call good small. keeps s id (held s.keeps id) refl;
+      always = λ s id call good small. reply_is_kept s id (held s.keeps id) refl;
     }
 
 effect : HasEffect counting bare counts

@@ -12,7 +12,7 @@ use Rattle.gc_field.specs.Begin.{begins, leaves, none_under_way, turned}
 use Rattle.gc_field.specs.Begun.{WasMadeOn}
 use Rattle.gc_field.specs.Drifting.{IsAnsweredByDrifting, acts, answer, begun, commands, drifting, moves, plan, runs, scope, turns}
 use Rattle.gc_station.specs.Parts.{parts_of}
-use Rattle.gc_station.specs.Standing.{after_all, opening}
+use Rattle.gc_station.specs.Model.{after_all, opening}
 use Rattle.gc_field.specs.Field.{seen}
 use Rattle.gc_field.specs.Shown.{AreShownAs, shown}
 use Rattle.gc_station.specs.Parts as part

@@ -21,7 +21,8 @@ use Rattle.gc_field.proofs.Instruments.{exchange_of}
 use Rattle.gc_field.proofs.Possible.{possible_front}
 use Rattle.gc_field.proofs.Seen.{same_all, same_open}
 
-module _ {State : Type 0} (ends : Ends State) (same_heard : (line : List ℕ) → ends.heard line ≡ heard line) (Good : State → Type 0) (kept : State → Option KeptReply) (keeper : IsAnInstrument ends Good kept) (width : ℕ) (narrow : width ≤ 7) where
+module _ {State : Type 0} (ends : Ends State) (same_heard : (line : List ℕ) → ends.heard line ≡ heard line) (Good : State → Type 0)
+    (kept : State → Option KeptReply) (keeper : IsAnInstrument ends Good kept) (width : ℕ) (narrow : width ≤ 7) where
   abbrev ex : IsExchange ends Good
   ex = exchange_of ends Good kept keeper
 

@@ -183,10 +183,14 @@ unsigned_lines : (before bytes : List ℕ) → AllByRecursion (λ b. b ≢ 37) b
 unsigned_lines before [] h g = tt
 unsigned_lines before (b ∷ bytes) h g =
     chosen (is_line_feed b)
-    (framed IsNoRequest (frame_of before) (map frame_of (pieces_behind [] bytes)) (λ line e. unsigned line (subst (λ l. AllByRecursion (λ b. b ≢ 37) l) (sym (frame_line before line e)) (taken (λ b. b ≢ 37) (length before - 1) before h))) (unsigned_lines [] bytes tt g.1))
+    (framed IsNoRequest (frame_of before) (map frame_of (pieces_behind [] bytes))
+    (λ line e. unsigned line (subst (λ l. AllByRecursion (λ b. b ≢ 37) l) (sym (frame_line before line e))
+    (taken (λ b. b ≢ 37) (length before - 1) before h))) (unsigned_lines [] bytes tt g.1))
     (unsigned_lines (before ++ b ∷ []) bytes (joined (λ b. b ≢ 37) before (b ∷ []) h (g.0, tt)) g.1)
   where
-    chosen : (t : Bool) → AllByRecursion IsNoRequest (lines_in (map frame_of (before ∷ pieces_behind [] bytes))) → AllByRecursion IsNoRequest (lines_in (map frame_of (pieces_behind (before ++ b ∷ []) bytes))) → AllByRecursion IsNoRequest (lines_in (map frame_of (cond t (before ∷ pieces_behind [] bytes) (pieces_behind (before ++ b ∷ []) bytes))))
+    chosen : (t : Bool) → AllByRecursion IsNoRequest (lines_in (map frame_of (before ∷ pieces_behind [] bytes)))
+        → AllByRecursion IsNoRequest (lines_in (map frame_of (pieces_behind (before ++ b ∷ []) bytes)))
+        → AllByRecursion IsNoRequest (lines_in (map frame_of (cond t (before ∷ pieces_behind [] bytes) (pieces_behind (before ++ b ∷ []) bytes))))
     chosen true here later = here
     chosen false here later = later
 
@@ -194,7 +198,9 @@ unsigned_lines before (b ∷ bytes) h g =
 no_return : (bytes : List ℕ) → AllByRecursion (λ b. b ≢ 13) bytes → ends_in_return bytes ≡ false
 no_return [] h = refl
 no_return (b ∷ bytes) h =
-    let last : eqb (slice_index (b ∷ bytes) (length (b ∷ bytes) - 1)) 13 ≡ false = ne_eqb (slice_index (b ∷ bytes) (length (b ∷ bytes) - 1)) 13 (All-from_recursion (λ b. b ≢ 13) (b ∷ bytes) h (length (b ∷ bytes) - 1) 0 (omega arith)) in
+    let last : eqb (slice_index (b ∷ bytes) (length (b ∷ bytes) - 1)) 13 ≡ false =
+    ne_eqb (slice_index (b ∷ bytes) (length (b ∷ bytes) - 1)) 13 (All-from_recursion
+    (λ b. b ≢ 13) (b ∷ bytes) h (length (b ∷ bytes) - 1) 0 (omega arith)) in
     ap (λ t. ltb 0 (length (b ∷ bytes)) && t) last ∙ never (ltb 0 (length (b ∷ bytes)))
   where
     never : (t : Bool) → (t && false) ≡ false
@@ -204,7 +210,8 @@ no_return (b ∷ bytes) h =
 no_line : (bytes : List ℕ) → AllByRecursion (λ b. b ≢ 13) bytes → frame_of bytes ≡ Cleared
 no_line bytes h = ap (λ t. cond t (cond (ltb 512 (length bytes - 1)) Overlong (Line (record { items = take (length bytes - 1) bytes }))) Cleared) (no_return bytes h)
 
-one_by_one : (t : Bool) (before : List ℕ) (here later : List (List ℕ)) → frame_of before ≡ Cleared → lines_in (map frame_of here) ≡ [] → lines_in (map frame_of later) ≡ [] → lines_in (map frame_of (cond t (before ∷ here) later)) ≡ []
+one_by_one : (t : Bool) (before : List ℕ) (here later : List (List ℕ)) → frame_of before ≡ Cleared → lines_in (map frame_of here) ≡ []
+    → lines_in (map frame_of later) ≡ [] → lines_in (map frame_of (cond t (before ∷ here) later)) ≡ []
 one_by_one true before here later none h g = ap (λ f. lines_in (f ∷ map frame_of here)) none ∙ h
 one_by_one false before here later none h g = g
 
@@ -236,8 +243,10 @@ whole_or_nothing id call fits =
     record {
       front = λ count le. ap (λ l. lines (l ++ 10 ∷ [])) (take_front line (13 ∷ 10 ∷ []) count le)
           ∙ no_lines [] (take count line ++ 10 ∷ []) tt
-          (joined (λ b. b ≢ 13) (take count line) (10 ∷ []) (taken (λ b. b ≢ 13) count line ((λ e. omega (arith, e)), weaker (λ b. 37 < b) (λ b. b ≢ 13) (λ b l e. omega (arith, l, e)) (body id call) above)) ((λ e. omega (arith, e)), tt));
-      whole = ap (λ n. take n (request_bytes id call) ++ 10 ∷ []) (let next : length line + 1 ≡ suc (length line) = omega arith in next) ∙ ap (λ l. l ++ 10 ∷ []) (take_one_more line (10 ∷ []) 13) ∙ behind_push line 13 10;
+          (joined (λ b. b ≢ 13) (take count line) (10 ∷ []) (taken (λ b. b ≢ 13) count line
+          ((λ e. omega (arith, e)), weaker (λ b. 37 < b) (λ b. b ≢ 13) (λ b l e. omega (arith, l, e)) (body id call) above)) ((λ e. omega (arith, e)), tt));
+      whole = ap (λ n. take n (request_bytes id call) ++ 10 ∷ []) (let next : length line + 1 ≡ suc (length line) = omega arith in next)
+          ∙ ap (λ l. l ++ 10 ∷ []) (take_one_more line (10 ∷ []) 13) ∙ behind_push line 13 10;
       tail = λ count some. tail_of above count some;
     }
   where
@@ -245,4 +254,5 @@ whole_or_nothing id call fits =
     tail_of above zero some = absurd (omega (arith, some))
     tail_of above (suc k) some =
         unsigned_lines [] (drop k (body id call ++ 13 ∷ 10 ∷ [])) tt
-        (dropped (λ b. b ≢ 37) k (body id call ++ 13 ∷ 10 ∷ []) (joined (λ b. b ≢ 37) (body id call) (13 ∷ 10 ∷ []) (weaker (λ b. 37 < b) (λ b. b ≢ 37) (λ b l e. omega (arith, l, e)) (body id call) above) ((λ e. omega (arith, e)), ((λ e. omega (arith, e)), tt))))
+        (dropped (λ b. b ≢ 37) k (body id call ++ 13 ∷ 10 ∷ []) (joined (λ b. b ≢ 37) (body id call) (13 ∷ 10 ∷ [])
+        (weaker (λ b. 37 < b) (λ b. b ≢ 37) (λ b l e. omega (arith, l, e)) (body id call) above) ((λ e. omega (arith, e)), ((λ e. omega (arith, e)), tt))))

@@ -73,7 +73,8 @@ module _ {State : Type 0} (ends : Ends State) (Good : State → Type 0) (kept : 
   pub law : (u : UnderWay State) → IsClean Good kept u → (ms : List (Move State)) → ArePossible ends Good kept (by_ids 7 ends) ms (ids_begun u) → IsFaithful 7 ends u ms Good kept
   law u clean ms p = faithful ends Good kept is 7 (omega arith) u clean ms p
 
-  pub front_of : (u : UnderWay State) (ms front later : List (Move State)) → ms ≡ front ++ later → ArePossible ends Good kept (by_ids 7 ends) ms (ids_begun u) → ArePossible ends Good kept (by_ids 7 ends) front (ids_begun u)
+  pub front_of : (u : UnderWay State) (ms front later : List (Move State)) → ms ≡ front ++ later → ArePossible ends Good kept (by_ids 7 ends) ms (ids_begun u)
+      → ArePossible ends Good kept (by_ids 7 ends) front (ids_begun u)
   front_of u ms front later e p = possible_front 7 ends Good kept front later (ids_begun u) (subst (λ xs. ArePossible ends Good kept (by_ids 7 ends) xs (ids_begun u)) e p)
 
   -- a stretch: it has begun cleanly, or nothing happens in it
@@ -113,7 +114,8 @@ module _ {State : Type 0} (ends : Ends State) (Good : State → Type 0) (kept : 
       )
 
   -- a reply under way that isn't settled is one to a request that was sent
-  below_sent : (u : UnderWay State) → IsClean Good kept u → (front : List (Move State)) → ArePossible ends Good kept (by_ids 7 ends) front (ids_begun u) → (line : List ℕ) (n : ℕ) (rest : List (Numbered (List ℕ))) → (behind 7 ends u front).wire.down ≡ record { number = n; line = line } ∷ rest
+  below_sent : (u : UnderWay State) → IsClean Good kept u → (front : List (Move State)) → ArePossible ends Good kept (by_ids 7 ends) front (ids_begun u)
+      → (line : List ℕ) (n : ℕ) (rest : List (Numbered (List ℕ))) → (behind 7 ends u front).wire.down ≡ record { number = n; line = line } ∷ rest
       → length (behind 7 ends u front).wire.settled ≤ n → n - length (behind 7 ends u front).wire.settled < length (behind 7 ends u front).client.waiting
   below_sent u clean front possible line n rest e le =
       let a = behind 7 ends u front in

@@ -38,7 +38,8 @@ kept_own (Some k) id line e = chosen (eqb k.id id) refl e where
 kept_for : (k : Option KeptReply) (id : ℕ) (line : List ℕ) → k ≡ Some (record { id = id; line = line }) → kept_line k (Some id) ≡ Some line
 kept_for k id line e = ap (λ k. kept_line k (Some id)) e ∙ ap (λ b. cond b (Some line) None) (eq-eqb id id refl)
 
-repeated : (s : State) (id : ℕ) (call : Call) (o : Option (List ℕ)) → kept_line s.kept (Some id) ≡ o → (handed s id call).executed ≡ false → s.kept ≡ Some (record { id = id; line = (handed s id call).reply })
+repeated : (s : State) (id : ℕ) (call : Call) (o : Option (List ℕ)) → kept_line s.kept (Some id) ≡ o → (handed s id call).executed ≡ false
+    → s.kept ≡ Some (record { id = id; line = (handed s id call).reply })
 repeated s id call None e not = absurd (true_is_not (sym (ap (λ (h : Handed State). h.executed) (handed_new s id call e)) ∙ not))
 repeated s id call (Some line) e not =
     kept_own s.kept id line e ∙ sym (ap (λ (h : Handed State). Some (record { id = id; line = h.reply })) (handed_again s id call line e))

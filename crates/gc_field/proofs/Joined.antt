@@ -31,10 +31,26 @@ joined_requests id call next behind zero small fits some q is = absurd (omega (a
 joined_requests id call next behind (suc k) small fits some q is =
     let number = is.number in
     let h = 82 ∷ 49 ∷ 81 ∷ 44 ∷ (number ++ (id_text q.id ++ 58 ∷ [])) in
-    let above : AreAbove h = (lit< tt, (lit< tt, (lit< tt, (lit< tt, joined (λ b. 37 < b) number (id_text q.id ++ 58 ∷ []) (above_decimal_digits number is.is_number.digits) (joined (λ b. 37 < b) (id_text q.id) (58 ∷ []) (above_id q.id) (lit< tt, tt)))))) in
+    let above : AreAbove h = (
+      lit< tt,
+      (
+        lit< tt,
+        (
+          lit< tt,
+          (
+            lit< tt,
+            joined
+                (λ b. 37 < b) number (id_text q.id ++ 58 ∷ []) (above_decimal_digits number is.is_number.digits)
+                (joined (λ b. 37 < b) (id_text q.id) (58 ∷ []) (above_id q.id) (lit< tt, tt)),
+          ),
+        ),
+      ),
+    ) in
     let whole : (params : List ℕ) → h ++ params ≡ 82 ∷ 49 ∷ 81 ∷ 44 ∷ (number ++ (id_text q.id ++ 58 ∷ params)) =
     λ params. ap (λ l. 82 ∷ 49 ∷ 81 ∷ 44 ∷ l) (append_assoc number (id_text q.id ++ 58 ∷ []) params ∙ ap (λ l. number ++ l) (append_assoc (id_text q.id) (58 ∷ []) params)) in
-    let e : take k (body id call) ++ 37 ∷ body next behind ≡ h ++ q.params = tail 37 37 (take k (body id call) ++ 37 ∷ body next behind) (82 ∷ 49 ∷ 81 ∷ 44 ∷ (number ++ (id_text q.id ++ 58 ∷ q.params))) is.whole ∙ sym (whole q.params) in
+    let e : take k (body id call) ++ 37 ∷ body next behind ≡ h ++ q.params =
+    tail 37 37 (take k (body id call) ++ 37 ∷ body next behind) (82 ∷ 49 ∷ 81 ∷ 44 ∷ (number ++ (id_text q.id ++ 58 ∷ q.params))) is.whole
+    ∙ sym (whole q.params) in
     let s = split (take k (body id call)) h (body next behind) q.params (taken (λ b. 37 < b) k (body id call) (above_body id call fits)) above e in
     let params = s.0 ++ drop k (body id call) in
     let own : body id call ≡ h ++ params = sym (take_drop k (body id call)) ∙ ap (λ l. l ++ drop k (body id call)) s.1 ∙ append_assoc h s.0 (drop k (body id call)) in

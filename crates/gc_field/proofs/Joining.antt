@@ -21,11 +21,11 @@ use Rattle.gc_station.specs.Marks.{record_of, records_of}
 use Rattle.gc_station.specs.Parts.{Part, joined, AreOf, parts_of, went_out, sent_with, sent_of, timeless}
 use Rattle.gc_station.specs.Records.{Record}
 use Rattle.gc_station.specs.Runs.{stood}
-use Rattle.gc_station.specs.Standing.{Standing, opening}
+use Rattle.gc_station.specs.Model.{Model, opening}
 use Rattle.gc_station.proofs.Asked.{parts_begun}
 use Rattle.gc_station.proofs.Booking.{Books, client_after, settled_by, sent_by, settled_append, sent_append, course_settled, course_sent, course_client, of_at, all_records, restarting}
 use Rattle.gc_station.proofs.EachRun.{fine_opening, each_once}
-use Rattle.gc_station.proofs.Following.{Follows, follows}
+use Rattle.gc_station.proofs.Following.{BooksInParts, follows}
 use Rattle.gc_station.proofs.Meets.{was_answered, was_late}
 use Rattle.gc_station.specs.Scopes.{Scope}
 use Rattle.gc_world.specs.Clients.{by_ids}
@@ -120,11 +120,13 @@ module _ {State : Type 0} (ends : Ends State) (Good : State → Type 0) (kept : 
     sound : Sound ends Good kept is (record { from = leaves (turned ends r.turns (begins u)); moves = r.moves })
     faithful : IsFaithful 7 ends (leaves (turned ends r.turns (begins u))) r.moves Good kept
 
-  begun_clean : (u : UnderWay State) (r : Run State) → AreLines Good u → (IsSubsequence the_word (ids_under_way u) → ⊥) → AreTurns ends Good kept r.turns (begins u) → (stood_by 7 ends u r).left ≡ [] → IsClean Good kept (leaves (stood_by 7 ends u r))
+  begun_clean : (u : UnderWay State) (r : Run State) → AreLines Good u → (IsSubsequence the_word (ids_under_way u) → ⊥)
+      → AreTurns ends Good kept r.turns (begins u) → (stood_by 7 ends u r).left ≡ [] → IsClean Good kept (leaves (stood_by 7 ends u r))
   begun_clean u r lines none turns e =
       clean_lines ends Good kept is 7 (omega arith) (stood_by 7 ends u r) (left_lines ends Good kept is u r.turns lines turns).good (begins_cleanly ends Good kept is u r.turns lines turns none e)
 
-  one : (u : UnderWay State) (r : Run State) (left : List ℕ) → (stood_by 7 ends u r).left ≡ left → AreLines Good u → (IsSubsequence the_word (ids_under_way u) → ⊥) → AreTurns ends Good kept r.turns (begins u)
+  one : (u : UnderWay State) (r : Run State) (left : List ℕ) → (stood_by 7 ends u r).left ≡ left → AreLines Good u
+      → (IsSubsequence the_word (ids_under_way u) → ⊥) → AreTurns ends Good kept r.turns (begins u)
       → ArePossibleIf 7 ends Good kept left (stood_by 7 ends u r) r.moves → One u r left
   one u r [] e lines none turns p =
       let from = leaves (stood_by 7 ends u r) in
@@ -140,7 +142,8 @@ module _ {State : Type 0} (ends : Ends State) (Good : State → Type 0) (kept : 
       }
 
   -- what it leaves where it has begun: lines, without the word
-  leaves_next : (u : UnderWay State) (r : Run State) → AreLines Good u → (IsSubsequence the_word (ids_under_way u) → ⊥) → AreTurns ends Good kept r.turns (begins u) → ArePossibleIf 7 ends Good kept (stood_by 7 ends u r).left (stood_by 7 ends u r) r.moves
+  leaves_next : (u : UnderWay State) (r : Run State) → AreLines Good u → (IsSubsequence the_word (ids_under_way u) → ⊥)
+      → AreTurns ends Good kept r.turns (begins u) → ArePossibleIf 7 ends Good kept (stood_by 7 ends u r).left (stood_by 7 ends u r) r.moves
       → (stood_by 7 ends u r).left ≡ [] → AreLines Good (left_by_run 7 ends u r) × (IsSubsequence the_word (ids_under_way (left_by_run 7 ends u r)) → ⊥)
   leaves_next u r lines none turns p e =
       let s = stood_by 7 ends u r in
@@ -167,7 +170,8 @@ module _ {State : Type 0} (ends : Ends State) (Good : State → Type 0) (kept : 
   left_so : (u : UnderWay State) (r : Run State) (p : Part) → shown ends r.turns (begins u) ≡ p.turns → (stood_by 7 ends u r).left ≡ left_behind the_word (heard_in p.turns)
   left_so u r p e = left_is ends r.turns (begins u) ∙ ap (λ l. left_behind the_word (heard_in l)) e
 
-  pub all_fit : (ps : List Part) (rs : List (Run State)) (u : UnderWay State) → AreLines Good u → (IsSubsequence the_word (ids_under_way u) → ⊥) → AreShownAs ends u rs ps → AreRuns 7 ends Good kept u rs → AreBegun the_word ps
+  pub all_fit : (ps : List Part) (rs : List (Run State)) (u : UnderWay State) → AreLines Good u → (IsSubsequence the_word (ids_under_way u) → ⊥)
+      → AreShownAs ends u rs ps → AreRuns 7 ends Good kept u rs → AreBegun the_word ps
       → AllFit ps (stretches ends u rs) × AreOwn 7 ends Good kept u rs
   all_fit [] [] u lines none s p b = (tt, tt)
   all_fit [] (r ∷ rs) u lines none s p b = absurd s
@@ -209,16 +213,18 @@ module _ {State : Type 0} (ends : Ends State) (Good : State → Type 0) (kept : 
 
   module _ (reads : Call → List ℕ → Reading) (commands : List Task) where
     -- the requests of a part
-    of_last : (rs : List Record) (p : Part) (s : Stretch State) (end : Standing) → Fits p s → Books reads commands fresh [] rs p end.client end.marks (sent_of end.records) → AreOf commands p.marks (map asked (own_sent ends s))
+    of_last : (rs : List Record) (p : Part) (s : Stretch State) (end : Model) → Fits p s
+        → Books reads commands fresh [] rs p end.client end.marks (sent_of end.records) → AreOf commands p.marks (map asked (own_sent ends s))
     of_last rs p s end f h = subst (AreOf commands p.marks) (fit_sent p s f) h.wrote.sent
 
-    of_ended : (rs mid : List Record) (p : Part) (s : Stretch State) → Fits p s → Books reads commands fresh [] rs (joined p restarting) fresh [] mid → AreOf commands p.marks (map asked (own_sent ends s))
+    of_ended : (rs mid : List Record) (p : Part) (s : Stretch State) → Fits p s → Books reads commands fresh [] rs (joined p restarting) fresh [] mid
+        → AreOf commands p.marks (map asked (own_sent ends s))
     of_ended rs mid p s f h =
         let asks : sent_by fresh (p.steps ++ Restart ∷ []) ≡ map asked (own_sent ends s) = sent_append fresh p.steps (Restart ∷ []) ∙ append-nil (sent_by fresh p.steps) ∙ fit_sent p s f in
         subst (λ marks. AreOf commands marks (map asked (own_sent ends s))) (append-nil p.marks) (subst (AreOf commands (p.marks ++ [])) asks h.wrote.sent)
 
     -- its records
-    written_last : (rs : List Record) (p : Part) (s : Stretch State) (end : Standing) → Fits p s → Books reads commands fresh [] rs p end.client end.marks (sent_of end.records)
+    written_last : (rs : List Record) (p : Part) (s : Stretch State) (end : Model) → Fits p s → Books reads commands fresh [] rs p end.client end.marks (sent_of end.records)
         → map timeless (sent_of end.records) ≡ map timeless rs ++ records_of reads 0 p.marks (own_settled ends s)
     written_last rs p s end f h = h.wrote.records ∙ ap (λ l. map timeless rs ++ records_of reads 0 p.marks l) (fit_settled p s f)
 
@@ -229,7 +235,7 @@ module _ {State : Type 0} (ends : Ends State) (Good : State → Type 0) (kept : 
         ∙ ap (λ l. map timeless rs ++ records_of reads 0 p.marks l) (fit_ended p s f)
 
     -- over all parts
-    pub sent_all : (ps : List Part) (ss : List (Stretch State)) (rs : List Record) (end : Standing) → AllFit ps ss → Follows reads commands fresh [] rs ps end → AreSentAs ends commands ps ss
+    pub sent_all : (ps : List Part) (ss : List (Stretch State)) (rs : List Record) (end : Model) → AllFit ps ss → BooksInParts reads commands fresh [] rs ps end → AreSentAs ends commands ps ss
     sent_all [] [] rs end f h = tt
     sent_all [] (s ∷ ss) rs end f h = absurd f
     sent_all (p ∷ ps) [] rs end f h = absurd f
@@ -238,7 +244,8 @@ module _ {State : Type 0} (ends : Ends State) (Good : State → Type 0) (kept : 
     sent_all (p ∷ q ∷ ps) (s ∷ []) rs end f h = absurd f.1
     sent_all (p ∷ q ∷ ps) (s ∷ t ∷ ss) rs end f h = (of_ended rs h.0 p s f.0 h.1, sent_all (q ∷ ps) (t ∷ ss) h.0 end f.1 h.2)
 
-    pub written_all : (ps : List Part) (ss : List (Stretch State)) (rs : List Record) (end : Standing) → AllFit ps ss → Follows reads commands fresh [] rs ps end → map timeless (sent_of end.records) ≡ map timeless rs ++ written_over ends reads ps ss
+    pub written_all : (ps : List Part) (ss : List (Stretch State)) (rs : List Record) (end : Model) → AllFit ps ss
+        → BooksInParts reads commands fresh [] rs ps end → map timeless (sent_of end.records) ≡ map timeless rs ++ written_over ends reads ps ss
     written_all [] [] rs end f h = absurd h
     written_all [] (s ∷ ss) rs end f h = absurd f
     written_all (p ∷ ps) [] rs end f h = absurd f
@@ -252,7 +259,8 @@ module _ {State : Type 0} (ends : Ends State) (Good : State → Type 0) (kept : 
   -- Its own.
 
   -- in a later stretch
-  own_later : (commands : List Task) (p : Part) (s : Stretch State) (ps : List Part) (ss : List (Stretch State)) (r : Record) (line : List ℕ) → IsItsOwn ends Good kept commands ps ss r line → IsItsOwn ends Good kept commands (p ∷ ps) (s ∷ ss) r line
+  own_later : (commands : List Task) (p : Part) (s : Stretch State) (ps : List Part) (ss : List (Stretch State)) (r : Record) (line : List ℕ)
+      → IsItsOwn ends Good kept commands ps ss r line → IsItsOwn ends Good kept commands (p ∷ ps) (s ∷ ss) r line
   own_later commands p s ps ss r line h = record {
     k = suc h.k;
     part = h.part;
@@ -274,7 +282,8 @@ module _ {State : Type 0} (ends : Ends State) (Good : State → Type 0) (kept : 
   }
 
   -- whenever it was written down
-  own_timeless : (commands : List Task) (ps : List Part) (ss : List (Stretch State)) (r : Record) (line : List ℕ) → IsItsOwn ends Good kept commands ps ss (timeless r) line → IsItsOwn ends Good kept commands ps ss r line
+  own_timeless : (commands : List Task) (ps : List Part) (ss : List (Stretch State)) (r : Record) (line : List ℕ)
+      → IsItsOwn ends Good kept commands ps ss (timeless r) line → IsItsOwn ends Good kept commands ps ss r line
   own_timeless commands ps ss r line h = record {
     k = h.k;
     part = h.part;
@@ -295,16 +304,20 @@ module _ {State : Type 0} (ends : Ends State) (Good : State → Type 0) (kept : 
     made_on = h.made_on;
   }
 
-  all_timeless : (commands : List Task) (ps : List Part) (ss : List (Stretch State)) (rs : List Record) → AllByRecursion (IsOwnAnswer ends Good kept commands ps ss) (map timeless rs) → AllByRecursion (IsOwnAnswer ends Good kept commands ps ss) rs
+  all_timeless : (commands : List Task) (ps : List Part) (ss : List (Stretch State)) (rs : List Record)
+      → AllByRecursion (IsOwnAnswer ends Good kept commands ps ss) (map timeless rs) → AllByRecursion (IsOwnAnswer ends Good kept commands ps ss) rs
   all_timeless commands ps ss [] h = tt
   all_timeless commands ps ss (r ∷ rs) h = (λ line answered. own_timeless commands ps ss r line (h.0 line answered), all_timeless commands ps ss rs h.1)
 
-  all_later : (commands : List Task) (p : Part) (s : Stretch State) (ps : List Part) (ss : List (Stretch State)) (rs : List Record) → AllByRecursion (IsOwnAnswer ends Good kept commands ps ss) rs → AllByRecursion (IsOwnAnswer ends Good kept commands (p ∷ ps) (s ∷ ss)) rs
+  all_later : (commands : List Task) (p : Part) (s : Stretch State) (ps : List Part) (ss : List (Stretch State)) (rs : List Record)
+      → AllByRecursion (IsOwnAnswer ends Good kept commands ps ss) rs → AllByRecursion (IsOwnAnswer ends Good kept commands (p ∷ ps) (s ∷ ss)) rs
   all_later commands p s ps ss [] h = tt
   all_later commands p s ps ss (r ∷ rs) h = (λ line answered. own_later commands p s ps ss r line (h.0 line answered), all_later commands p s ps ss rs h.1)
 
   -- in the first one, among what is settled there and then what is lost
-  own_first : (reads : Call → List ℕ → Reading) (commands : List Task) (p : Part) (s : Stretch State) (ps : List Part) (ss : List (Stretch State)) (waiting : List Pending) (xs : List Settlement) → xs ≡ own_settled ends s ++ map lost waiting → Fits p s → AreOf commands p.marks (map asked (own_sent ends s))
+  own_first : (reads : Call → List ℕ → Reading) (commands : List Task) (p : Part) (s : Stretch State) (ps : List Part) (ss : List (Stretch State))
+      (waiting : List Pending) (xs : List Settlement) → xs ≡ own_settled ends s ++ map lost waiting → Fits p s
+      → AreOf commands p.marks (map asked (own_sent ends s))
       → AllByRecursion (IsOwnAnswer ends Good kept commands (p ∷ ps) (s ∷ ss)) (records_of reads 0 p.marks xs)
   own_first reads commands p s ps ss waiting xs e f sent =
       all_records reads (IsOwnAnswer ends Good kept commands (p ∷ ps) (s ∷ ss)) p.marks xs
@@ -337,7 +350,8 @@ module _ {State : Type 0} (ends : Ends State) (Good : State → Type 0) (kept : 
         made_on = subst (λ call. WasMadeOn 7 ends s.from s.moves (8 + n) call line) right (f.faithful.made_on (8 + n) x line beyond there answered);
       })
 
-  pub own_all : (reads : Call → List ℕ → Reading) (commands : List Task) (ps : List Part) (ss : List (Stretch State)) → AllFit ps ss → AreSentAs ends commands ps ss → AllByRecursion (IsOwnAnswer ends Good kept commands ps ss) (written_over ends reads ps ss)
+  pub own_all : (reads : Call → List ℕ → Reading) (commands : List Task) (ps : List Part) (ss : List (Stretch State)) → AllFit ps ss
+      → AreSentAs ends commands ps ss → AllByRecursion (IsOwnAnswer ends Good kept commands ps ss) (written_over ends reads ps ss)
   own_all reads commands [] [] f h = tt
   own_all reads commands [] (s ∷ ss) f h = tt
   own_all reads commands (p ∷ ps) [] f h = absurd f
@@ -362,7 +376,8 @@ module _ {State : Type 0} (ends : Ends State) (Good : State → Type 0) (kept : 
     none end.Skipped out answered = cc
     none end.Missed out answered = cc
 
-  all_sent : (commands : List Task) (ps : List Part) (ss : List (Stretch State)) (rs : List Record) → AllByRecursion (IsOwnAnswer ends Good kept commands ps ss) (sent_of rs) → AllByRecursion (IsOwnAnswer ends Good kept commands ps ss) rs
+  all_sent : (commands : List Task) (ps : List Part) (ss : List (Stretch State)) (rs : List Record)
+      → AllByRecursion (IsOwnAnswer ends Good kept commands ps ss) (sent_of rs) → AllByRecursion (IsOwnAnswer ends Good kept commands ps ss) rs
   all_sent commands ps ss [] h = tt
   all_sent commands ps ss (r ∷ rs) h = by_case (went_out r.end) refl (all_sent commands ps ss rs) h where
     by_case : (b : Bool) → went_out r.end ≡ b → (AllByRecursion (IsOwnAnswer ends Good kept commands ps ss) (sent_of rs) → AllByRecursion (IsOwnAnswer ends Good kept commands ps ss) rs)
@@ -372,24 +387,55 @@ module _ {State : Type 0} (ends : Ends State) (Good : State → Type 0) (kept : 
 
   -- Dealt with, though late.
 
-  late_later : (commands : List Task) (p : Part) (s : Stretch State) (ps : List Part) (ss : List (Stretch State)) (r : Record) → IsDealtWith ends Good kept commands ps ss r → IsDealtWith ends Good kept commands (p ∷ ps) (s ∷ ss) r
+  late_later : (commands : List Task) (p : Part) (s : Stretch State) (ps : List Part) (ss : List (Stretch State)) (r : Record)
+      → IsDealtWith ends Good kept commands ps ss r → IsDealtWith ends Good kept commands (p ∷ ps) (s ∷ ss) r
   late_later commands p s ps ss r f = λ late.
       let h = f late in
-      record { k = suc h.k; part = h.part; stretch = h.stretch; of_parts = h.of_parts; of_stretches = h.of_stretches; m = h.m; mark = h.mark; task = h.task; listed = h.listed; line = h.line; made_on = h.made_on }
+      record {
+        k = suc h.k;
+        part = h.part;
+        stretch = h.stretch;
+        of_parts = h.of_parts;
+        of_stretches = h.of_stretches;
+        m = h.m;
+        mark = h.mark;
+        task =
+            h.task;
+        listed = h.listed;
+        line = h.line;
+        made_on = h.made_on;
+      }
 
-  late_all_later : (commands : List Task) (p : Part) (s : Stretch State) (ps : List Part) (ss : List (Stretch State)) (rs : List Record) → AllByRecursion (IsDealtWith ends Good kept commands ps ss) rs → AllByRecursion (IsDealtWith ends Good kept commands (p ∷ ps) (s ∷ ss)) rs
+  late_all_later : (commands : List Task) (p : Part) (s : Stretch State) (ps : List Part) (ss : List (Stretch State)) (rs : List Record)
+      → AllByRecursion (IsDealtWith ends Good kept commands ps ss) rs → AllByRecursion (IsDealtWith ends Good kept commands (p ∷ ps) (s ∷ ss)) rs
   late_all_later commands p s ps ss [] h = tt
   late_all_later commands p s ps ss (r ∷ rs) h = (late_later commands p s ps ss r h.0, late_all_later commands p s ps ss rs h.1)
 
-  late_timeless : (commands : List Task) (ps : List Part) (ss : List (Stretch State)) (rs : List Record) → AllByRecursion (IsDealtWith ends Good kept commands ps ss) (map timeless rs) → AllByRecursion (IsDealtWith ends Good kept commands ps ss) rs
+  late_timeless : (commands : List Task) (ps : List Part) (ss : List (Stretch State)) (rs : List Record)
+      → AllByRecursion (IsDealtWith ends Good kept commands ps ss) (map timeless rs) → AllByRecursion (IsDealtWith ends Good kept commands ps ss) rs
   late_timeless commands ps ss [] h = tt
   late_timeless commands ps ss (r ∷ rs) h = (
     (λ late. let g = h.0 late in
-        record { k = g.k; part = g.part; stretch = g.stretch; of_parts = g.of_parts; of_stretches = g.of_stretches; m = g.m; mark = g.mark; task = g.task; listed = g.listed; line = g.line; made_on = g.made_on }),
+        record {
+          k = g.k;
+          part = g.part;
+          stretch = g.stretch;
+          of_parts = g.of_parts;
+          of_stretches = g.of_stretches;
+          m = g.m;
+          mark = g.mark;
+          task =
+              g.task;
+          listed = g.listed;
+          line = g.line;
+          made_on = g.made_on;
+        }),
     late_timeless commands ps ss rs h.1,
   )
 
-  late_first : (reads : Call → List ℕ → Reading) (commands : List Task) (p : Part) (s : Stretch State) (ps : List Part) (ss : List (Stretch State)) (waiting : List Pending) (xs : List Settlement) → xs ≡ own_settled ends s ++ map lost waiting → Fits p s → AreOf commands p.marks (map asked (own_sent ends s))
+  late_first : (reads : Call → List ℕ → Reading) (commands : List Task) (p : Part) (s : Stretch State) (ps : List Part) (ss : List (Stretch State))
+      (waiting : List Pending) (xs : List Settlement) → xs ≡ own_settled ends s ++ map lost waiting → Fits p s
+      → AreOf commands p.marks (map asked (own_sent ends s))
       → AllByRecursion (IsDealtWith ends Good kept commands (p ∷ ps) (s ∷ ss)) (records_of reads 0 p.marks xs)
   late_first reads commands p s ps ss waiting xs e f sent =
       all_records reads (IsDealtWith ends Good kept commands (p ∷ ps) (s ∷ ss)) p.marks xs
@@ -416,7 +462,8 @@ module _ {State : Type 0} (ends : Ends State) (Good : State → Type 0) (kept : 
         made_on = subst (λ call. WasMadeOn 7 ends s.from s.moves (8 + n) call made.0) right made.1;
       })
 
-  pub late_all : (reads : Call → List ℕ → Reading) (commands : List Task) (ps : List Part) (ss : List (Stretch State)) → AllFit ps ss → AreSentAs ends commands ps ss → AllByRecursion (IsDealtWith ends Good kept commands ps ss) (written_over ends reads ps ss)
+  pub late_all : (reads : Call → List ℕ → Reading) (commands : List Task) (ps : List Part) (ss : List (Stretch State)) → AllFit ps ss
+      → AreSentAs ends commands ps ss → AllByRecursion (IsDealtWith ends Good kept commands ps ss) (written_over ends reads ps ss)
   late_all reads commands [] [] f h = tt
   late_all reads commands [] (s ∷ ss) f h = tt
   late_all reads commands (p ∷ ps) [] f h = absurd f
@@ -430,7 +477,8 @@ module _ {State : Type 0} (ends : Ends State) (Good : State → Type 0) (kept : 
       (late_all_later commands p s (q ∷ ps) (t ∷ ss) (written_over ends reads (q ∷ ps) (t ∷ ss)) (late_all reads commands (q ∷ ps) (t ∷ ss) f.1 h.1))
 
   -- one that wasn't sent isn't late
-  late_sent : (commands : List Task) (ps : List Part) (ss : List (Stretch State)) (rs : List Record) → AllByRecursion (IsDealtWith ends Good kept commands ps ss) (sent_of rs) → AllByRecursion (IsDealtWith ends Good kept commands ps ss) rs
+  late_sent : (commands : List Task) (ps : List Part) (ss : List (Stretch State)) (rs : List Record)
+      → AllByRecursion (IsDealtWith ends Good kept commands ps ss) (sent_of rs) → AllByRecursion (IsDealtWith ends Good kept commands ps ss) rs
   late_sent commands ps ss [] h = tt
   late_sent commands ps ss (r ∷ rs) h = by_case (went_out r.end) refl (late_sent commands ps ss rs) h where
     by_case : (b : Bool) → went_out r.end ≡ b → (AllByRecursion (IsDealtWith ends Good kept commands ps ss) (sent_of rs) → AllByRecursion (IsDealtWith ends Good kept commands ps ss) rs)
@@ -445,7 +493,8 @@ module _ {State : Type 0} (ends : Ends State) (Good : State → Type 0) (kept : 
   all_fitting plan commands scope acts u rs h =
       all_fit (parts_of plan commands (opening plan scope) acts) rs u h.lines h.none h.shown h.possible (parts_begun plan commands (opening plan scope) acts h.runs)
 
-  pub run_faithful : (plan : Plan) (commands : List Task) (scope : Scope) (acts : List Act) (u : UnderWay State) (rs : List (Run State)) → IsInField ends Good kept plan commands scope acts u rs → IsRunFaithful ends Good kept plan commands scope acts u rs
+  pub run_faithful : (plan : Plan) (commands : List Task) (scope : Scope) (acts : List Act) (u : UnderWay State) (rs : List (Run State))
+      → IsInField ends Good kept plan commands scope acts u rs → IsRunFaithful ends Good kept plan commands scope acts u rs
   run_faithful plan commands scope acts u rs h =
       let start = opening plan scope in
       let ps = parts_of plan commands start acts in
@@ -459,8 +508,10 @@ module _ {State : Type 0} (ends : Ends State) (Good : State → Type 0) (kept : 
       record {
         begun = parts_begun plan commands start acts h.runs;
         clean = fit.1;
-        own = all_sent commands ps ss end.records (all_timeless commands ps ss (sent_of end.records) (subst (AllByRecursion (IsOwnAnswer ends Good kept commands ps ss)) (sym written) (own_all scope.reads commands ps ss fit.0 sent)));
-        late = late_sent commands ps ss end.records (late_timeless commands ps ss (sent_of end.records) (subst (AllByRecursion (IsDealtWith ends Good kept commands ps ss)) (sym written) (late_all scope.reads commands ps ss fit.0 sent)));
+        own = all_sent commands ps ss end.records (all_timeless commands ps ss (sent_of end.records)
+            (subst (AllByRecursion (IsOwnAnswer ends Good kept commands ps ss)) (sym written) (own_all scope.reads commands ps ss fit.0 sent)));
+        late = late_sent commands ps ss end.records (late_timeless commands ps ss (sent_of end.records)
+            (subst (AllByRecursion (IsDealtWith ends Good kept commands ps ss)) (sym written) (late_all scope.reads commands ps ss fit.0 sent)));
         one_for_one = each_once plan commands scope acts;
         sent = sent;
         written = written;

@@ -12,7 +12,7 @@ use Rattle.gc_field.specs.LateAnswer.{IsLateInField, acts, answer, before, comma
 use Rattle.gc_field.specs.Begun.{WasMadeOn}
 use Rattle.gc_field.proofs.Witness.{asked_each, fits, one_part, opens, run_on, units}
 use Rattle.gc_station.specs.Parts.{parts_of}
-use Rattle.gc_station.specs.Standing.{opening}
+use Rattle.gc_station.specs.Model.{opening}
 use Rattle.gc_field.specs.Field.{seen}
 use Rattle.gc_field.specs.Shown.{AreShownAs, shown}
 use Rattle.gc_field.specs.Begin.{begins}

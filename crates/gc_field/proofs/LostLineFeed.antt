@@ -37,8 +37,10 @@ items = codes "%R1Q" ∷ codes "0" ∷ codes "2:" ∷ []
 too_many : IsListFault [] (codes "%R1Q,0,2:") Count
 too_many =
     faulty_items items
-    (joined_params items
-    (bare_param (codes "%R1Q") (sign, (bare_above 82 (lit< tt), (bare_above 49 (lit< tt), (bare_above 81 (lit< tt), tt)))), (bare_param (codes "0") (bare_above 48 (lit< tt), tt), (bare_param (codes "2:") (bare_above 50 (lit< tt), (bare_above 58 (lit< tt), tt)), tt)))
+    (joined_params items (
+      bare_param (codes "%R1Q") (sign, (bare_above 82 (lit< tt), (bare_above 49 (lit< tt), (bare_above 81 (lit< tt), tt)))),
+      (bare_param (codes "0") (bare_above 48 (lit< tt), tt), (bare_param (codes "2:") (bare_above 50 (lit< tt), (bare_above 58 (lit< tt), tt)), tt)),
+    )
     (lit< tt, (lit< tt, (lit< tt, tt))))
     (wrong_count refl (omega arith) (λ e. omega (arith, e)))
 

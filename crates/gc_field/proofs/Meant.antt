@@ -8,18 +8,18 @@ use Rattle.gc_station.specs.declared.plan.Plan.{Plan}
 use Rattle.gc_links.specs.Acts.{Act, Told, Untold, Put, Cut, Gave, Silent, Ended, Broke, Closed, Opened, Unopened}
 use Rattle.gc_station.specs.Deciding.{has_begun}
 use Rattle.gc_station.specs.Parts.{Part, Asks, Hears, beginning, doing, hearing, nothing, only_turns, putting}
-use Rattle.gc_station.specs.Standing.{Standing, order_at, is_heard, lines_behind, null_text, Obeys, after, Runs}
+use Rattle.gc_station.specs.Model.{Model, action_at, is_heard, lines_behind, null_text, Performs, after, Runs}
 use Rattle.gc_station.proofs.Asked.{none_doing, steps_none, turns_gave, turns_plain, word_after}
 use Rattle.gc_station.proofs.Booking.{sending_of, sends_with_room}
 use Rattle.gc_station.proofs.EachRun.{fine_after}
-use Rattle.gc_station.proofs.Fine.{Fine}
+use Rattle.gc_station.proofs.Invariant.{Invariant}
 use Rattle.gc_station.proofs.Meant as meant
 use Rattle.gc_station.proofs.Meant.{asked_is, put_is, rest_is, left_of}
 use Rattle.gc_field.specs.Asking.{IsAskedFor, IsTaken, MeansTurns}
 use Rattle.gc_field.specs.Meaning.{IsPut, Means}
 use Rattle.gc_field.specs.Runs.{AreMeant, IsMeant}
 
-put_means : (s : Standing) (bytes : List ℕ) (p : Part) → meant.IsPut s bytes p → IsPut s.client bytes p.steps
+put_means : (s : Model) (bytes : List ℕ) (p : Part) → meant.IsPut s bytes p → IsPut s.client bytes p.steps
 put_means s bytes p (inl e) = inl (e.0, ap (λ (x : Part). x.steps) e.1)
 put_means s bytes p (inr x) =
     inr (record {
@@ -33,7 +33,8 @@ put_means s bytes p (inr x) =
     })
 
 -- a piece is heard or dropped
-gave_means : (client : ById) (h : Bool) (rest behind piece : List ℕ) (m : Moment) → behind ≡ left_of h rest (Gave piece m) → Means client rest (Gave piece m) (Expire m.elapsed ∷ hearing h rest piece) behind
+gave_means : (client : ById) (h : Bool) (rest behind piece : List ℕ) (m : Moment) → behind ≡ left_of h rest (Gave piece m)
+    → Means client rest (Gave piece m) (Expire m.elapsed ∷ hearing h rest piece) behind
 gave_means client true rest behind piece m e = inl (record { lines = refl; rest = e })
 gave_means client false rest behind piece m e = inr (record { lines = refl; rest = e })
 
@@ -42,18 +43,30 @@ taken : (h : Bool) (rest behind piece : List ℕ) (m : Moment) → behind ≡ le
 taken true rest behind piece m e = inl (refl, e)
 taken false rest behind piece m e = inr (refl, e)
 
-asked_for : (s : Standing) (bytes : List ℕ) (p : Part) → ((bytes ≡ 10 ∷ []) × (p ≡ nothing)) ⊎ ((bytes ≡ null_text s.progress.word) × (p ≡ only_turns (Asks ∷ []))) → IsAskedFor s.progress.word bytes p.turns
+asked_for : (s : Model) (bytes : List ℕ) (p : Part) → ((bytes ≡ 10 ∷ []) × (p ≡ nothing))
+    ⊎ ((bytes ≡ null_text s.progress.word) × (p ≡ only_turns (Asks ∷ []))) → IsAskedFor s.progress.word bytes p.turns
 asked_for s bytes p (inl e) = inl (e.0, ap (λ (x : Part). x.turns) e.1)
 asked_for s bytes p (inr e) = inr (e.0, ap (λ (x : Part). x.turns) e.1)
 
 module _ (plan : Plan) (commands : List Task) where
-  act_means : (s : Standing) (act : Act) → Fine plan commands s → has_begun s.progress ≡ true → Obeys commands s (order_at plan s) act → Means s.client s.rest act (doing plan commands s (order_at plan s) act).steps (after plan commands s act).rest
-  act_means s (Gave piece m) fine begun obeys = gave_means s.client (is_heard s.progress.phase) s.rest (after plan commands s (Gave piece m)).rest piece m (rest_is plan commands s (Gave piece m) obeys)
-  act_means s (Put bytes) fine begun obeys = (put_means s bytes (putting plan commands s (order_at plan s)) (put_is plan commands s (Put bytes) bytes fine obeys refl begun), rest_is plan commands s (Put bytes) obeys ∙ plain (is_heard s.progress.phase)) where
+  act_means : (s : Model) (act : Act) → Invariant plan commands s → has_begun s.progress ≡ true → Performs commands s (action_at plan s) act
+      → Means s.client s.rest act (doing plan commands s (action_at plan s) act).steps (after plan commands s act).rest
+  act_means s (Gave piece m) fine begun obeys = gave_means s.client (is_heard s.progress.phase) s.rest (after plan commands s (Gave piece m)).rest piece m
+      (rest_is plan commands s (Gave piece m) obeys)
+  act_means s (Put bytes) fine begun obeys = (
+    put_means s bytes (putting plan commands s (action_at plan s))
+        (put_is plan commands s (Put bytes) bytes fine obeys refl begun),
+    rest_is plan commands s (Put bytes) obeys ∙ plain (is_heard s.progress.phase),
+  ) where
     plain : (h : Bool) → left_of h s.rest (Put bytes) ≡ s.rest
     plain true = refl
     plain false = refl
-  act_means s (Cut bytes count) fine begun obeys = (put_means s bytes (putting plan commands s (order_at plan s)) (put_is plan commands s (Cut bytes count) bytes fine obeys refl begun), rest_is plan commands s (Cut bytes count) obeys ∙ plain (is_heard s.progress.phase)) where
+  act_means s (Cut bytes count) fine begun obeys = (
+    put_means s bytes (putting plan commands s (action_at plan s))
+        (put_is plan commands s (Cut bytes count) bytes fine obeys refl begun),
+    rest_is plan commands s (Cut bytes count) obeys
+        ∙ plain (is_heard s.progress.phase),
+  ) where
     plain : (h : Bool) → left_of h s.rest (Cut bytes count) ≡ s.rest
     plain true = refl
     plain false = refl
@@ -90,57 +103,67 @@ module _ (plan : Plan) (commands : List Task) where
     plain true = refl
     plain false = refl
 
-  turns_mean : (s : Standing) (act : Act) → has_begun s.progress ≡ false → Obeys commands s (order_at plan s) act → MeansTurns s.progress.word s.rest act (beginning s (order_at plan s) act).turns (after plan commands s act).rest
+  turns_mean : (s : Model) (act : Act) → has_begun s.progress ≡ false → Performs commands s (action_at plan s) act
+      → MeansTurns s.progress.word s.rest act (beginning s (action_at plan s) act).turns (after plan commands s act).rest
   turns_mean s (Gave piece m) begins obeys =
-      subst (λ turns. IsTaken s.rest piece turns (after plan commands s (Gave piece m)).rest) (sym (turns_gave plan commands s (order_at plan s) piece m obeys))
+      subst (λ turns. IsTaken s.rest piece turns (after plan commands s (Gave piece m)).rest) (sym (turns_gave plan commands s (action_at plan s) piece m obeys))
       (taken (is_heard s.progress.phase) s.rest (after plan commands s (Gave piece m)).rest piece m (rest_is plan commands s (Gave piece m) obeys))
-  turns_mean s (Put bytes) begins obeys = (asked_for s bytes (beginning s (order_at plan s) (Put bytes)) (asked_is plan commands s (Put bytes) bytes obeys refl begins), rest_is plan commands s (Put bytes) obeys ∙ plain (is_heard s.progress.phase)) where
+  turns_mean s (Put bytes) begins obeys = (
+    asked_for s bytes (beginning s (action_at plan s) (Put bytes))
+        (asked_is plan commands s (Put bytes) bytes obeys refl begins),
+    rest_is plan commands s (Put bytes) obeys ∙ plain (is_heard s.progress.phase),
+  ) where
     plain : (h : Bool) → left_of h s.rest (Put bytes) ≡ s.rest
     plain true = refl
     plain false = refl
-  turns_mean s (Cut bytes count) begins obeys = (asked_for s bytes (beginning s (order_at plan s) (Cut bytes count)) (asked_is plan commands s (Cut bytes count) bytes obeys refl begins), rest_is plan commands s (Cut bytes count) obeys ∙ plain (is_heard s.progress.phase)) where
+  turns_mean s (Cut bytes count) begins obeys = (
+    asked_for s bytes (beginning s (action_at plan s) (Cut bytes count))
+        (asked_is plan commands s (Cut bytes count) bytes obeys refl begins),
+    rest_is plan commands s (Cut bytes count) obeys
+        ∙ plain (is_heard s.progress.phase),
+  ) where
     plain : (h : Bool) → left_of h s.rest (Cut bytes count) ≡ s.rest
     plain true = refl
     plain false = refl
-  turns_mean s Untold begins obeys = (turns_plain plan commands s (order_at plan s) Untold tt, rest_is plan commands s Untold obeys ∙ plain (is_heard s.progress.phase)) where
+  turns_mean s Untold begins obeys = (turns_plain plan commands s (action_at plan s) Untold tt, rest_is plan commands s Untold obeys ∙ plain (is_heard s.progress.phase)) where
     plain : (h : Bool) → left_of h s.rest Untold ≡ s.rest
     plain true = refl
     plain false = refl
-  turns_mean s (Told m) begins obeys = (turns_plain plan commands s (order_at plan s) (Told m) tt, rest_is plan commands s (Told m) obeys ∙ plain (is_heard s.progress.phase)) where
+  turns_mean s (Told m) begins obeys = (turns_plain plan commands s (action_at plan s) (Told m) tt, rest_is plan commands s (Told m) obeys ∙ plain (is_heard s.progress.phase)) where
     plain : (h : Bool) → left_of h s.rest (Told m) ≡ s.rest
     plain true = refl
     plain false = refl
-  turns_mean s (Silent m) begins obeys = (turns_plain plan commands s (order_at plan s) (Silent m) tt, rest_is plan commands s (Silent m) obeys ∙ plain (is_heard s.progress.phase)) where
+  turns_mean s (Silent m) begins obeys = (turns_plain plan commands s (action_at plan s) (Silent m) tt, rest_is plan commands s (Silent m) obeys ∙ plain (is_heard s.progress.phase)) where
     plain : (h : Bool) → left_of h s.rest (Silent m) ≡ s.rest
     plain true = refl
     plain false = refl
-  turns_mean s Ended begins obeys = (turns_plain plan commands s (order_at plan s) Ended tt, rest_is plan commands s Ended obeys ∙ plain (is_heard s.progress.phase)) where
+  turns_mean s Ended begins obeys = (turns_plain plan commands s (action_at plan s) Ended tt, rest_is plan commands s Ended obeys ∙ plain (is_heard s.progress.phase)) where
     plain : (h : Bool) → left_of h s.rest Ended ≡ s.rest
     plain true = refl
     plain false = refl
-  turns_mean s Broke begins obeys = (turns_plain plan commands s (order_at plan s) Broke tt, rest_is plan commands s Broke obeys ∙ plain (is_heard s.progress.phase)) where
+  turns_mean s Broke begins obeys = (turns_plain plan commands s (action_at plan s) Broke tt, rest_is plan commands s Broke obeys ∙ plain (is_heard s.progress.phase)) where
     plain : (h : Bool) → left_of h s.rest Broke ≡ s.rest
     plain true = refl
     plain false = refl
-  turns_mean s Opened begins obeys = (turns_plain plan commands s (order_at plan s) Opened tt, rest_is plan commands s Opened obeys ∙ plain (is_heard s.progress.phase)) where
+  turns_mean s Opened begins obeys = (turns_plain plan commands s (action_at plan s) Opened tt, rest_is plan commands s Opened obeys ∙ plain (is_heard s.progress.phase)) where
     plain : (h : Bool) → left_of h s.rest Opened ≡ s.rest
     plain true = refl
     plain false = refl
-  turns_mean s Unopened begins obeys = (turns_plain plan commands s (order_at plan s) Unopened tt, rest_is plan commands s Unopened obeys ∙ plain (is_heard s.progress.phase)) where
+  turns_mean s Unopened begins obeys = (turns_plain plan commands s (action_at plan s) Unopened tt, rest_is plan commands s Unopened obeys ∙ plain (is_heard s.progress.phase)) where
     plain : (h : Bool) → left_of h s.rest Unopened ≡ s.rest
     plain true = refl
     plain false = refl
-  turns_mean s Closed begins obeys = (turns_plain plan commands s (order_at plan s) Closed tt, rest_is plan commands s Closed obeys ∙ plain (is_heard s.progress.phase)) where
+  turns_mean s Closed begins obeys = (turns_plain plan commands s (action_at plan s) Closed tt, rest_is plan commands s Closed obeys ∙ plain (is_heard s.progress.phase)) where
     plain : (h : Bool) → left_of h s.rest Closed ≡ []
     plain true = refl
     plain false = refl
 
   -- before it has begun, and then
-  is_meant : (s : Standing) (act : Act) (b : Bool) → has_begun s.progress ≡ b → Fine plan commands s → Obeys commands s (order_at plan s) act
-      → IsMeant b s act (if b then doing plan commands s (order_at plan s) act else beginning s (order_at plan s) act) (after plan commands s act)
-  is_meant s act true e fine obeys = (none_doing plan commands s (order_at plan s) act, act_means s act fine e obeys)
-  is_meant s act false e fine obeys = (steps_none plan commands s (order_at plan s) act, turns_mean s act e obeys, word_after plan commands s act obeys e)
+  is_meant : (s : Model) (act : Act) (b : Bool) → has_begun s.progress ≡ b → Invariant plan commands s → Performs commands s (action_at plan s) act
+      → IsMeant b s act (if b then doing plan commands s (action_at plan s) act else beginning s (action_at plan s) act) (after plan commands s act)
+  is_meant s act true e fine obeys = (none_doing plan commands s (action_at plan s) act, act_means s act fine e obeys)
+  is_meant s act false e fine obeys = (steps_none plan commands s (action_at plan s) act, turns_mean s act e obeys, word_after plan commands s act obeys e)
 
-  pub are_meant : (s : Standing) (acts : List Act) → Fine plan commands s → Runs plan commands s acts → AreMeant plan commands s acts
+  pub are_meant : (s : Model) (acts : List Act) → Invariant plan commands s → Runs plan commands s acts → AreMeant plan commands s acts
   are_meant s [] fine runs = tt
   are_meant s (act ∷ acts) fine runs = (is_meant s act (has_begun s.progress) refl fine runs.0, are_meant (after plan commands s act) acts (fine_after plan commands s act fine) runs.1)

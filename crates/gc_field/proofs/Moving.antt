@@ -91,7 +91,8 @@ module _ {State : Type 0} (width : ℕ) (narrow : width ≤ 7) (ends : Ends Stat
       ∙ ap (λ l. a.wire.settled ++ settle (n - b.client.count) line l) (sym h.agree.client.window)
       ∙ ap (λ k. a.wire.settled ++ settle (n - k) line a.client.waiting) (sym size)
 
-module _ {State : Type 0} (width : ℕ) (narrow : width ≤ 7) (ends : Ends State) (Good : State → Type 0) (ex : IsExchange ends Good) (kept : State → Option KeptReply) (keeper : IsAnInstrument ends Good kept) (low : ℕ) (beyond : 0 < low) (M : ℕ → Call → List ℕ → Type 0) where
+module _ {State : Type 0} (width : ℕ) (narrow : width ≤ 7) (ends : Ends State) (Good : State → Type 0) (ex : IsExchange ends Good)
+    (kept : State → Option KeptReply) (keeper : IsAnInstrument ends Good kept) (low : ℕ) (beyond : 0 < low) (M : ℕ → Call → List ℕ → Type 0) where
   abbrev Trusted : World ByNumber State → Type 0
   Trusted w = True width narrow ends Good ex kept keeper low M w
 

@@ -212,7 +212,61 @@ all_needed =
                 record {
                   beyond = omega arith;
                   clean = clean_kept;
-                  field = (tt, (tt, ((8, [], refl), (tt, (tt, ((9, [], refl), (tt, (tt, ((10, [], refl), (tt, (tt, ((11, [], refl), (tt, (tt, ((12, [], refl), (tt, (tt, ((13, [], refl), (tt, (tt, ((14, [], refl), (tt, (tt, ((15, [], refl), (tt, (tt, ((16, [], refl), tt)))))))))))))))))))))))))));
+                  field = (
+                    tt,
+                    (
+                      tt,
+                      (
+                        (8, [], refl),
+                        (
+                          tt,
+                          (
+                            tt,
+                            (
+                              (9, [], refl),
+                              (
+                                tt,
+                                (
+                                  tt,
+                                  (
+                                    (10, [], refl),
+                                    (
+                                      tt,
+                                      (
+                                        tt,
+                                        (
+                                          (11, [], refl),
+                                          (
+                                            tt,
+                                            (
+                                              tt,
+                                              (
+                                                (12, [], refl),
+                                                (
+                                                  tt,
+                                                  (
+                                                    tt,
+                                                    (
+                                                      (13, [], refl),
+                                                      (tt, (tt, ((14, [], refl), (tt, (tt, ((15, [], refl), (tt, (tt, ((16, [], refl), tt))))))))),
+                                                    ),
+                                                  ),
+                                                ),
+                                              ),
+                                            ),
+                                          ),
+                                        ),
+                                      ),
+                                    ),
+                                  ),
+                                ),
+                              ),
+                            ),
+                          ),
+                        ),
+                      ),
+                    ),
+                  );
                   settled = refl;
                   executed = ninth;
                 };

@@ -107,7 +107,8 @@ never_idle executed starts j k m (inr h) run a e =
     ]
 
 -- a request is executed that is none of those before, or the first one since a start
-pub climbing_acted : (top n : ℕ) (executed starts : List ℕ) (k : Option KeptReply) (kept : KeptReply) → top ≤ n + 1 → (k ≡ None) ⊎ (top ≤ n) → IsClimbing top executed starts k → IsClimbing (n + 1) (executed ++ n ∷ []) starts (Some kept)
+pub climbing_acted : (top n : ℕ) (executed starts : List ℕ) (k : Option KeptReply) (kept : KeptReply) → top ≤ n + 1 → (k ≡ None) ⊎ (top ≤ n)
+    → IsClimbing top executed starts k → IsClimbing (n + 1) (executed ++ n ∷ []) starts (Some kept)
 climbing_acted top n executed starts k kept le why h =
     record {
       once = λ i j x y lt run a b. elim (get_pushed executed n j y b) [

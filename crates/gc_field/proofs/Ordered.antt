@@ -16,7 +16,7 @@ use Rattle.gc_field.specs.Field.{Move, OnLine, moves, moved, ArePossible}
 use Rattle.gc_field.specs.Instrument.{IsAnInstrument}
 use Rattle.gc_field.specs.Once.{ActsOnce, HasNoStart, IsInOrder}
 use Rattle.gc_field.specs.Shown.{Stretch}
-use Rattle.gc_field.proofs.Between.{Stands, acted, calls_more, did_all, made_both, stands_all}
+use Rattle.gc_field.proofs.Between.{Refines, acted, calls_more, did_all, made_both, stands_all}
 use Rattle.gc_field.proofs.InTime.{front_of, law}
 use Rattle.gc_field.proofs.Possible.{moved_append, possible_behind, possible_front}
 
@@ -96,7 +96,8 @@ module _ (e : List ℕ) (m n : ℕ) (numbers : List ℕ) where
 
 -- The law.
 
-module _ {State : Type 0} (ends : Ends State) (Good : State → Type 0) (kept : State → Option KeptReply) (is : IsAnInstrument ends Good kept) (s : Stretch State) (clean : IsClean Good kept s.from) (field : ArePossible ends Good kept (by_ids 7 ends) s.moves (ids_begun s.from)) where
+module _ {State : Type 0} (ends : Ends State) (Good : State → Type 0) (kept : State → Option KeptReply) (is : IsAnInstrument ends Good kept)
+    (s : Stretch State) (clean : IsClean Good kept s.from) (field : ArePossible ends Good kept (by_ids 7 ends) s.moves (ids_begun s.from)) where
   abbrev at : List (Move State) → World ById State
   at ms = behind 7 ends s.from ms
 
@@ -122,7 +123,8 @@ module _ {State : Type 0} (ends : Ends State) (Good : State → Type 0) (kept : 
       (did.more, ap (λ (w : World ById State). w.wire.sent) (moved_append 7 ends front more (ids_begun s.from)) ∙ did.sent)
 
   -- m was executed before these moves, and n wasn't sent: so n was executed behind them
-  behind_front : (before later : List (Move State)) → s.moves ≡ before ++ later → (n : ℕ) → length (at before).wire.sent ≤ n → (call : Call) (line : List ℕ) (h : WasMadeOn 7 ends s.from s.moves n call line)
+  behind_front : (before later : List (Move State)) → s.moves ≡ before ++ later → (n : ℕ) → length (at before).wire.sent ≤ n
+      → (call : Call) (line : List ℕ) (h : WasMadeOn 7 ends s.from s.moves n call line)
       → (more : List (Move State)) × (h.front ≡ before ++ more)
   behind_front before later e n unsent call line h =
       elim (fronts before later h.front (OnLine Up_deliver ∷ h.later) (sym e ∙ h.split)) [
@@ -134,7 +136,8 @@ module _ {State : Type 0} (ends : Ends State) (Good : State → Type 0) (kept : 
       ]
 
   -- two executions, the one behind the other
-  both_made : (m n : ℕ) (call_m call_n : Call) (line_m line_n : List ℕ) (f : WasMadeOn 7 ends s.from s.moves m call_m line_m) (h : WasMadeOn 7 ends s.from s.moves n call_n line_n) (between : List (Move State)) → h.front ≡ f.front ++ OnLine Up_deliver ∷ between
+  both_made : (m n : ℕ) (call_m call_n : Call) (line_m line_n : List ℕ) (f : WasMadeOn 7 ends s.from s.moves m call_m line_m)
+      (h : WasMadeOn 7 ends s.from s.moves n call_n line_n) (between : List (Move State)) → h.front ≡ f.front ++ OnLine Up_deliver ∷ between
       → IsExecutedAfter ends Good kept s m n call_m call_n line_m line_n
   both_made m n call_m call_n line_m line_n f h between order =
       let split : s.moves ≡ (f.front ++ OnLine Up_deliver ∷ between) ++ OnLine Up_deliver ∷ h.later = h.split ∙ ap (λ l. l ++ OnLine Up_deliver ∷ h.later) order in
@@ -145,15 +148,22 @@ module _ {State : Type 0} (ends : Ends State) (Good : State → Type 0) (kept : 
       let stands = stands_all ends Good kept f.front s.from clean (possible_to f.front (OnLine Up_deliver ∷ (between ++ OnLine Up_deliver ∷ h.later)) split_f) in
       let one = acted ends v (record { number = m; line = record { id = f.id; call = call_m } }) f.rest f.reaches f.executed in
       let last = acted ends (at h.front) (record { number = n; line = record { id = h.id; call = call_n } }) h.rest h.reaches h.executed in
-      let possible : ArePossible ends Good kept (by_ids 7 ends) between w = possible_front 7 ends Good kept between (OnLine Up_deliver ∷ h.later) w (possible_from f.front (OnLine Up_deliver ∷ (between ++ OnLine Up_deliver ∷ h.later)) split_f).1 in
-      let split_w : s.moves ≡ (f.front ++ OnLine Up_deliver ∷ []) ++ (between ++ OnLine Up_deliver ∷ h.later) = split_f ∙ sym (append_assoc f.front (OnLine Up_deliver ∷ []) (between ++ OnLine Up_deliver ∷ h.later)) in
-      let stands_w : Stands ends w.wire = subst (λ (x : World ById State). Stands ends x.wire) (moved_append 7 ends f.front (OnLine Up_deliver ∷ []) (ids_begun s.from)) (stands_all ends Good kept (f.front ++ OnLine Up_deliver ∷ []) s.from clean (possible_to (f.front ++ OnLine Up_deliver ∷ []) (between ++ OnLine Up_deliver ∷ h.later) split_w)) in
+      let possible : ArePossible ends Good kept (by_ids 7 ends) between w =
+      possible_front 7 ends Good kept between (OnLine Up_deliver ∷ h.later) w
+      (possible_from f.front (OnLine Up_deliver ∷ (between ++ OnLine Up_deliver ∷ h.later)) split_f).1 in
+      let split_w : s.moves ≡ (f.front ++ OnLine Up_deliver ∷ []) ++ (between ++ OnLine Up_deliver ∷ h.later) =
+      split_f ∙ sym (append_assoc f.front (OnLine Up_deliver ∷ []) (between ++ OnLine Up_deliver ∷ h.later)) in
+      let stands_w : Refines ends w.wire = subst (λ (x : World ById State). Refines ends x.wire)
+      (moved_append 7 ends f.front (OnLine Up_deliver ∷ []) (ids_begun s.from))
+      (stands_all ends Good kept (f.front ++ OnLine Up_deliver ∷ []) s.from clean
+      (possible_to (f.front ++ OnLine Up_deliver ∷ []) (between ++ OnLine Up_deliver ∷ h.later) split_w)) in
       let did = did_all ends Good kept between w possible stands_w in
       let there : at h.front ≡ moved ends (by_ids 7 ends) between w = ap (λ l. at l) order ∙ moved_append 7 ends f.front (OnLine Up_deliver ∷ between) (ids_begun s.from) in
       let e = v.wire.executed in
       let ran : (at h.front).wire.executed ≡ e ++ m ∷ did.numbers =
       ap (λ (x : World ById State). x.wire.executed) there ∙ did.executed ∙ ap (λ l. l ++ did.numbers) one.0 ∙ append_assoc e (m ∷ []) did.numbers in
-      let behind_last : at (h.front ++ OnLine Up_deliver ∷ []) ≡ moves ends (by_ids 7 ends) (at h.front) (OnLine Up_deliver) = moved_append 7 ends h.front (OnLine Up_deliver ∷ []) (ids_begun s.from) in
+      let behind_last : at (h.front ++ OnLine Up_deliver ∷ []) ≡ moves ends (by_ids 7 ends) (at h.front) (OnLine Up_deliver) =
+      moved_append 7 ends h.front (OnLine Up_deliver ∷ []) (ids_begun s.from) in
       let whole : (at (h.front ++ OnLine Up_deliver ∷ [])).wire.executed ≡ (e ++ m ∷ did.numbers) ++ n ∷ [] =
       ap (λ (x : World ById State). x.wire.executed) behind_last ∙ last.0 ∙ ap (λ l. l ++ n ∷ []) ran in
       let true_there = law ends Good kept is s.from clean (h.front ++ OnLine Up_deliver ∷ []) (front_of ends Good kept is s.from s.moves (h.front ++ OnLine Up_deliver ∷ []) h.later split_h field) in
@@ -177,7 +187,8 @@ module _ {State : Type 0} (ends : Ends State) (Good : State → Type 0) (kept : 
         calls = did.calls;
         asked = subst (λ l. AreCalls l did.numbers did.calls) (sym grown_all) (calls_more (at h.front).wire.sent grown.0 did.numbers did.calls asked_there);
         state = λ apart effect has still.
-            ap (λ (x : World ById State). apart x.wire.state) there ∙ made_both ends v.wire.state w.wire.state (moved ends (by_ids 7 ends) between w).wire.state (call_m ∷ []) did.calls one.1 (did.state still) apart effect has;
+            ap (λ (x : World ById State). apart x.wire.state) there ∙ made_both ends v.wire.state w.wire.state
+            (moved ends (by_ids 7 ends) between w).wire.state (call_m ∷ []) did.calls one.1 (did.state still) apart effect has;
       }
     where
       nil : (ms : List (Move State)) → ms ++ [] ≡ ms
@@ -185,7 +196,8 @@ module _ {State : Type 0} (ends : Ends State) (Good : State → Type 0) (kept : 
       nil (x ∷ ms) = ap (λ l. x ∷ l) (nil ms)
 
   -- what goes out behind an answer
-  pub executed_behind : (before later : List (Move State)) → s.moves ≡ before ++ later → (m n : ℕ) (x : Settlement) (line_m : List ℕ) → 8 ≤ m → slice_get (at before).wire.settled m ≡ Some x → x.outcome ≡ Answered line_m
+  pub executed_behind : (before later : List (Move State)) → s.moves ≡ before ++ later → (m n : ℕ) (x : Settlement) (line_m : List ℕ) → 8 ≤ m
+      → slice_get (at before).wire.settled m ≡ Some x → x.outcome ≡ Answered line_m
       → length (at before).wire.sent ≤ n → (call : Call) (line_n : List ℕ) → WasMadeOn 7 ends s.from s.moves n call line_n → IsExecutedAfter ends Good kept s m n x.call call line_m line_n
   executed_behind before later e m n x line_m beyond settled answered unsent call line_n h =
       let f = (law ends Good kept is s.from clean before (front_of ends Good kept is s.from s.moves before later e field)).made_on m x line_m beyond settled answered in

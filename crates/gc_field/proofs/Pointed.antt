@@ -112,7 +112,8 @@ call_same s (call.ChangeFace pos_mode atr_mode dummy) e = cc
 call_same s (call.FineAdjust area_hz area_v dummy) e = cc
 call_same s asked e = (refl, refl)
 
-position_points : (s : State) (hz v : Decimal) (pos_mode atr_mode dummy : _) → let t = (exec s (call.Position hz v pos_mode atr_mode dummy)).state in (t.pointing ≡ record { hz = hz; v = v }) × (t.face ≡ s.face)
+position_points : (s : State) (hz v : Decimal) (pos_mode atr_mode dummy : _) → let t = (exec s (call.Position hz v pos_mode atr_mode dummy)).state in
+    (t.pointing ≡ record { hz = hz; v = v }) × (t.face ≡ s.face)
 unfolding exec
 position_points s hz v pos_mode atr_mode dummy = (refl, refl)
 
@@ -125,7 +126,9 @@ executing_same (x ∷ calls) s h =
 
 -- What was executed between.
 
-all_still : (sent : List Sent) (m n : ℕ) (ns : List ℕ) (calls : List Call) → AreCalls sent ns calls → Each (λ x. (m < x) × (x < n)) ns → ((x : ℕ) (r : Sent) → m < x → x < n → slice_get sent x ≡ Some r → turns r.call ≡ false) → Each (λ x. turns x ≡ false) calls
+all_still : (sent : List Sent) (m n : ℕ) (ns : List ℕ) (calls : List Call) → AreCalls sent ns calls
+    → Each (λ x. (m < x) × (x < n)) ns → ((x : ℕ) (r : Sent) → m < x → x < n → slice_get sent x ≡ Some r → turns r.call ≡ false)
+    → Each (λ x. turns x ≡ false) calls
 all_still sent m n [] [] h g f = tt
 all_still sent m n [] (x ∷ calls) h g f = absurd h
 all_still sent m n (k ∷ ns) [] h g f = absurd h
@@ -142,11 +145,13 @@ get_own (suc k) n (suc j) (y ∷ xs) x e got = get_own k n j xs x (omega (arith,
 null_still : (a : Asked) (r : Sent) → asked r ≡ a → a ≡ record { target = 0; call = call.NullProc } → turns r.call ≡ false
 null_still a r e f = ap (λ (o : Asked). turns o.call) (e ∙ f)
 
-module _ (plan : Plan) (commands : List Task) (scope : Scope) (acts : List Act) (u : UnderWay State) (rs : List (Run State)) (field : IsInField ends IsFittingState kept_of plan commands scope acts u rs) where
+module _ (plan : Plan) (commands : List Task) (scope : Scope) (acts : List Act) (u : UnderWay State) (rs : List (Run State))
+    (field : IsInField ends IsFittingState kept_of plan commands scope acts u rs) where
   abbrev ss : List (Stretch State)
   ss = stretches ends u rs
 
-  module _ (b : Record) (line : List ℕ) (a : ℕ) (h : IsChainedTo ends IsFittingState kept_of scope.reads (parts plan commands scope acts) ss (stood plan commands scope acts).records a b line) (still : AreStill commands a b.place) where
+  module _ (b : Record) (line : List ℕ) (a : ℕ) (h : IsChainedTo ends IsFittingState kept_of scope.reads (parts plan commands scope acts) ss
+      (stood plan commands scope acts).records a b line) (still : AreStill commands a b.place) where
     still_by : (x : ℕ) (r : Sent) (o : Option _) (above : h.m < x) (under : x < h.n) → slice_get h.part.marks x ≡ Some o → (y : Asked) → asked r ≡ y → IsOf commands o y → turns r.call ≡ false
     still_by x r None above under at y e is = null_still y r e is
     still_by x r (Some mark) above under at y e is =
@@ -173,7 +178,8 @@ module _ (plan : Plan) (commands : List Task) (scope : Scope) (acts : List Act) 
     pointed_there quiet =
         let x = h.executed in
         let s = (behind ends h.stretch x.first.front).state in
-        let calls = all_still (world ends h.stretch).wire.sent (8 + h.m) (8 + h.n) x.numbers x.calls x.asked (x.strictly simulator.keeps (no_start x.between quiet)) (λ k r above under got. still_number k r above under got) in
+        let calls = all_still (world ends h.stretch).wire.sent (8 + h.m) (8 + h.n) x.numbers x.calls x.asked
+        (x.strictly simulator.keeps (no_start x.between quiet)) (λ k r above under got. still_number k r above under got) in
         let there = x.state bare behind_call has_effect quiet in
         let t = behind_call s h.record_a.command.call in
         let same = executing_same x.calls t calls in

@@ -21,21 +21,26 @@ module _ {State : Type 0} (width : ℕ) (ends : Ends State) (same_heard : (line 
   same_option : (x : Course) (w : World ById State) (target : ℕ) (call : Call) (o : Option (Sending ById)) → SameAs x w → SameAs (sent_on x target call o) (requested w target call o)
   same_option x w target call None h = record { sent = h.sent; settled = h.settled; client = h.client }
   same_option x w target call (Some s) h =
-      let last : map of_sent (w.wire.sent ++ record { target = target; call = call; line = request_line (Some s.id) call } ∷ []) ≡ map of_sent w.wire.sent ++ record { target = target; call = call } ∷ [] = map-append of_sent w.wire.sent _ in
+      let last : map of_sent (w.wire.sent ++ record { target = target; call = call; line = request_line (Some s.id) call } ∷ []) ≡ map of_sent w.wire.sent
+      ++ record { target = target; call = call } ∷ [] = map-append of_sent w.wire.sent _ in
       record { sent = ap (λ l. l ++ record { target = target; call = call } ∷ []) h.sent ∙ sym last; settled = h.settled; client = refl }
 
-  same_send : (x : Course) (w : World ById State) (target : ℕ) (call : Call) (deadline : ℕ) → SameAs x w → SameAs (sent_on x target call (sends width x.client target call deadline)) (requested w target call (sends width w.client target call deadline))
+  same_send : (x : Course) (w : World ById State) (target : ℕ) (call : Call) (deadline : ℕ) → SameAs x w
+      → SameAs (sent_on x target call (sends width x.client target call deadline)) (requested w target call (sends width w.client target call deadline))
   same_send x w target call deadline h =
       subst (λ c. SameAs (sent_on x target call (sends width c target call deadline)) (requested w target call (sends width w.client target call deadline))) (sym h.client)
       (same_option x w target call (sends width w.client target call deadline) h)
 
-  same_reply : (x : Course) (w : World ById State) (line : List ℕ) (n : ℕ) (rest : List (Numbered (List ℕ))) → SameAs x w → SameAs (settled_on x (hears x.client line (heard line))) (with_settled (record w.wire { down = rest }) (hears w.client line (ends.heard line)))
+  same_reply : (x : Course) (w : World ById State) (line : List ℕ) (n : ℕ) (rest : List (Numbered (List ℕ))) → SameAs x w
+      → SameAs (settled_on x (hears x.client line (heard line))) (with_settled (record w.wire { down = rest }) (hears w.client line (ends.heard line)))
   same_reply x w line n rest h =
       subst (λ o. SameAs (settled_on x (hears x.client line (heard line))) (with_settled (record w.wire { down = rest }) (hears w.client line o))) (sym (same_heard line))
       (subst (λ c. SameAs (settled_on x (hears c line (heard line))) (with_settled (record w.wire { down = rest }) (hears w.client line (heard line)))) (sym h.client)
       (record { sent = h.sent; settled = ap (λ l. l ++ (hears w.client line (heard line)).settlements) h.settled; client = refl }))
 
-  same_comes : (x : Course) (w : World ById State) (line : List ℕ) (n : ℕ) (rest : List (Numbered (List ℕ))) → w.wire.down ≡ record { number = n; line = line } ∷ rest → SameAs x w → SameAs (settled_on x (hears x.client line (heard line))) (down_delivered (by_ids width ends) w w.wire.down)
+  same_comes : (x : Course) (w : World ById State) (line : List ℕ) (n : ℕ) (rest : List (Numbered (List ℕ)))
+      → w.wire.down ≡ record { number = n; line = line } ∷ rest → SameAs x w
+      → SameAs (settled_on x (hears x.client line (heard line))) (down_delivered (by_ids width ends) w w.wire.down)
   same_comes x w line n rest e h =
       subst (λ q. SameAs (settled_on x (hears x.client line (heard line))) (down_delivered (by_ids width ends) w q)) (sym e) (same_reply x w line n rest h)
 
@@ -68,7 +73,8 @@ module _ {State : Type 0} (width : ℕ) (ends : Ends State) (same_heard : (line 
   same_line x w Restart_instrument p h = absurd p
   same_line x w Nothing p h = record { sent = h.sent; settled = h.settled; client = h.client }
 
-  pub same_all : (ms : List (Move State)) (x : Course) (w : World ById State) → ArePossible ends Good kept (by_ids width ends) ms w → SameAs x w → SameAs (course width x (seen ms)) (moved ends (by_ids width ends) ms w)
+  pub same_all : (ms : List (Move State)) (x : Course) (w : World ById State) → ArePossible ends Good kept (by_ids width ends) ms w → SameAs x w
+      → SameAs (course width x (seen ms)) (moved ends (by_ids width ends) ms w)
   same_all [] x w p h = h
   same_all (Sends target call deadline ∷ ms) x w p h = same_all ms _ _ p.1 (same_send x w target call deadline h)
   same_all (Tells now ∷ ms) x w p h = same_all ms _ _ p.1 (record { sent = h.sent; settled = h.settled; client = ap (λ c. (by_ids width ends).expire c now) h.client })

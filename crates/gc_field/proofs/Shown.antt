@@ -4,24 +4,24 @@ use Rattle.gc_station.specs.Beginnings.{left_behind}
 use Rattle.gc_station.specs.Begun.{heard_in}
 use Rattle.gc_station.proofs.Asked.{heard_append, left_append}
 use Rattle.gc_world.specs.World.{Ends}
-use Rattle.gc_field.specs.Begin.{Aged, Standing, Turn, Asks, Comes, Foreign, Reaches, Up_lose, Up_repeat, Down_lose, Down_repeat, Anew, Changes, comes, reaches, asks, turned, turns}
+use Rattle.gc_field.specs.Begin.{Aged, Model, Turn, Asks, Comes, Foreign, Reaches, Up_lose, Up_repeat, Down_lose, Down_repeat, Anew, Changes, comes, reaches, asks, turned, turns}
 use Rattle.gc_field.specs.Shown.{first_heard, shown, shows}
 
 -- turns leave of the word what the lines leave that they show
 module _ {State : Type 0} (ends : Ends State) where
-  left_asks : (s : Standing State) (word : List ℕ) → s.left ≡ word → (asks s word).left ≡ s.left
+  left_asks : (s : Model State) (word : List ℕ) → s.left ≡ word → (asks s word).left ≡ s.left
   left_asks s [] e = refl
   left_asks s (asked ∷ rest) e = refl
 
-  left_comes : (s : Standing State) (q : List (Aged (List ℕ))) → (comes s q).left ≡ left_behind s.left (heard_in (first_heard q))
+  left_comes : (s : Model State) (q : List (Aged (List ℕ))) → (comes s q).left ≡ left_behind s.left (heard_in (first_heard q))
   left_comes s [] = refl
   left_comes s (x ∷ rest) = refl
 
-  left_reaches : (s : Standing State) (q : List _) → (reaches ends s q).left ≡ s.left
+  left_reaches : (s : Model State) (q : List _) → (reaches ends s q).left ≡ s.left
   left_reaches s [] = refl
   left_reaches s (x ∷ rest) = refl
 
-  left_turn : (s : Standing State) (t : Turn State) → (turns ends s t).left ≡ left_behind s.left (heard_in (shows s t))
+  left_turn : (s : Model State) (t : Turn State) → (turns ends s t).left ≡ left_behind s.left (heard_in (shows s t))
   left_turn s Asks = left_asks s s.left refl
   left_turn s Comes = left_comes s s.down
   left_turn s (Foreign line) = refl
@@ -33,7 +33,7 @@ module _ {State : Type 0} (ends : Ends State) where
   left_turn s Anew = refl
   left_turn s (Changes state) = refl
 
-  pub left_is : (ts : List (Turn State)) (s : Standing State) → (turned ends ts s).left ≡ left_behind s.left (heard_in (shown ends ts s))
+  pub left_is : (ts : List (Turn State)) (s : Model State) → (turned ends ts s).left ≡ left_behind s.left (heard_in (shown ends ts s))
   left_is [] s = refl
   left_is (t ∷ ts) s =
       left_is ts (turns ends s t)

@@ -36,7 +36,8 @@ rising_tail low n (x ∷ xs) ys h = let r = rising_tail (x + 1) n xs ys h.1 in (
 true_is_not : true ≡ false → ⊥
 true_is_not e = cc
 
-module _ {State : Type 0} (width : ℕ) (narrow : width ≤ 7) (ends : Ends State) (Good : State → Type 0) (ex : IsExchange ends Good) (kept : State → Option KeptReply) (keeper : IsAnInstrument ends Good kept) (low : ℕ) (M : ℕ → Call → List ℕ → Type 0) where
+module _ {State : Type 0} (width : ℕ) (narrow : width ≤ 7) (ends : Ends State) (Good : State → Type 0) (ex : IsExchange ends Good)
+    (kept : State → Option KeptReply) (keeper : IsAnInstrument ends Good kept) (low : ℕ) (M : ℕ → Call → List ℕ → Type 0) where
   -- the line was made for this request, as its call was executed; and M is so of it, as it is of the reply to each request that is executed
   pub record IsVouched (sent : List Sent) (executed : List ℕ) (made : List (Numbered (List ℕ))) (n : ℕ) (line : List ℕ) : Type 0 where
     pub among : Has (record { number = n; line = line }) made
@@ -59,7 +60,8 @@ module _ {State : Type 0} (width : ℕ) (narrow : width ≤ 7) (ends : Ends Stat
   vouched_made sent executed made more n line (inl l) = inl l
   vouched_made sent executed made more n line (inr h) = inr (record { among = has_more _ made more h.among; acted = h.acted; answer = h.answer; on = h.on })
 
-  vouched_acted : (sent : List Sent) (executed others : List ℕ) (made : List (Numbered (List ℕ))) (n : ℕ) (line : List ℕ) → Vouched sent executed made n line → Vouched sent (executed ++ others) made n line
+  vouched_acted : (sent : List Sent) (executed others : List ℕ) (made : List (Numbered (List ℕ))) (n : ℕ) (line : List ℕ) → Vouched sent executed made n line
+      → Vouched sent (executed ++ others) made n line
   vouched_acted sent executed others made n line (inl l) = inl l
   vouched_acted sent executed others made n line (inr h) = inr (record { among = h.among; acted = has_more n executed others h.acted; answer = h.answer; on = h.on })
 
@@ -76,7 +78,8 @@ module _ {State : Type 0} (width : ℕ) (narrow : width ≤ 7) (ends : Ends Stat
   kept_none P since top k e = subst (λ k. KeptIs P since top k) (sym e) tt
 
   -- where nothing is kept, or this line with this id
-  pub kept_one : (P : ℕ → List ℕ → Type 0) (since top id : ℕ) (line : List ℕ) (k : Option KeptReply) → since < top → id ≡ (top - 1 - since) % 8 → P (top - 1) line → (k ≡ None) ⊎ (k ≡ Some (record { id = id; line = line })) → KeptIs P since top k
+  pub kept_one : (P : ℕ → List ℕ → Type 0) (since top id : ℕ) (line : List ℕ) (k : Option KeptReply) → since < top → id ≡ (top - 1 - since) % 8
+      → P (top - 1) line → (k ≡ None) ⊎ (k ≡ Some (record { id = id; line = line })) → KeptIs P since top k
   kept_one P since top id line k low own p (inl none) = kept_none P since top k none
   kept_one P since top id line k low own p (inr e) = subst (λ k. KeptIs P since top k) (sym e) (low, own, p)
 
@@ -86,12 +89,14 @@ module _ {State : Type 0} (width : ℕ) (narrow : width ≤ 7) (ends : Ends Stat
   kept_still P since top k after (inr same) h = subst (λ k. KeptIs P since top k) (sym same) h
 
   -- an instrument that keeps its reply executed a request: it is a later one than the last, or nothing was kept
-  later_or_none : (P : ℕ → List ℕ → Type 0) (since top n id : ℕ) (k : Option KeptReply) → KeptIs P since top k → id ≡ (n - since) % 8 → top ≤ n + 1 → ((line : List ℕ) → k ≡ Some (record { id = id; line = line }) → ⊥) → (k ≡ None) ⊎ (top ≤ n)
+  later_or_none : (P : ℕ → List ℕ → Type 0) (since top n id : ℕ) (k : Option KeptReply) → KeptIs P since top k → id ≡ (n - since) % 8 → top ≤ n + 1
+      → ((line : List ℕ) → k ≡ Some (record { id = id; line = line }) → ⊥) → (k ≡ None) ⊎ (top ≤ n)
   later_or_none P since top n id None h mine le other = inl refl
   later_or_none P since top n id (Some k) h mine le other =
       inr (newer since top n id k h.1 h.0 mine le (λ same. other k.line (ap (λ i. Some (record { id = i; line = k.line })) same)))
 
-  pub record IsTrue (since count : ℕ) (sent : List Sent) (executed starts : List ℕ) (made : List (Numbered (List ℕ))) (settled : List Settlement) (up : List (Numbered Request)) (down : List (Numbered (List ℕ))) (k : Option KeptReply) : Type 0 where
+  pub record IsTrue (since count : ℕ) (sent : List Sent) (executed starts : List ℕ) (made : List (Numbered (List ℕ))) (settled : List Settlement)
+      (up : List (Numbered Request)) (down : List (Numbered (List ℕ))) (k : Option KeptReply) : Type 0 where
     -- the number of the last request that the instrument was handed is one less than this
     pub top : ℕ
     pub counted : count ≤ top
@@ -109,7 +114,11 @@ module _ {State : Type 0} (width : ℕ) (narrow : width ≤ 7) (ends : Ends Stat
   True w = IsTrue w.client.since w.client.count w.wire.sent w.wire.executed w.wire.starts w.wire.made w.wire.settled w.wire.up w.wire.down (kept w.wire.state)
 
   -- a request goes out
-  true_sent : (since count : ℕ) (sent : List Sent) (executed starts : List ℕ) (made : List (Numbered (List ℕ))) (settled : List Settlement) (up : List (Numbered Request)) (down : List (Numbered (List ℕ))) (k : Option KeptReply) (target id : ℕ) (call : Call) → id < 8 → IsTrue since count sent executed starts made settled up down k → IsTrue since count (sent ++ record { target = target; call = call; line = request_line (Some id) call } ∷ []) executed starts made settled (up ++ record { number = length sent; line = record { id = id; call = call } } ∷ []) down k
+  true_sent : (since count : ℕ) (sent : List Sent) (executed starts : List ℕ) (made : List (Numbered (List ℕ))) (settled : List Settlement)
+      (up : List (Numbered Request)) (down : List (Numbered (List ℕ))) (k : Option KeptReply) (target id : ℕ) (call : Call) → id < 8
+      → IsTrue since count sent executed starts made settled up down k
+      → IsTrue since count (sent ++ record { target = target; call = call; line = request_line (Some id) call } ∷ []) executed starts made settled
+      (up ++ record { number = length sent; line = record { id = id; call = call } } ∷ []) down k
   true_sent since count sent executed starts made settled up down k target id call digit h =
       let r : Sent = record { target = target; call = call; line = request_line (Some id) call } in
       let P = Vouched sent executed made in
@@ -129,7 +138,8 @@ module _ {State : Type 0} (width : ℕ) (narrow : width ≤ 7) (ends : Ends Stat
         once = h.once;
       }
 
-  true_send : (w : World ByNumber State) (target : ℕ) (call : Call) (deadline : ℕ) (full : Bool) (x : Sending ByNumber) → number_send w.client target call deadline full ≡ Some x → True w → True (requested w target call (Some x))
+  true_send : (w : World ByNumber State) (target : ℕ) (call : Call) (deadline : ℕ) (full : Bool) (x : Sending ByNumber)
+      → number_send w.client target call deadline full ≡ Some x → True w → True (requested w target call (Some x))
   true_send w target call deadline true x e h = cc
   true_send w target call deadline false x e h =
       let c = w.client in
@@ -139,7 +149,9 @@ module _ {State : Type 0} (width : ℕ) (narrow : width ≤ 7) (ends : Ends Stat
       (true_sent c.since c.count w.wire.sent w.wire.executed w.wire.starts w.wire.made w.wire.settled w.wire.up w.wire.down (kept w.wire.state) target id call (omega arith) h)
 
   -- a further entry
-  true_made : (since count : ℕ) (sent : List Sent) (executed starts : List ℕ) (made : List (Numbered (List ℕ))) (settled : List Settlement) (up : List (Numbered Request)) (down : List (Numbered (List ℕ))) (k : Option KeptReply) (m : Numbered (List ℕ)) → IsTrue since count sent executed starts made settled up down k → IsTrue since count sent executed starts (made ++ m ∷ []) settled up down k
+  true_made : (since count : ℕ) (sent : List Sent) (executed starts : List ℕ) (made : List (Numbered (List ℕ))) (settled : List Settlement)
+      (up : List (Numbered Request)) (down : List (Numbered (List ℕ))) (k : Option KeptReply) (m : Numbered (List ℕ))
+      → IsTrue since count sent executed starts made settled up down k → IsTrue since count sent executed starts (made ++ m ∷ []) settled up down k
   true_made since count sent executed starts made settled up down k m h =
       let P = Vouched sent executed made in
       let Q = Vouched sent executed (made ++ m ∷ []) in
@@ -159,7 +171,11 @@ module _ {State : Type 0} (width : ℕ) (narrow : width ≤ 7) (ends : Ends Stat
       }
 
   -- the last one comes again, and has the kept line
-  true_again : (w : World ByNumber State) (x : Numbered Request) (rest : List (Numbered Request)) (hd : Handed State) (k : Option KeptReply) → kept w.wire.state ≡ k → w.wire.up ≡ x ∷ rest → k ≡ Some (record { id = x.line.id; line = hd.reply }) → (kept hd.state ≡ None) ⊎ (kept hd.state ≡ Some (record { id = x.line.id; line = hd.reply })) → (KeepsItsReply ends Good kept → kept hd.state ≡ Some (record { id = x.line.id; line = hd.reply })) → Sound width ends Good w → True w → True (on_wire w (replied w.wire x.number rest (record hd { executed = false })))
+  true_again : (w : World ByNumber State) (x : Numbered Request) (rest : List (Numbered Request)) (hd : Handed State) (k : Option KeptReply)
+      → kept w.wire.state ≡ k → w.wire.up ≡ x ∷ rest → k ≡ Some (record { id = x.line.id; line = hd.reply })
+      → (kept hd.state ≡ None) ⊎ (kept hd.state ≡ Some (record { id = x.line.id; line = hd.reply }))
+      → (KeepsItsReply ends Good kept → kept hd.state ≡ Some (record { id = x.line.id; line = hd.reply })) → Sound width ends Good w → True w
+      → True (on_wire w (replied w.wire x.number rest (record hd { executed = false })))
   unfolding true_made
   true_again w x rest hd None ke q e now always s h = let never : ⊥ = cc in absurd never
   true_again w x rest hd (Some k) ke q e now always s h =
@@ -181,7 +197,8 @@ module _ {State : Type 0} (width : ℕ) (narrow : width ≤ 7) (ends : Ends Stat
         within = h.within;
         above = a.1;
         below = each_append _ v.down _ h.below (omega (arith, last, held.0), tt);
-        holds = kept_one (Vouched v.sent v.executed (v.made ++ m ∷ [])) c.since h.top x.line.id line (kept hd.state) held.0 held.1 (subst (λ n. Vouched v.sent v.executed (v.made ++ m ∷ []) n line) (sym last) more) now;
+        holds = kept_one (Vouched v.sent v.executed (v.made ++ m ∷ [])) c.since h.top x.line.id line (kept hd.state) held.0 held.1
+            (subst (λ n. Vouched v.sent v.executed (v.made ++ m ∷ []) n line) (sym last) more) now;
         lines = o.1;
         coming = each_append _ v.down _ t.coming (more, tt);
         answers = t.answers;
@@ -190,7 +207,9 @@ module _ {State : Type 0} (width : ℕ) (narrow : width ≤ 7) (ends : Ends Stat
       }
 
   -- one is executed
-  true_new : (w : World ByNumber State) (x : Numbered Request) (rest : List (Numbered Request)) (hd : Handed State) → w.wire.up ≡ x ∷ rest → ends.handed w.wire.state x.line.id x.line.call ≡ hd → hd.executed ≡ true → M x.number x.line.call hd.reply → Sound width ends Good w → True w → True (on_wire w (replied w.wire x.number rest (record hd { executed = true })))
+  true_new : (w : World ByNumber State) (x : Numbered Request) (rest : List (Numbered Request)) (hd : Handed State) → w.wire.up ≡ x ∷ rest
+      → ends.handed w.wire.state x.line.id x.line.call ≡ hd → hd.executed ≡ true → M x.number x.line.call hd.reply → Sound width ends Good w → True w
+      → True (on_wire w (replied w.wire x.number rest (record hd { executed = true })))
   true_new w x rest hd q is exe on s h =
       let c = w.client in
       let v = w.wire in
@@ -208,7 +227,8 @@ module _ {State : Type 0} (width : ℕ) (narrow : width ≤ 7) (ends : Ends Stat
       let m : Numbered (List ℕ) = record { number = n; line = hd.reply } in
       let P = Vouched v.sent v.executed v.made in
       let Q = Vouched v.sent (v.executed ++ n ∷ []) (v.made ++ m ∷ []) in
-      let f : (i : ℕ) (line : List ℕ) → P i line → Q i line = λ i line p. vouched_acted v.sent v.executed (n ∷ []) (v.made ++ m ∷ []) i line (vouched_made v.sent v.executed v.made (m ∷ []) i line p) in
+      let f : (i : ℕ) (line : List ℕ) → P i line → Q i line = λ i line p. vouched_acted v.sent v.executed (n ∷ []) (v.made ++ m ∷ []) i line
+      (vouched_made v.sent v.executed v.made (m ∷ []) i line p) in
       let new : Q n hd.reply = inr (record {
         among = has_push m v.made;
         acted = has_push n v.executed;
@@ -240,10 +260,13 @@ module _ {State : Type 0} (width : ℕ) (narrow : width ≤ 7) (ends : Ends Stat
         order = ordered_acted h.top n v.executed a.0 h.order;
         once = λ keeps.
             subst (λ k. IsClimbing (n + 1) (v.executed ++ n ∷ []) v.starts k) (sym (always keeps))
-            (climbing_acted h.top n v.executed v.starts (kept v.state) (record { id = x.line.id; line = hd.reply }) a.0 (later_or_none P c.since h.top n x.line.id (kept v.state) h.holds g.0.id a.0 (other keeps)) (h.once keeps));
+            (climbing_acted h.top n v.executed v.starts (kept v.state) (record { id = x.line.id; line = hd.reply }) a.0
+            (later_or_none P c.since h.top n x.line.id (kept v.state) h.holds g.0.id a.0 (other keeps)) (h.once keeps));
       }
 
-  true_handed : (w : World ByNumber State) (x : Numbered Request) (rest : List (Numbered Request)) (hd : Handed State) (b : Bool) → w.wire.up ≡ x ∷ rest → ends.handed w.wire.state x.line.id x.line.call ≡ hd → hd.executed ≡ b → (hd.executed ≡ true → M x.number x.line.call hd.reply) → Sound width ends Good w → True w → True (on_wire w (replied w.wire x.number rest (record hd { executed = b })))
+  true_handed : (w : World ByNumber State) (x : Numbered Request) (rest : List (Numbered Request)) (hd : Handed State) (b : Bool) → w.wire.up ≡ x ∷ rest
+      → ends.handed w.wire.state x.line.id x.line.call ≡ hd → hd.executed ≡ b → (hd.executed ≡ true → M x.number x.line.call hd.reply)
+      → Sound width ends Good w → True w → True (on_wire w (replied w.wire x.number rest (record hd { executed = b })))
   true_handed w x rest hd false q is not on s h =
       let v = w.wire in
       let o = subst (λ l. Each (IsOf v.sent) l) q h.lines in
@@ -256,7 +279,9 @@ module _ {State : Type 0} (width : ℕ) (narrow : width ≤ 7) (ends : Ends Stat
       true_again w x rest hd (kept v.state) refl q same now always s h
   true_handed w x rest hd true q is exe on s h = true_new w x rest hd q is exe (on exe) s h
 
-  true_reply : (w : World ByNumber State) (x : Numbered (List ℕ)) (rest : List (Numbered (List ℕ))) (old : Bool) → ltb x.number w.client.count ≡ old → w.wire.down ≡ x ∷ rest → length w.wire.settled ≡ w.client.count → True w → True (with_settled (record w.wire { down = rest }) (number_reply w.client x old))
+  true_reply : (w : World ByNumber State) (x : Numbered (List ℕ)) (rest : List (Numbered (List ℕ))) (old : Bool) → ltb x.number w.client.count ≡ old
+      → w.wire.down ≡ x ∷ rest → length w.wire.settled ≡ w.client.count → True w
+      → True (with_settled (record w.wire { down = rest }) (number_reply w.client x old))
   true_reply w x rest true t e s h =
       let v = w.wire in
       let P = Vouched v.sent v.executed v.made in
@@ -334,8 +359,23 @@ module _ {State : Type 0} (width : ℕ) (narrow : width ≤ 7) (ends : Ends Stat
         once = λ keeps. subst (λ k. IsClimbing h.top v.executed v.starts k) (sym same) (h.once keeps);
       }
 
-  true_queues : (w : World ByNumber State) (up : List (Numbered Request)) (down : List (Numbered (List ℕ))) (h : True w) → Each (λ x. h.top ≤ x.number + 1) up → Each (IsOf w.wire.sent) up → Each (λ x. x.number < h.top) down → Each (λ x. Vouched w.wire.sent w.wire.executed w.wire.made x.number x.line) down → True (on_wire w (record w.wire { up = up; down = down }))
-  true_queues w up down h a l b c = record { top = h.top; counted = h.counted; within = h.within; above = a; below = b; holds = h.holds; lines = l; coming = c; answers = h.answers; order = h.order; once = h.once }
+  true_queues : (w : World ByNumber State) (up : List (Numbered Request)) (down : List (Numbered (List ℕ))) (h : True w)
+      → Each (λ x. h.top ≤ x.number + 1) up → Each (IsOf w.wire.sent) up → Each (λ x. x.number < h.top) down
+      → Each (λ x. Vouched w.wire.sent w.wire.executed w.wire.made x.number x.line) down → True (on_wire w (record w.wire { up = up; down = down }))
+  true_queues w up down h a l b c = record {
+    top = h.top;
+    counted = h.counted;
+    within = h.within;
+    above = a;
+    below = b;
+    holds = h.holds;
+    lines = l;
+    coming =
+        c;
+    answers = h.answers;
+    order = h.order;
+    once = h.once;
+  }
 
   -- nothing but a count changes
   true_idle : (w : World ByNumber State) → True w → True (on_wire w (idle w.wire))
@@ -348,7 +388,9 @@ module _ {State : Type 0} (width : ℕ) (narrow : width ≤ 7) (ends : Ends Stat
   IsOn w x =
       (ends.handed w.wire.state x.line.id x.line.call).executed ≡ true → M x.number x.line.call (ends.handed w.wire.state x.line.id x.line.call).reply
 
-  pub true_up : (w : World ByNumber State) (q : List (Numbered Request)) → w.wire.up ≡ q → ((x : Numbered Request) (rest : List (Numbered Request)) → q ≡ x ∷ rest → IsOn w x) → Sound width ends Good w → True w → True (on_wire w (up_delivered ends w.wire q))
+  pub true_up : (w : World ByNumber State) (q : List (Numbered Request)) → w.wire.up ≡ q
+      → ((x : Numbered Request) (rest : List (Numbered Request)) → q ≡ x ∷ rest → IsOn w x) → Sound width ends Good w → True w
+      → True (on_wire w (up_delivered ends w.wire q))
   true_up w [] e on s h = true_idle w h
   true_up w (x ∷ rest) e on s h =
       true_handed w x rest (ends.handed w.wire.state x.line.id x.line.call) (ends.handed w.wire.state x.line.id x.line.call).executed e refl refl (on x rest refl) s h
@@ -357,19 +399,25 @@ module _ {State : Type 0} (width : ℕ) (narrow : width ≤ 7) (ends : Ends Stat
   true_down w [] e s h = true_idle w h
   true_down w (x ∷ rest) e s h = true_reply w x rest (ltb x.number w.client.count) refl e s.booked h
 
-  true_with_up : (w : World ByNumber State) (up : List (Numbered Request)) (b : Bool) (h : True w) → Each (λ x. h.top ≤ x.number + 1) up → Each (IsOf w.wire.sent) up → True (on_wire w (with_up w.wire up b))
+  true_with_up : (w : World ByNumber State) (up : List (Numbered Request)) (b : Bool) (h : True w)
+      → Each (λ x. h.top ≤ x.number + 1) up → Each (IsOf w.wire.sent) up → True (on_wire w (with_up w.wire up b))
   true_with_up w up false h a l = true_idle w h
   true_with_up w up true h a l = true_queues w up w.wire.down h a l h.below h.coming
 
-  true_with_down : (w : World ByNumber State) (down : List (Numbered (List ℕ))) (b : Bool) (h : True w) → Each (λ x. x.number < h.top) down → Each (λ x. Vouched w.wire.sent w.wire.executed w.wire.made x.number x.line) down → True (on_wire w (with_down w.wire down b))
+  true_with_down : (w : World ByNumber State) (down : List (Numbered (List ℕ))) (b : Bool) (h : True w)
+      → Each (λ x. x.number < h.top) down → Each (λ x. Vouched w.wire.sent w.wire.executed w.wire.made x.number x.line) down
+      → True (on_wire w (with_down w.wire down b))
   true_with_down w down false h l c = true_idle w h
   true_with_down w down true h l c = true_queues w w.wire.up down h h.above h.lines l c
 
-  pub true_requested : (w : World ByNumber State) (target : ℕ) (call : Call) (deadline : ℕ) (o : Option (Sending ByNumber)) → (by_numbers width).send w.client target call deadline ≡ o → True w → True (requested w target call o)
+  pub true_requested : (w : World ByNumber State) (target : ℕ) (call : Call) (deadline : ℕ) (o : Option (Sending ByNumber))
+      → (by_numbers width).send w.client target call deadline ≡ o → True w → True (requested w target call o)
   true_requested w target call deadline None e h = h
   true_requested w target call deadline (Some x) e h = true_send w target call deadline (eqb (length w.client.requests - w.client.count) width) x e h
 
-  pub true_line : (w : World ByNumber State) (step : Step) → IsOfLine step → ((x : Numbered Request) (rest : List (Numbered Request)) → step ≡ Up_deliver → w.wire.up ≡ x ∷ rest → IsOn w x) → Sound width ends Good w → True w → True (happens ends (by_numbers width) w step)
+  pub true_line : (w : World ByNumber State) (step : Step) → IsOfLine step
+      → ((x : Numbered Request) (rest : List (Numbered Request)) → step ≡ Up_deliver → w.wire.up ≡ x ∷ rest → IsOn w x) → Sound width ends Good w → True w
+      → True (happens ends (by_numbers width) w step)
   true_line w (Send target call deadline) p on s h = absurd p
   true_line w Up_deliver p on s h = true_up w w.wire.up refl (λ x rest e. on x rest refl e) s h
   true_line w (Up_lose k) p on s h = true_with_up w (without k w.wire.up) (ltb k (length w.wire.up)) h (each_without _ k w.wire.up h.above) (each_without _ k w.wire.up h.lines)

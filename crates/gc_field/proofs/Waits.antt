@@ -99,7 +99,8 @@ module _ {State : Type 0} (ends : Ends State) (Good : State → Type 0) (kept : 
   waits_came w [] n p h = h
   waits_came w (x ∷ rest) n p h = waits_heard w.client x.line (ends.heard x.line) w.wire.settled n p h
 
-  waits_sent : (w : World ById State) (target : ℕ) (call : Call) (deadline : ℕ) (b : Bool) (n : ℕ) (p : Pending) → Waits w n p → Waits (requested w target call (id_send w.client target call deadline b)) n p
+  waits_sent : (w : World ById State) (target : ℕ) (call : Call) (deadline : ℕ) (b : Bool) (n : ℕ) (p : Pending) → Waits w n p
+      → Waits (requested w target call (id_send w.client target call deadline b)) n p
   waits_sent w target call deadline true n p h = h
   waits_sent w target call deadline false n p h = λ le. get_front w.client.waiting (pending_of target call deadline ∷ []) (n - length w.wire.settled) p (h le)
 
@@ -128,7 +129,8 @@ module _ {State : Type 0} (ends : Ends State) (Good : State → Type 0) (kept : 
   waits_line w Restart_instrument n p o h = absurd o
   waits_line w Nothing n p o h = h
 
-  pub waits_all : (ms : List (Move State)) (w : World ById State) (n : ℕ) (p : Pending) → ArePossible ends Good kept (by_ids 7 ends) ms w → Waits w n p → Waits (moved ends (by_ids 7 ends) ms w) n (after_moves p ms)
+  pub waits_all : (ms : List (Move State)) (w : World ById State) (n : ℕ) (p : Pending) → ArePossible ends Good kept (by_ids 7 ends) ms w → Waits w n p
+      → Waits (moved ends (by_ids 7 ends) ms w) n (after_moves p ms)
   waits_all [] w n p o h = h
   waits_all (Sends target call deadline ∷ ms) w n p o h = waits_all ms _ n p o.1 (waits_sent w target call deadline (nat_eq (length w.client.waiting) 7) n p h)
   waits_all (Tells now ∷ ms) w n p o h = waits_all ms _ n (expired now p) o.1 (λ le. get_map now w.client.waiting (n - length w.wire.settled) p (h le))

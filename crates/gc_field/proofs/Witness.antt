@@ -19,7 +19,7 @@ use Rattle.gc_texts.specs.declared.tasks.Task.{Task}
 use Rattle.gc_station.specs.declared.plan.Plan.{Plan}
 use Rattle.gc_station.specs.Parts as part
 use Rattle.gc_station.specs.Parts.{Part, nothing, parts_of}
-use Rattle.gc_station.specs.Standing.{Runs, Standing, after, after_all, opening}
+use Rattle.gc_station.specs.Model.{Runs, Model, after, after_all, opening}
 use Rattle.gc_world.specs.Clients.{ends}
 use Rattle.gc_field.specs.Begin.{begins, leaves, turned}
 use Rattle.gc_field.specs.Begun.{WasMadeOn}
@@ -40,7 +40,7 @@ units (suc n) = (tt, units n)
 
 -- acts go on
 pub run_on :
-    (p : Plan) (tasks : List Task) (s : Standing) (front later : List Act) → Runs p tasks s front → Runs p tasks (after_all p tasks s front) later
+    (p : Plan) (tasks : List Task) (s : Model) (front later : List Act) → Runs p tasks s front → Runs p tasks (after_all p tasks s front) later
     → Runs p tasks s (front ++ later)
 run_on p tasks s [] later h g = g
 run_on p tasks s (act ∷ front) later h g = (h.0, run_on p tasks (after p tasks s act) front later h.1 g)
@@ -73,7 +73,16 @@ named : IsText (codes "GEOCOM SIM")
 named =
     record {
       few = omega arith;
-      plain = (above 71 (lit< tt), (above 69 (lit< tt), (above 79 (lit< tt), (above 67 (lit< tt), (above 79 (lit< tt), (above 77 (lit< tt), (space, (above 83 (lit< tt), (above 73 (lit< tt), (above 77 (lit< tt), tt))))))))));
+      plain = (
+        above 71 (lit< tt),
+        (
+          above 69 (lit< tt),
+          (
+            above 79 (lit< tt),
+            (above 67 (lit< tt), (above 79 (lit< tt), (above 77 (lit< tt), (space, (above 83 (lit< tt), (above 73 (lit< tt), (above 77 (lit< tt), tt))))))),
+          ),
+        ),
+      );
     }
 
 pub fits : IsFittingState simulator_opening

@@ -3,7 +3,7 @@ use Rattle.std.specs.Prelude.{◌≡◌, ◌⊎◌, ℕ, List, [], ◌∷◌, ma
 use Rattle.gc_lines.specs.Frames.{rest_behind}
 use Rattle.gc_links.specs.Acts.{Act, Put, Cut, Gave, Closed}
 use Rattle.gc_station.specs.Parts.{Turn, Asks, Hears}
-use Rattle.gc_station.specs.Standing.{lines_behind, null_text}
+use Rattle.gc_station.specs.Model.{lines_behind, null_text}
 
 -- these bytes are a line feed, which clears the receiver; or the line of the null procedure that is asked for, that of the first id that
 -- isn't answered

@@ -42,18 +42,18 @@ pub record Aged (Line : Type 0) : Type 0 where
   pub line : Line
 
 -- all there is: what is under way, the instrument, and what isn't answered of the word
-pub record Standing (State : Type 0) : Type 0 where
+pub record Model (State : Type 0) : Type 0 where
   pub up : List (Aged Request)
   pub down : List (Aged (List ℕ))
   pub state : State
   pub left : List ℕ
 
 -- a beginning begins: all that is under way is from before
-abbrev pub begins : {State : Type 0} → UnderWay State → Standing State
+abbrev pub begins : {State : Type 0} → UnderWay State → Model State
 begins u = record { up = map (λ x. record { old = true; line = x }) u.up; down = map (λ x. record { old = true; line = x }) u.down; state = u.state; left = the_word }
 
 -- what it leaves under way
-abbrev pub leaves : {State : Type 0} → Standing State → UnderWay State
+abbrev pub leaves : {State : Type 0} → Model State → UnderWay State
 leaves s = record { up = map (λ x. x.line) s.up; down = map (λ x. x.line) s.down; state = s.state }
 
 -- what may happen next
@@ -76,24 +76,24 @@ pub data Turn (State : Type 0) : Type 0 where
 
 module _ {State : Type 0} where
   -- the null procedure of the first id that isn't answered goes out; once it has begun, none does
-  abbrev pub asks : Standing State → List ℕ → Standing State
+  abbrev pub asks : Model State → List ℕ → Model State
   asks s [] = s
   asks s (asked ∷ rest) = record s { up = s.up ++ record { old = false; line = record { id = asked; call = NullProc } } ∷ [] }
 
   -- a reply that comes answers where it has that id, and else it is dropped
-  abbrev pub comes : Standing State → List (Aged (List ℕ)) → Standing State
+  abbrev pub comes : Model State → List (Aged (List ℕ)) → Model State
   comes s [] = s
   comes s (x ∷ rest) = record s { down = rest; left = left_by s.left (heard x.line) }
 
   -- the instrument is handed the request in front, and its reply is for that
-  abbrev pub reaches : Ends State → Standing State → List (Aged Request) → Standing State
+  abbrev pub reaches : Ends State → Model State → List (Aged Request) → Model State
   reaches ends s [] = s
   reaches ends s (x ∷ rest) =
       let handed = ends.handed s.state x.line.id x.line.call in
       record s { up = rest; down = s.down ++ record { old = x.old; line = handed.reply } ∷ []; state = handed.state }
 
   -- what a turn does; one that isn't possible changes nothing
-  abbrev pub turns : Ends State → Standing State → Turn State → Standing State
+  abbrev pub turns : Ends State → Model State → Turn State → Model State
   turns ends s Asks = asks s s.left
   turns ends s Comes = comes s s.down
   turns ends s (Foreign line) = record s { left = left_by s.left (heard line) }
@@ -106,17 +106,17 @@ module _ {State : Type 0} where
   turns ends s (Changes state) = record s { state = state }
 
   -- a turn for each of the list, in order
-  abbrev pub turned : Ends State → List (Turn State) → Standing State → Standing State
+  abbrev pub turned : Ends State → List (Turn State) → Model State → Model State
   turned ends [] s = s
   turned ends (t ∷ ts) s = turned ends ts (turns ends s t)
 
   -- a foreign line is no reply with an id: an echo, noise, or what is left of a line that was cut
-  abbrev pub IsTurn : (State → Type 0) → (State → Option KeptReply) → Standing State → Turn State → Type 0
+  abbrev pub IsTurn : (State → Type 0) → (State → Option KeptReply) → Model State → Turn State → Type 0
   IsTurn Good kept s (Foreign line) = heard line ≡ None
   IsTurn Good kept s (Changes state) = MayBecome Good kept s.state state
   IsTurn Good kept s _ = Unit {0}
 
   -- each of the list is possible in its turn
-  abbrev pub AreTurns : Ends State → (State → Type 0) → (State → Option KeptReply) → List (Turn State) → Standing State → Type 0
+  abbrev pub AreTurns : Ends State → (State → Type 0) → (State → Option KeptReply) → List (Turn State) → Model State → Type 0
   AreTurns ends Good kept [] s = Unit {0}
   AreTurns ends Good kept (t ∷ ts) s = IsTurn Good kept s t × AreTurns ends Good kept ts (turns ends s t)

@@ -64,7 +64,8 @@ pub record AreSomeRuns : Type 0 where
   pub few : AreFewKilled WINDOW ends 0 before (killed ∷ next ∷ [])
   pub settled :
       (behind WINDOW ends clean next.moves).wire.settled
-      ≡ nulls_settled ++ record { target = 7; call = InstrumentNo; outcome = Answered (codes "%R1P,0,0:0,123456") } ∷ record { target = 8; call = InstrumentNo; outcome = Answered (codes "%R1P,0,1:0,123456") } ∷ []
+      ≡ nulls_settled ++ record { target = 7; call = InstrumentNo; outcome = Answered (codes "%R1P,0,0:0,123456") }
+      ∷ record { target = 8; call = InstrumentNo; outcome = Answered (codes "%R1P,0,1:0,123456") } ∷ []
   pub made_on : WasMadeOn WINDOW ends clean next.moves 8 InstrumentNo (codes "%R1P,0,0:0,123456")
 
 -- The word.

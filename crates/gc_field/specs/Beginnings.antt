@@ -7,7 +7,7 @@ use Rattle.gc_instrument.specs.State.{KeptReply, State, IsFittingState}
 use Rattle.gc_world.specs.Clients.{ends, by_ids}
 use Rattle.gc_world.specs.Order.{Each, Rising}
 use Rattle.gc_world.specs.World.{Ends, Wire}
-use Rattle.gc_field.specs.Begin.{AreLines, AreTurns, Standing, Turn, UnderWay, begins, ids_under_way, leaves, turned}
+use Rattle.gc_field.specs.Begin.{AreLines, AreTurns, Model, Turn, UnderWay, begins, ids_under_way, leaves, turned}
 use Rattle.gc_field.specs.Begun.{HasBegunCleanly, IsClean, IsFaithful, behind, ids_begun}
 use Rattle.gc_field.specs.Field.{Move, ArePossible}
 use Rattle.gc_field.specs.Instrument.{AnyState, IsAnInstrument}
@@ -47,11 +47,11 @@ pub record Run (State : Type 0) : Type 0 where
 
 module _ {State : Type 0} (width : ℕ) (ends : Ends State) where
   -- where its beginning stands when that is done, or killed
-  abbrev pub stood : UnderWay State → Run State → Standing State
+  abbrev pub stood : UnderWay State → Run State → Model State
   stood u r = turned ends r.turns (begins u)
 
   -- what is under way behind a run that had begun, where nothing was left of its word, or that was killed while it began
-  abbrev pub left_if : List ℕ → Standing State → List (Move State) → UnderWay State
+  abbrev pub left_if : List ℕ → Model State → List (Move State) → UnderWay State
   left_if [] s ms = on_line (behind width ends (leaves s) ms).wire
   left_if (asked ∷ rest) s ms = leaves s
 
@@ -70,7 +70,7 @@ module _ {State : Type 0} (width : ℕ) (ends : Ends State) where
 
   module _ (Good : State → Type 0) (kept : State → Option KeptReply) where
     -- no command goes out before the eighth answer
-    abbrev pub ArePossibleIf : List ℕ → Standing State → List (Move State) → Type 0
+    abbrev pub ArePossibleIf : List ℕ → Model State → List (Move State) → Type 0
     ArePossibleIf [] s ms = ArePossible ends Good kept (by_ids width ends) ms (ids_begun (leaves s))
     ArePossibleIf (asked ∷ rest) s ms = ms ≡ []
 
@@ -80,7 +80,7 @@ module _ {State : Type 0} (width : ℕ) (ends : Ends State) where
     AreRuns u (r ∷ rs) = (AreTurns ends Good kept r.turns (begins u) × ArePossibleIf (stood u r).left (stood u r) r.moves) × AreRuns (left_by_run u r) rs
 
     -- where a run has begun, it has begun cleanly, and each answer of a command is its own
-    abbrev pub IsOwnIf : List ℕ → Standing State → List (Move State) → Type 0
+    abbrev pub IsOwnIf : List ℕ → Model State → List (Move State) → Type 0
     IsOwnIf [] s ms = HasBegunCleanly kept s × IsFaithful width ends (leaves s) ms Good kept
     IsOwnIf (asked ∷ rest) s ms = Unit {0}
 

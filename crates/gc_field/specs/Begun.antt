@@ -14,7 +14,7 @@ use Rattle.gc_world.specs.Clients.{ByNumber, ends, by_ids, by_numbers}
 use Rattle.gc_world.specs.Order.{Each}
 use Rattle.gc_world.specs.Record.{IsBooked, IsOneForOne}
 use Rattle.gc_world.specs.World.{Ends, Numbered, Request, Sent, Up_deliver, Wire, World}
-use Rattle.gc_field.specs.Begin.{AreLines, AreTurns, Standing, Turn, UnderWay, begins, ids_under_way, turned}
+use Rattle.gc_field.specs.Begin.{AreLines, AreTurns, Model, Turn, UnderWay, begins, ids_under_way, turned}
 use Rattle.gc_field.specs.Field.{Move, Comes, OnLine, ArePossible, moved, moves, seen}
 use Rattle.gc_field.specs.Instrument.{AnyState, IsAnInstrument, KeepsItsReply}
 use Rattle.gc_field.specs.Laws.{WasExecuted, asked, kept_of}
@@ -31,7 +31,7 @@ IsOfEighth kept state = (k : KeptReply) → kept state ≡ Some k → k.id ≡ 7
 
 -- a beginning has begun cleanly: under way are copies of its eighth null procedure, and replies to it; and what the instrument keeps, if it
 -- keeps anything, has its id. No request from before is among them, nor a reply to one, and none of the other null procedures
-pub record HasBegunCleanly {State : Type 0} (kept : State → Option KeptReply) (s : Standing State) : Type 0 where
+pub record HasBegunCleanly {State : Type 0} (kept : State → Option KeptReply) (s : Model State) : Type 0 where
   pub up : Each (λ x. (x.old ≡ false) × (x.line ≡ eighth)) s.up
   pub down : Each (λ x. (x.old ≡ false) × (heard x.line ≡ Some 7)) s.down
   pub keeps : IsOfEighth kept s.state
@@ -147,7 +147,7 @@ AnswersAreTheirOwnOnceBegun State =
     (width : ℕ) → width ≤ WINDOW → (u : UnderWay State) → IsClean AnyState kept u →
     (ms : List (Move State)) → ArePossible ends AnyState kept (by_ids width ends) ms (ids_begun u) → IsFaithful width ends u ms AnyState kept
 
--- the same for the simulated instrument, in any state that fits
+-- `AnswersAreTheirOwnOnceBegun` for the simulated instrument: its `ends` and its kept reply, in any state that fits
 abbrev pub SimulatorsAnswersAreTheirOwnOnceBegun : Type 0
 SimulatorsAnswersAreTheirOwnOnceBegun =
     (width : ℕ) → width ≤ WINDOW → (u : UnderWay State) → IsClean IsFittingState kept_of u →

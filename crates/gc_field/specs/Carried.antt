@@ -15,7 +15,8 @@ use Rattle.gc_field.specs.Meaning.{Amount, client_after}
 
 -- behind a beginning that has begun cleanly, whose last piece left these bytes of a line, these acts go with these moves of the line and of
 -- an instrument, whenever the station sends
-pub record IsCarried {State : Type 0} (ends : Ends State) (Good : State → Type 0) (kept : State → Option KeptReply) (u : UnderWay State) (rest : List ℕ) (acts : List Act) (ms : List (Move State)) : Type 0 where
+pub record IsCarried {State : Type 0} (ends : Ends State) (Good : State → Type 0) (kept : State → Option KeptReply) (u : UnderWay State) (rest : List ℕ)
+    (acts : List Act) (ms : List (Move State)) : Type 0 where
   pub clean : IsClean Good kept u
   pub steps : Amount fresh rest acts (seen ms)
   pub possible : ArePossible ends Good kept (by_ids WINDOW ends) ms (ids_begun u)

@@ -39,6 +39,7 @@ v = decimal (pos 1625) 3 refl
 abbrev pub points : Call
 points = Position hz v (pos 0) (pos 0) false
 
+-- command 1 starts a measurement; the simulator takes any mode
 abbrev pub measures : Call
 measures = DoMeasure (pos 1) (pos 1)
 

@@ -8,7 +8,7 @@ use Rattle.gc_texts.specs.declared.tasks.Task.{Task}
 use Rattle.gc_station.specs.declared.plan.Plan.{Plan}
 use Rattle.gc_station.specs.Parts.{parts_of}
 use Rattle.gc_station.specs.Scopes.{Scope}
-use Rattle.gc_station.specs.Standing.{Runs, opening}
+use Rattle.gc_station.specs.Model.{Runs, opening}
 use Rattle.gc_world.specs.Clients.{ends}
 use Rattle.gc_world.specs.World.{Ends}
 use Rattle.gc_field.specs.Begin.{AreLines, Turn, UnderWay}
@@ -70,7 +70,7 @@ StationsInARowAreFaithful State =
     (u : UnderWay State) → AreLines AnyState u → IsRow u →
     (xs : List (Program State)) → AreInARow ends AnyState kept 0 u xs → AreFaithful ends AnyState kept u xs
 
--- the same over the simulated instrument, in any state that fits
+-- `StationsInARowAreFaithful` for the simulated instrument: its `ends` and its kept reply, in any state that fits
 abbrev pub SimulatorsStationsInARowAreFaithful : Type 0
 SimulatorsStationsInARowAreFaithful =
     (u : UnderWay State) → AreLines IsFittingState u → IsRow u →

@@ -82,4 +82,5 @@ pub record SimulatorIsAnInstrument : Type 0 where
 -- the same for it, in any state that fits
 abbrev pub SimulatorsAnswersAreTheirOwn : Type 0
 SimulatorsAnswersAreTheirOwn =
-    (width : ℕ) → width ≤ WINDOW → (state : State) → IsFittingState state → (ms : List (Move State)) → IsField width ends IsFittingState kept_of state ms → IsFaithful width ends state ms IsFittingState kept_of
+    (width : ℕ) → width ≤ WINDOW → (state : State) → IsFittingState state → (ms : List (Move State)) → IsField width ends IsFittingState kept_of state ms
+    → IsFaithful width ends state ms IsFittingState kept_of

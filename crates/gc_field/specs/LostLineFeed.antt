@@ -40,7 +40,9 @@ pub record IsBookedJoined : Type 0 where
   pub reads : request_at joint ≡ Ok (record { rpc = 5003; id = Some 1; params = codes "%R1Q,0,2:" })
   pub possible : ArePossible ends IsFittingState kept_of (by_ids WINDOW ends) before (ids_begun (none_under_way simulator_opening))
   -- the simulator, as it is by then, answers that line with this refusal, and nothing changes
-  pub replied : IsReplied (begun.behind WINDOW ends (none_under_way simulator_opening) before).wire.state joint (begun.behind WINDOW ends (none_under_way simulator_opening) before).wire.state (Some refusal)
+  pub replied : IsReplied (begun.behind WINDOW ends (none_under_way simulator_opening) before).wire.state joint
+      (begun.behind WINDOW ends (none_under_way simulator_opening) before).wire.state (Some refusal)
   -- it wasn't executed
-  pub settled : slice_get (begun.behind WINDOW ends (none_under_way simulator_opening) (before ++ behind)).wire.settled 9 ≡ Some (record { target = 7; call = InstrumentNo; outcome = Answered refusal })
+  pub settled : slice_get (begun.behind WINDOW ends (none_under_way simulator_opening) (before ++ behind)).wire.settled 9 ≡ Some
+      (record { target = 7; call = InstrumentNo; outcome = Answered refusal })
   pub executed : (begun.behind WINDOW ends (none_under_way simulator_opening) (before ++ behind)).wire.executed ≡ 8 ∷ []

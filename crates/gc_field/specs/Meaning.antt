@@ -11,7 +11,7 @@ use Rattle.gc_client.specs.OneForOne.{Step, Send, Hear, Expire, goes}
 use Rattle.gc_client.specs.Rule.{ById, Sending, sends}
 use Rattle.gc_links.specs.declared.link.Moment.{Moment}
 use Rattle.gc_links.specs.Acts.{Act, Told, Untold, Put, Cut, Gave, Silent, Ended, Broke, Closed, Opened, Unopened}
-use Rattle.gc_station.specs.Standing.{lines_behind}
+use Rattle.gc_station.specs.Model.{lines_behind}
 
 -- these bytes are the line of a request that the client sends
 pub record IsRequest (client : ById) (bytes : List ℕ) (steps : List Step) : Type 0 where

@@ -36,7 +36,8 @@ pub record IsAllBut {State : Type 0} (x : Clause) (ends : Ends State) (Good : St
   pub replies : (x ≡ Replies) ⊎ ((state : State) (id : ℕ) (call : Call) → Good state → id < IDS → heard (ends.handed state id call).reply ≡ Some id)
   pub repeats :
       (x ≡ Repeats)
-      ⊎ ((state : State) (id : ℕ) (call : Call) → Good state → id < IDS → (ends.handed state id call).executed ≡ false → kept state ≡ Some (record { id = id; line = (ends.handed state id call).reply }))
+      ⊎ ((state : State) (id : ℕ) (call : Call) → Good state → id < IDS → (ends.handed state id call).executed ≡ false
+      → kept state ≡ Some (record { id = id; line = (ends.handed state id call).reply }))
   pub keeps :
       (x ≡ Keeps)
       ⊎ ((state : State) (id : ℕ) (call : Call) → Good state → id < IDS →
@@ -47,7 +48,8 @@ pub record IsAllBut {State : Type 0} (x : Clause) (ends : Ends State) (Good : St
 
 -- in a run in the field, once it has begun cleanly, with nothing under way, request m, which is the client's, is answered with this line, and
 -- wasn't executed
-pub record IsBookedUnexecuted {State : Type 0} (ends : Ends State) (Good : State → Type 0) (kept : State → Option KeptReply) (state : State) (ms : List (Move State)) (m : ℕ) (call : Call) (line : List ℕ) : Type 0 where
+pub record IsBookedUnexecuted {State : Type 0} (ends : Ends State) (Good : State → Type 0) (kept : State → Option KeptReply) (state : State)
+    (ms : List (Move State)) (m : ℕ) (call : Call) (line : List ℕ) : Type 0 where
   pub beyond : 8 ≤ m
   pub clean : IsClean Good kept (none_under_way state)
   pub field : ArePossible ends Good kept (by_ids WINDOW ends) ms (ids_begun (none_under_way state))
@@ -55,7 +57,8 @@ pub record IsBookedUnexecuted {State : Type 0} (ends : Ends State) (Good : State
   pub executed : WasExecuted (behind WINDOW ends (none_under_way state) ms).wire.executed m → ⊥
 
 -- so this clause is needed
-pub record IsNeeded {State : Type 0} (x : Clause) (ends : Ends State) (Good : State → Type 0) (kept : State → Option KeptReply) (state : State) (ms : List (Move State)) (m : ℕ) (call : Call) (line : List ℕ) : Type 0 where
+pub record IsNeeded {State : Type 0} (x : Clause) (ends : Ends State) (Good : State → Type 0) (kept : State → Option KeptReply) (state : State)
+    (ms : List (Move State)) (m : ℕ) (call : Call) (line : List ℕ) : Type 0 where
   pub all_but : IsAllBut x ends Good kept
   pub good : Good state
   pub booked : IsBookedUnexecuted ends Good kept state ms m call line

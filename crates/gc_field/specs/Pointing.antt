@@ -16,7 +16,7 @@ use Rattle.gc_station.specs.Parts.{Part, parts_of}
 use Rattle.gc_station.specs.Records.{Record}
 use Rattle.gc_station.specs.Runs.{stood}
 use Rattle.gc_station.specs.Scopes.{Scope}
-use Rattle.gc_station.specs.Standing.{opening}
+use Rattle.gc_station.specs.Model.{opening}
 use Rattle.gc_station.specs.declared.plan.Plan.{Plan}
 use Rattle.gc_world.specs.Clients.{ends}
 use Rattle.gc_field.specs.Begin.{UnderWay}

@@ -21,7 +21,7 @@ use Rattle.gc_station.specs.Marks.{records_of}
 use Rattle.gc_station.specs.Parts.{Part, AreOf, acting, mark_of, parts_of, sent_of, timeless}
 use Rattle.gc_station.specs.Records.{Record}
 use Rattle.gc_station.specs.Runs.{stood}
-use Rattle.gc_station.specs.Standing.{Standing, opening, order_at, after, Runs}
+use Rattle.gc_station.specs.Model.{Model, opening, action_at, after, Runs}
 use Rattle.gc_station.specs.Scopes.{Scope}
 use Rattle.gc_world.specs.Clients.{ends}
 use Rattle.gc_world.specs.Record.{IsReplyTo}
@@ -80,15 +80,15 @@ module _ {State : Type 0} (ends : Ends State) where
 
 -- an act means turns while it begins, and then steps: a request that goes out is one whose line these bytes are, and so on; and while it
 -- begins, the next null procedure is asked for exactly where the one before it is answered
-abbrev pub IsMeant : Bool → Standing → Act → Part → Standing → Type 0
+abbrev pub IsMeant : Bool → Model → Act → Part → Model → Type 0
 IsMeant true s act p t = (p.turns ≡ []) × Means s.client s.rest act p.steps t.rest
 IsMeant false s act p t = (p.steps ≡ []) × MeansTurns s.progress.word s.rest act p.turns t.rest × (t.progress.word ≡ left_behind s.progress.word (heard_in p.turns))
 
 -- each act of a run means what its parts are made of
-abbrev pub AreMeant : Plan → List Task → Standing → List Act → Type 0
+abbrev pub AreMeant : Plan → List Task → Model → List Act → Type 0
 AreMeant plan commands s [] = Unit {0}
 AreMeant plan commands s (act ∷ acts) =
-    IsMeant (has_begun s.progress) s act (acting plan commands s (order_at plan s) act) (after plan commands s act) × AreMeant plan commands (after plan commands s act) acts
+    IsMeant (has_begun s.progress) s act (acting plan commands s (action_at plan s) act) (after plan commands s act) × AreMeant plan commands (after plan commands s act) acts
 
 module _ {State : Type 0} (ends : Ends State) (Good : State → Type 0) (kept : State → Option KeptReply) where
   -- a run of a station, and for each of its parts what happens on the line and to an instrument: first while it begins, then once it has

@@ -5,7 +5,7 @@ use Rattle.gc_client.specs.declared.window.TheConstants.{WINDOW}
 use Rattle.gc_station.specs.Parts as part
 use Rattle.gc_station.specs.Parts.{Part}
 use Rattle.gc_world.specs.World.{Ends}
-use Rattle.gc_field.specs.Begin.{Aged, Standing, Turn, Asks, Comes, Foreign, Reaches, Up_lose, Up_repeat, Down_lose, Down_repeat, Anew, Changes, UnderWay, begins, leaves, turned, turns}
+use Rattle.gc_field.specs.Begin.{Aged, Model, Turn, Asks, Comes, Foreign, Reaches, Up_lose, Up_repeat, Down_lose, Down_repeat, Anew, Changes, UnderWay, begins, leaves, turned, turns}
 use Rattle.gc_field.specs.Beginnings.{Run, left_by_run}
 use Rattle.gc_field.specs.Field.{Move, seen}
 
@@ -17,7 +17,7 @@ first_heard (x ∷ rest) = part.Hears x.line ∷ []
 module _ {State : Type 0} where
   -- what a turn is to the station that begins: the null procedure that is asked for goes out, or a line is heard; what happens on the line
   -- is nothing to it
-  abbrev pub shows : Standing State → Turn State → List part.Turn
+  abbrev pub shows : Model State → Turn State → List part.Turn
   shows s Asks = part.Asks ∷ []
   shows s Comes = first_heard s.down
   shows s (Foreign line) = part.Hears line ∷ []
@@ -29,7 +29,7 @@ module _ {State : Type 0} where
   shows s Anew = []
   shows s (Changes state) = []
 
-  abbrev pub shown : Ends State → List (Turn State) → Standing State → List part.Turn
+  abbrev pub shown : Ends State → List (Turn State) → Model State → List part.Turn
   shown ends [] s = []
   shown ends (t ∷ ts) s = shows s t ++ shown ends ts (turns ends s t)
 

@@ -125,8 +125,8 @@ pub fn two_at_once_are_booked_wrong()
     ensures { TwoAtOnceAreBookedWrong }
 {}
 
-/// Some run is such a run: over a line with a request and a reply of before under way, each with the id of its first command, it begins,
-/// and writes down the answer that was made on executing its own request.
+/// Some run meets every premise of `runs_are_faithful`: over a line on which an earlier request and an earlier reply are still under way,
+/// each with the id of its first command, it begins, and writes down the answer that was made on executing its own request.
 pub fn some_run_is_in_the_field()
     ensures { SomeRunIsInField }
 {}

@@ -56,7 +56,8 @@ is_whole held end len more within is ends = elim (cases_Bool (length (whole held
     wrong : (a b : ℕ) → a ≡ b → (a == b) ≡ false → ⊥
     wrong a b same differs = let both : true ≡ false = sym (eq-eqb a b same) ∙ differs in cc
 
-pub mend_all : (old mid new : Option Life) (known : Life) (end len : ℕ) → end < len → len ≡ length (content known) → end ≡ length (whole (content known)) → Adds old mid (Cut end ∷ []) → Adds mid new (Sync ∷ []) → Adds old new (mended (content known))
+pub mend_all : (old mid new : Option Life) (known : Life) (end len : ℕ) → end < len → len ≡ length (content known) → end ≡ length (whole (content known))
+    → Adds old mid (Cut end ∷ []) → Adds mid new (Sync ∷ []) → Adds old new (mended (content known))
 mend_all old mid new known end len less is ends cut sync =
     subst (λ (steps : List Step). Adds old new steps) (sym (is_cut (content known) end len less is ends)) (adds_two old mid new (Cut end ∷ []) (Sync ∷ []) cut sync)
 
@@ -69,7 +70,8 @@ start_at head [] none = refl
 start_at head (b ∷ l) none = absurd (omega (arith, none))
 
 -- mended, and nothing more is wanted
-pub opens_whole : (head : List ℕ) (old new : Option Life) (end : ℕ) → 0 < end → ((life : Life) → old ≡ Some life → end ≡ length (whole (content life))) → ((known : Life) → old ≡ Some known → Adds old new (mended (content known))) → Opens head old new
+pub opens_whole : (head : List ℕ) (old new : Option Life) (end : ℕ) → 0 < end → ((life : Life) → old ≡ Some life → end ≡ length (whole (content life)))
+    → ((known : Life) → old ≡ Some known → Adds old new (mended (content known))) → Opens head old new
 opens_whole head old new end more ends adds life is = (
   mended (content life),
   adds life is life is,
@@ -81,7 +83,8 @@ opens_whole head old new end more ends adds life is = (
 )
 
 -- mended, and then these bytes
-pub ran_more : (old mid new : Option Life) (bytes : List ℕ) → ((known : Life) → old ≡ Some known → Adds old mid (mended (content known))) → PutsAll mid new bytes → (life : Life) → old ≡ Some life → (steps : List Step) × (new ≡ Some (later_by steps life)) × Ran (content life) steps bytes
+pub ran_more : (old mid new : Option Life) (bytes : List ℕ) → ((known : Life) → old ≡ Some known → Adds old mid (mended (content known)))
+    → PutsAll mid new bytes → (life : Life) → old ≡ Some life → (steps : List Step) × (new ≡ Some (later_by steps life)) × Ran (content life) steps bytes
 ran_more old mid new bytes adds puts life is =
     let second = puts (later_by (mended (content life)) life) (adds life is life is) in (
       mended (content life) ++ second.0,
@@ -89,7 +92,8 @@ ran_more old mid new bytes adds puts life is =
       record { later = second.0; split = refl; puts = second.2 },
     )
 
-pub opens_head : (head : List ℕ) (old mid new : Option Life) (end : ℕ) → end ≤ 0 → ((life : Life) → old ≡ Some life → end ≡ length (whole (content life))) → ((known : Life) → old ≡ Some known → Adds old mid (mended (content known))) → PutsAll mid new head → Opens head old new
+pub opens_head : (head : List ℕ) (old mid new : Option Life) (end : ℕ) → end ≤ 0 → ((life : Life) → old ≡ Some life → end ≡ length (whole (content life)))
+    → ((known : Life) → old ≡ Some known → Adds old mid (mended (content known))) → PutsAll mid new head → Opens head old new
 opens_head head old mid new end none ends adds puts life is =
     let ran = ran_more old mid new head adds puts life is in
     (ran.0, ran.1, subst (λ (bytes : List ℕ). Ran (content life) ran.0 bytes) (sym (start_at head (whole (content life)) (omega (arith, none, ends life is)))) ran.2)
@@ -99,7 +103,9 @@ opens_part head old new part life is =
     let p = part life is in
     (take p.0 (mended (content life)), p.1 life is, inl (record { count = p.0; is = refl }))
 
-pub opens_head_part : (head : List ℕ) (old mid new : Option Life) (end : ℕ) → end ≤ 0 → ((life : Life) → old ≡ Some life → end ≡ length (whole (content life))) → ((known : Life) → old ≡ Some known → Adds old mid (mended (content known))) → (front : List ℕ) × IsFront front head × PutsAll mid new front → OpensInPart head old new
+pub opens_head_part : (head : List ℕ) (old mid new : Option Life) (end : ℕ) → end ≤ 0
+    → ((life : Life) → old ≡ Some life → end ≡ length (whole (content life))) → ((known : Life) → old ≡ Some known → Adds old mid (mended (content known)))
+    → (front : List ℕ) × IsFront front head × PutsAll mid new front → OpensInPart head old new
 opens_head_part head old mid new end none ends adds part life is =
     let ran = ran_more old mid new part.0 adds part.2 life is in
     (ran.0, ran.1, inr (part.0, ran.2, subst (λ (all : List ℕ). IsFront part.0 all) (sym (start_at head (whole (content life)) (omega (arith, none, ends life is)))) part.1))

@@ -39,7 +39,8 @@ line_first [] = (10, [], refl)
 line_first (b ∷ row) = (b, row ++ 10 ∷ [], refl)
 
 -- behind rows that are there
-behind_rows : (head held : List ℕ) (b : ℕ) (bs : List ℕ) (rows : List (List ℕ)) (k : ℕ) (left : List ℕ) → AreRows rows → whole held ≡ b ∷ bs → left ≡ whole held ++ take k (start_of head held ++ lines rows) → Has head held rows k left
+behind_rows : (head held : List ℕ) (b : ℕ) (bs : List ℕ) (rows : List (List ℕ)) (k : ℕ) (left : List ℕ) → AreRows rows → whole held ≡ b ∷ bs
+    → left ≡ whole held ++ take k (start_of head held ++ lines rows) → Has head held rows k left
 behind_rows head held b bs rows k left are some is =
     let w = within rows k are in
     let start : start_of head held ≡ [] = ap (λ (l : List ℕ). if is_none l then head else []) some in
@@ -54,7 +55,8 @@ behind_rows head held b bs rows k left are some is =
     }
 
 -- in a file without a whole row and without a head
-behind_nothing : (held : List ℕ) (rows : List (List ℕ)) (k : ℕ) (left : List ℕ) → AreRows rows → whole held ≡ [] → left ≡ whole held ++ take k (start_of [] held ++ lines rows) → Has [] held rows k left
+behind_nothing : (held : List ℕ) (rows : List (List ℕ)) (k : ℕ) (left : List ℕ) → AreRows rows → whole held ≡ []
+    → left ≡ whole held ++ take k (start_of [] held ++ lines rows) → Has [] held rows k left
 behind_nothing held rows k left are none is =
     let w = within rows k are in
     let start : start_of [] held ≡ [] = ap (λ (l : List ℕ). if is_none l then [] else []) none in
@@ -100,7 +102,8 @@ list_cases [] = inl refl
 list_cases (b ∷ bs) = inr (b, bs, refl)
 
 -- what stands behind so many of a run's bytes
-pub reached : (head held : List ℕ) (rows : List (List ℕ)) (k : ℕ) (left : List ℕ) → IsHead head → AreRows rows → left ≡ whole held ++ take k (start_of head held ++ lines rows) → Has head held rows k left
+pub reached : (head held : List ℕ) (rows : List (List ℕ)) (k : ℕ) (left : List ℕ) → IsHead head → AreRows rows
+    → left ≡ whole held ++ take k (start_of head held ++ lines rows) → Has head held rows k left
 reached head held rows k left heads are is = elim (list_cases (whole held)) [
   | inr some ↦ behind_rows head held some.0 some.1 rows k left are some.2 is
   | inl none ↦ elim heads [
@@ -216,7 +219,8 @@ pub rows_more : (runs : List Run) (counts : List ℕ) (run : Run) (n : ℕ) → 
 rows_more [] [] run n cs = append-nil (lines (take n run.rows))
 rows_more [] (m ∷ counts) run n cs = absurd cs
 rows_more (r ∷ runs) [] run n cs = absurd cs
-rows_more (r ∷ runs) (m ∷ counts) run n cs = ap (λ (l : List ℕ). lines (take m r.rows) ++ l) (rows_more runs counts run n cs.2) ∙ sym (append_assoc (lines (take m r.rows)) (rows_of runs counts) (lines (take n run.rows)))
+rows_more (r ∷ runs) (m ∷ counts) run n cs = ap (λ (l : List ℕ). lines (take m r.rows) ++ l) (rows_more runs counts run n cs.2)
+    ∙ sym (append_assoc (lines (take m r.rows)) (rows_of runs counts) (lines (take n run.rows)))
 
 -- one run more
 pub has_more : (head before : List ℕ) (runs : List Run) (run : Run) (held left : List ℕ) → HasRows head before runs held → RunHas head held run left → HasRows head before (runs ++ run ∷ []) left
@@ -242,7 +246,8 @@ module _ (head before : List ℕ) (heads : IsHead head) where
   ]
 
   -- what the run's end leaves
-  ended : (runs : List Run) (life : Life) (run : Run) (left : Option (List ℕ)) → Lasts head before runs life → IsRun head (content life) run → Ended life run left → Lasts head before (runs ++ run ∷ []) (lived life run left)
+  ended : (runs : List Run) (life : Life) (run : Run) (left : Option (List ℕ)) → Lasts head before runs life → IsRun head (content life) run
+      → Ended life run left → Lasts head before (runs ++ run ∷ []) (lived life run left)
   ended runs life run None lasts one end = one_more runs life run lasts one
   ended runs life run (Some there) lasts one end = λ left may. subst (HasRows head before (runs ++ run ∷ [])) (sym may) (one_more runs life run lasts one there end)
 
@@ -253,7 +258,8 @@ module _ (head before : List ℕ) (heads : IsHead head) where
       (all_runs (earlier ++ run ∷ []) runs (lived life run run.left) (ended earlier life run run.left lasts happen.0 happen.1) happen.2)
 
 -- the law
-pub tables_last : (head held : List ℕ) → IsHead head → (runs : List Run) → Happen head (record { start = held; steps = [] }) runs → Lasts head (table head held) runs (life_after (record { start = held; steps = [] }) runs)
+pub tables_last : (head held : List ℕ) → IsHead head → (runs : List Run) → Happen head (record { start = held; steps = [] }) runs
+    → Lasts head (table head held) runs (life_after (record { start = held; steps = [] }) runs)
 tables_last head held heads runs happen =
     all_runs head (table head held) heads [] runs (record { start = held; steps = [] })
     (λ left may. ([], tt, ap (table head) may ∙ sym (append-nil (table head held)))) happen

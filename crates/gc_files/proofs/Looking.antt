@@ -21,7 +21,8 @@ fits_none (a ∷ sign) = refl
 
 pub fits_on : (k : ℕ) (sign held : List ℕ) → take k sign ≡ take k held → fits sign held ≡ fits (drop k sign) (drop k held)
 fits_on k sign held same =
-    ap (λ (s : List ℕ). fits s held) (sym (take-append-drop k sign)) ∙ ap (λ (h : List ℕ). fits (take k sign ++ drop k sign) h) (sym (take-append-drop k held) ∙ ap (λ (l : List ℕ). l ++ drop k held) (sym same))
+    ap (λ (s : List ℕ). fits s held) (sym (take-append-drop k sign)) ∙ ap (λ (h : List ℕ). fits (take k sign ++ drop k sign) h)
+    (sym (take-append-drop k held) ∙ ap (λ (l : List ℕ). l ++ drop k held) (sym same))
     ∙ fits_behind (take k sign) (drop k sign) (drop k held)
 
 pub fits_not : (k : ℕ) (sign held : List ℕ) → k ≤ length sign → k ≤ length held → (take k sign ≡ take k held → ⊥) → fits sign held ≡ false
@@ -29,7 +30,8 @@ fits_not zero sign held one two differ = absurd (differ refl)
 fits_not (suc k) [] held one two differ = absurd (omega (arith, one))
 fits_not (suc k) (a ∷ sign) [] one two differ = absurd (omega (arith, two))
 fits_not (suc k) (a ∷ sign) (b ∷ held) one two differ = elim (cases_Bool (a == b)) [
-  | inl same ↦ ap (λ t. t && fits sign held) same ∙ fits_not k sign held (omega (arith, one)) (omega (arith, two)) (λ rest. differ (ap (λ n. n ∷ take k sign) (eqb-true a b same) ∙ ap (λ (l : List ℕ). b ∷ l) rest))
+  | inl same ↦ ap (λ t. t && fits sign held) same ∙ fits_not k sign held (omega (arith, one)) (omega (arith, two))
+      (λ rest. differ (ap (λ n. n ∷ take k sign) (eqb-true a b same) ∙ ap (λ (l : List ℕ). b ∷ l) rest))
   | inr isnt ↦ ap (λ t. t && fits sign held) isnt
 ]
 
@@ -39,7 +41,8 @@ looked_on at k sign held rest is same =
     fits_on k (drop at sign) (drop at held) (ap (take k) (sym is) ∙ same)
     ∙ ap (λ (s : List ℕ). fits s (drop k (drop at held))) (drop-drop k at sign) ∙ ap (λ (h : List ℕ). fits (drop (at + k) sign) h) (drop-drop k at held)
 
-pub looked_not : (at k : ℕ) (sign held rest : List ℕ) → rest ≡ drop at sign → k ≤ length rest → at + k ≤ length held → (take k rest ≡ take k (drop at held) → ⊥) → fits (drop at sign) (drop at held) ≡ false
+pub looked_not : (at k : ℕ) (sign held rest : List ℕ) → rest ≡ drop at sign → k ≤ length rest → at + k ≤ length held
+    → (take k rest ≡ take k (drop at held) → ⊥) → fits (drop at sign) (drop at held) ≡ false
 looked_not at k sign held rest is one two differ =
     ap (λ (s : List ℕ). fits s (drop at held)) (sym is) ∙ fits_not k rest (drop at held) one (omega (arith, two, length-drop at held)) differ
 
@@ -59,7 +62,18 @@ read_more done n at k buf ys held within few first second =
 
 pub length-put : (done k : ℕ) (buf ys : List ℕ) → done ≤ length buf → k ≡ length buf - done → length ys ≡ k → length (put_mid done k buf ys) ≡ length buf
 length-put done k buf ys within is size =
-    omega (arith, within, is, size, length-append (take done buf) (ys ++ drop k (drop done buf)), length-append ys (drop k (drop done buf)), length-take-le done buf within, length-drop k (drop done buf), length-drop done buf)
+    omega (
+      arith,
+      within,
+      is,
+      size,
+      length-append (take done buf) (ys ++ drop k (drop done buf)),
+      length-append ys
+          (drop k (drop done buf)),
+      length-take-le done buf within,
+      length-drop k (drop done buf),
+      length-drop done buf,
+    )
 
 -- where the last line feed of a block is
 none_feed : (xs : List ℕ) → ((j : ℕ) → j < length xs → (slice_index xs j == 10) ≡ true → ⊥) → has_feed xs ≡ false
@@ -101,7 +115,9 @@ last_none block h = sym (ap length (whole_none block (none_feed block (λ j belo
 -- a block at the end of what has no line feed behind it
 split_at : (at size : ℕ) (held block : List ℕ) → block ≡ take size (drop at held) → held ≡ take at held ++ (block ++ drop (at + size) held)
 split_at at size held block is =
-    sym (take-append-drop at held) ∙ ap (λ (l : List ℕ). take at held ++ l) (sym (take-append-drop size (drop at held)) ∙ ap (λ (l : List ℕ). l ++ drop size (drop at held)) (sym is) ∙ ap (λ (l : List ℕ). block ++ l) (drop-drop size at held))
+    sym (take-append-drop at held) ∙ ap (λ (l : List ℕ). take at held ++ l)
+    (sym (take-append-drop size (drop at held)) ∙ ap (λ (l : List ℕ). l ++ drop size (drop at held)) (sym is)
+    ∙ ap (λ (l : List ℕ). block ++ l) (drop-drop size at held))
 
 none_whole : (xs : List ℕ) → length (whole xs) ≡ 0 → has_feed xs ≡ false
 none_whole xs none = elim (cases_Bool (has_feed xs)) [
@@ -119,25 +135,35 @@ some_whole xs some = elim (cases_Bool (has_feed xs)) [
   | inr isnt ↦ absurd (omega (arith, some, ap length (whole_none xs isnt)))
 ]
 
-pub block_none : (at size end : ℕ) (held block : List ℕ) → block ≡ take size (drop at held) → at + size ≡ end → has_feed (drop end held) ≡ false → length (whole block) ≤ 0 → has_feed (drop at held) ≡ false
+pub block_none : (at size end : ℕ) (held block : List ℕ) → block ≡ take size (drop at held) → at + size ≡ end → has_feed (drop end held) ≡ false
+    → length (whole block) ≤ 0 → has_feed (drop at held) ≡ false
 block_none at size end held block is ends none no_rows =
-    let rest : drop at held ≡ block ++ drop (at + size) held = sym (take-append-drop size (drop at held)) ∙ ap (λ (l : List ℕ). l ++ drop size (drop at held)) (sym is) ∙ ap (λ (l : List ℕ). block ++ l) (drop-drop size at held) in
+    let rest : drop at held ≡ block ++ drop (at + size) held = sym (take-append-drop size (drop at held))
+    ∙ ap (λ (l : List ℕ). l ++ drop size (drop at held)) (sym is) ∙ ap (λ (l : List ℕ). block ++ l) (drop-drop size at held) in
     ap has_feed rest ∙ feed_front block (drop (at + size) held) (ap (λ n. has_feed (drop n held)) ends ∙ none) ∙ none_whole block (omega (arith, no_rows))
 
-pub block_some : (at size end : ℕ) (held block : List ℕ) → block ≡ take size (drop at held) → at + size ≡ end → at ≤ length held → has_feed (drop end held) ≡ false → 0 < length (whole block) → at + length (whole block) ≡ length (whole held)
+pub block_some : (at size end : ℕ) (held block : List ℕ) → block ≡ take size (drop at held) → at + size ≡ end → at ≤ length held
+    → has_feed (drop end held) ≡ false → 0 < length (whole block) → at + length (whole block) ≡ length (whole held)
 block_some at size end held block is ends within none rows =
     let behind : has_feed (drop (at + size) held) ≡ false = ap (λ n. has_feed (drop n held)) ends ∙ none in
     let whole_is : whole held ≡ take at held ++ whole block =
-    ap whole (split_at at size held block is ∙ sym (append_assoc (take at held) block (drop (at + size) held))) ∙ whole_front (take at held ++ block) (drop (at + size) held) behind ∙ whole_behind (take at held) block (some_whole block rows) in
+    ap whole (split_at at size held block is ∙ sym (append_assoc (take at held) block (drop (at + size) held)))
+    ∙ whole_front (take at held ++ block) (drop (at + size) held) behind ∙ whole_behind (take at held) block (some_whole block rows) in
     omega (arith, ap length whole_is, length-append (take at held) (whole block), length-take-le at held within)
 
 -- bytes went out, and some more
-pub put_more : (old mid new : Option Life) (bytes piece : List ℕ) (done n : ℕ) → piece ≡ drop done bytes → PutsAll old mid (take done bytes) → Adds mid new (Append (take n piece) ∷ []) → PutsAll old new (take (done + n) bytes)
+pub put_more : (old mid new : Option Life) (bytes piece : List ℕ) (done n : ℕ) → piece ≡ drop done bytes → PutsAll old mid (take done bytes)
+    → Adds mid new (Append (take n piece) ∷ []) → PutsAll old new (take (done + n) bytes)
 put_more old mid new bytes piece done n is puts adds =
     subst (PutsAll old new) (ap (λ (l : List ℕ). take done bytes ++ take n l) is ∙ sym (take-add done n bytes)) (puts_more old mid new (take done bytes) (take n piece) puts adds)
 
 pub put_part : (old mid new : Option Life) (bytes : List ℕ) (done : ℕ) → PutsAll old mid (take done bytes) → new ≡ mid → (front : List ℕ) × IsFront front bytes × PutsAll old new front
-put_part old mid new bytes done puts same = (take done bytes, record { rest = drop done bytes; split = sym (take-append-drop done bytes) }, subst (λ (life : Option Life). PutsAll old life (take done bytes)) (sym same) puts)
+put_part old mid new bytes done puts same = (
+  take done bytes,
+  record { rest = drop done bytes; split = sym (take-append-drop done bytes) },
+  subst
+      (λ (life : Option Life). PutsAll old life (take done bytes)) (sym same) puts,
+)
 
 pub size_of : (k : ℕ) (buf block : List ℕ) → k ≤ length buf → length block ≡ length (take k buf) → length block ≡ k
 size_of k buf block within same = same ∙ length-take-le k buf within

@@ -63,7 +63,8 @@ mends held = elim (cases_Bool (length (whole held) == length held)) [
     eq_of e = eqb-true _ _ e
 
     all : (held : List ℕ) (t : Torn held) → length (whole held) ≡ length held → held ≡ whole held
-    all held t same = sym (take_all (length held) held (omega arith)) ∙ ap (λ n. take n held) (sym same) ∙ ap (take (length (whole held))) t.split ∙ take_at (whole held) t.torn (length (whole held)) refl
+    all held t same = sym (take_all (length held) held (omega arith)) ∙ ap
+        (λ n. take n held) (sym same) ∙ ap (take (length (whole held))) t.split ∙ take_at (whole held) t.torn (length (whole held)) refl
 
 cut_moments : (held : List ℕ) (count : ℕ) (left : List ℕ) → MayLeave held (take count (Cut (length (whole held)) ∷ Sync ∷ [])) left → whole left ≡ whole held
 cut_moments held zero left may = ap whole may

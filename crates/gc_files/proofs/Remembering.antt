@@ -16,7 +16,8 @@ pub content_step : (life : Life) (step : Step) → content (later_by (step ∷ [
 content_step life step = behind_two life.start life.steps (step ∷ [])
 
 -- a call noted down
-pub noted : (start : List ℕ) (calls new : List Call) (c : Call) (old now next : List ℕ) → new ≡ calls ++ c ∷ [] → now ≡ next → next ≡ stepped old (step_of c) → old ≡ content (life_by start calls) → now ≡ content (life_by start new)
+pub noted : (start : List ℕ) (calls new : List Call) (c : Call) (old now next : List ℕ) → new ≡ calls ++ c ∷ [] → now ≡ next → next ≡ stepped old (step_of c)
+    → old ≡ content (life_by start calls) → now ≡ content (life_by start new)
 noted start calls new c old now next is put made was =
     put ∙ made ∙ ap (λ (held : List ℕ). stepped held (step_of c)) was ∙ sym (content_step (life_by start calls) (step_of c)) ∙ ap content (sym (life_more start calls new c is))
 

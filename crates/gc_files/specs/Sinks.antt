@@ -43,5 +43,5 @@ pub record IsOpenedAs {F : Type 0} {D : Ghosts F} (head sign : List ℕ) (sync :
   pub kept : asks_sync sink ≡ sync
 
 -- what it took is on the disk, or needs not be
-abbrev pub lasts : {F : Type 0} {D : Ghosts F} → RowsFile F D → Bool
-lasts sink = if sink.sync then not sink.unkept else true
+abbrev pub is_durable : {F : Type 0} {D : Ghosts F} → RowsFile F D → Bool
+is_durable sink = if sink.sync then not sink.unkept else true

@@ -6,7 +6,7 @@ ghost use Rattle.std.specs.Io.KnownBytes.{Keeps};
 ghost use Rattle.gc_lines.specs.Ports.{TakesBytes, Fails};
 
 use crate::appending::Appending;
-use gc_lines::{Lasting, PortFailed, Sink};
+use gc_lines::{Durable, PortFailed, Sink};
 
 /// A file that rows are appended to, as a sink. What the file holds counts as taken. After a failure it stays failed, so that
 /// no row stands behind half of another.
@@ -23,12 +23,12 @@ pub struct RowsFile<F: Appending> {
     // Whether something may not be on the disk.
     unkept: bool,
     broken: bool,
-    // What isn't marked is on the disk.
+    // Where `unkept` is false, all that the file holds is on the disk.
     ghost durable: { unkept ≡ false → (known : Life) → F.life file ≡ Some known → IsKept known },
 }
 
 impl<F: Appending> RowsFile<F> {
-    ghost use Rattle.gc_files.specs.Sinks.{life_in, has_failed, torn_in, asks_sync, lasts, head_in, sign_in, IsOpenedAs};
+    ghost use Rattle.gc_files.specs.Sinks.{life_in, has_failed, torn_in, asks_sync, is_durable, head_in, sign_in, IsOpenedAs};
 
     // A sink over a file that ends in a whole row, or has none. What it holds may not be on the disk yet.
     pub(crate) fn new(
@@ -85,7 +85,7 @@ impl<F: Appending> RowsFile<F> {
     /// The file behind it. Where the sink lasts and was opened with `sync`, a crash leaves all that was taken.
     pub fn file(&self) -> &F
         ensures is { F.life result.now ≡ life_in self.now }
-        ensures lasts { lasts self.now ≡ true → asks_sync self.now ≡ true → (known : Life) → life_in self.now ≡ Some known → IsKept known }
+        ensures is_durable { is_durable self.now ≡ true → asks_sync self.now ≡ true → (known : Life) → life_in self.now ≡ Some known → IsKept known }
     {
         &self.file
     }
@@ -124,17 +124,17 @@ impl<F: Appending> Sink for RowsFile<F> {
     }
 }
 
-impl<F: Appending> Lasting for RowsFile<F> {
-    ghost use Rattle.gc_files.specs.Sinks.{KeepsAll, known_content, life_in, has_failed, asks_sync, lasts};
+impl<F: Appending> Durable for RowsFile<F> {
+    ghost use Rattle.gc_files.specs.Sinks.{KeepsAll, known_content, life_in, has_failed, asks_sync, is_durable};
 
-    ghost lasts = { λ r. lasts r };
+    ghost is_durable = { λ r. is_durable r };
 
     /// Syncs what was appended, where the file was opened with `sync`: after `Ok` a crash leaves all that was taken. It does
     /// nothing where nothing was appended since the last time, or where the file was opened without `sync`.
     ///
     /// It fails where the file failed in this call or has failed before.
-    fn keep(&mut self) -> Result<(), PortFailed>
-        ensures lasts { OnOk result (lasts self.new ≡ true) }
+    fn sync(&mut self) -> Result<(), PortFailed>
+        ensures is_durable { OnOk result (is_durable self.new ≡ true) }
         ensures same { Keeps (known_content (life_in self.old)) (known_content (life_in self.new)) }
         ensures fails { Fails (has_failed self.old) (has_failed self.new) result }
         ensures kept { OnOk result (asks_sync self.new ≡ true → (known : Life) → life_in self.new ≡ Some known → IsKept known) }

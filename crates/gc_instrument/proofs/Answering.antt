@@ -9,7 +9,7 @@ use Rattle.gc_lines.specs.Requests.{RequestFields, IsRequest}
 use Rattle.gc_lines.specs.declared.fault.LineFault.{LineFault}
 use Rattle.gc_lines.specs.declared.request.Request.{Request}
 use Rattle.gc_lines.proofs.Replies.{reply_found}
-use Rattle.gc_lines.proofs.Requests.{request_found, request_one}
+use Rattle.gc_lines.proofs.Requests.{request_found, one_request}
 use Rattle.gc_catalogue.proofs.CallLaws.{one_call, no_refusal}
 use Rattle.gc_catalogue.proofs.LineLaws.{call_again, answer_again, refusal_again, rounded_fits}
 use Rattle.gc_catalogue.specs.Answers.{IsAnswerOf, rounded_answer}
@@ -28,7 +28,8 @@ use Rattle.gc_instrument.specs.Execution.{Executed, Executes, exec}
 use Rattle.gc_instrument.specs.Replying.{IsReplied, silent, answers, AnswersCall, repeats, executes, AnswersRequest, refuses, answers_call, AppendsCall, AppendsReply, IsAnswered, IsExchanged, Handed, handed, again_or_new, kept_line, with_kept, reading_of, refusal_line, executed_line, reply_id}
 
 -- the line of a call that was carried out
-pub executed_is : (before after : State) (call : Call) (number code places : ℕ) (answer : Answer) → Executes before call after code answer → places ≡ after.precision → reply_line number code answer places ≡ executed_line number (exec before call)
+pub executed_is : (before after : State) (call : Call) (number code places : ℕ) (answer : Answer) → Executes before call after code answer
+    → places ≡ after.precision → reply_line number code answer places ≡ executed_line number (exec before call)
 executed_is before after call number code places answer done precision =
     ap (λ n. reply_line number code answer n) precision ∙ sym (ap (λ (x : Executed). executed_line number x) done)
 
@@ -38,7 +39,8 @@ pub refused_reply : (state : State) (q : RequestFields) (fault : CallFault) (num
 refused_reply state q fault number line is same made = refuses fault is refl (made ∙ ap (λ n. refusal_line n fault) same)
 
 -- a line that reads as a request
-pub request_replied : (before after : State) (line bytes : List ℕ) (q : RequestFields) (text : List ℕ) → bytes ≡ line → IsRequest bytes q → AnswersRequest before q after text → IsReplied before line after (Some text)
+pub request_replied : (before after : State) (line bytes : List ℕ) (q : RequestFields) (text : List ℕ) → bytes ≡ line → IsRequest bytes q
+    → AnswersRequest before q after text → IsReplied before line after (Some text)
 request_replied before after line bytes q text same is made = answers q (subst (λ (x : List ℕ). IsRequest x q) same is) text made refl
 
 -- a line that doesn't
@@ -77,7 +79,8 @@ reads_executed before number call x e done refused = elim (zero_or_more x.rc) [
 
 -- the same of a line that was made of the parts
 pub made_answered : (before after : State) (call : Call) (number code places : ℕ) (answer : Answer) → Executes before call after code answer → places ≡ after.precision
-    → (code ≡ 0 → IsAnswerOf call answer → ReadsBackAnswer call number code answer places (Value (rounded_answer places answer))) → (code ≢ 0 → ReadsBackAnswer call number code answer places (Refused code))
+    → (code ≡ 0 → IsAnswerOf call answer → ReadsBackAnswer call number code answer places (Value (rounded_answer places answer)))
+    → (code ≢ 0 → ReadsBackAnswer call number code answer places (Refused code))
     → IsAnswered before number call (reply_line number code answer places)
 made_answered before after call number code places answer done precision back refused =
     let x : Executed = record { state = after; rc = code; answer = answer } in
@@ -90,7 +93,7 @@ made_answered before after call number code places answer done precision back re
 -- a request line that reads as a request is the call's
 pub read_of : (line : List ℕ) (q : RequestFields) (id : ℕ) (call : Call) → id < 8 → IsFitting call → line ≡ request_line (Some id) call → IsRequest line q → q ≡ request_of (Some id) call
 read_of line q id call small fits e is =
-    request_one line q (request_of (Some id) call) is
+    one_request line q (request_of (Some id) call) is
     (subst (λ (x : List ℕ). IsRequest x (request_of (Some id) call)) (sym e) (request_found (request_line (Some id) call) (request_of (Some id) call) (call_again (Some id) call small fits).line))
 
 -- a request with the kept id, and one with another
@@ -103,7 +106,8 @@ unfolding handed
 handed_new s id call e = ap (again_or_new s id call) e
 
 -- what was done with a call is what handing over its request line gives
-pub handed_does : (before after : State) (id : ℕ) (call : Call) (text : List ℕ) → AnswersCall before (Some id) call after text → (after ≡ (handed before id call).state) × (text ≡ (handed before id call).reply)
+pub handed_does : (before after : State) (id : ℕ) (call : Call) (text : List ℕ) → AnswersCall before (Some id) call after text
+    → (after ≡ (handed before id call).state) × (text ≡ (handed before id call).reply)
 handed_does before after id call text (repeats e same) =
     let h = handed_again before id call text e in
     (same ∙ sym (ap (λ (x : Handed State). x.state) h), sym (ap (λ (x : Handed State). x.reply) h))
@@ -119,7 +123,8 @@ pub exchanged : (before after : State) (q : RequestFields) (id : ℕ) (call : Ca
 exchanged before after q id call text same is (refuses fault refusal state line) plain answered = absurd (no_refusal q.rpc q.params call fault is refusal)
 exchanged before after q id call text same is (answers_call made is_made does) plain answered =
     let one : made ≡ call = one_call q.rpc q.params made call is_made is in
-    let own : AnswersCall before (Some id) call after text = subst (λ (c : Call). AnswersCall before (Some id) c after text) one (subst (λ (o : Option ℕ). AnswersCall before o made after text) same does) in
+    let own : AnswersCall before (Some id) call after text = subst (λ (c : Call). AnswersCall before (Some id) c after text) one
+    (subst (λ (o : Option ℕ). AnswersCall before o made after text) same does) in
     let h = handed_does before after id call text own in
     record {
       state = h.0;
@@ -150,7 +155,8 @@ own_request : (id : ℕ) (call : Call) → id < 8 → IsFitting call → IsReque
 own_request id call small fits = request_found (request_line (Some id) call) (request_of (Some id) call) (call_again (Some id) call small fits).line
 
 -- a call's own line, where it read as a request
-pub line_exchanged : (before after : State) (line bytes : List ℕ) (q : RequestFields) (id : ℕ) (call : Call) (text : List ℕ) → bytes ≡ line → IsRequest bytes q → id < 8 → IsFitting call → line ≡ request_line (Some id) call
+pub line_exchanged : (before after : State) (line bytes : List ℕ) (q : RequestFields) (id : ℕ) (call : Call) (text : List ℕ) → bytes ≡ line
+    → IsRequest bytes q → id < 8 → IsFitting call → line ≡ request_line (Some id) call
     → AnswersRequest before q after text → ((d : Call) → IsCall q.rpc q.params d → IsPlain text)
     → ((d : Call) → IsCall q.rpc q.params d → kept_line before.kept q.id ≡ None → IsAnswered before (reply_id q) d text) → IsExchanged before id call after (Some text)
 line_exchanged before after line bytes q id call text same is small fits own made plain answered =
@@ -190,7 +196,8 @@ pub exchanged_alone : (s t : State) (id : ℕ) (call : Call) (new : List ℕ) �
 exchanged_alone s t id call new h = subst (λ (text : List ℕ). IsExchanged s id call t (Some text)) (sym h.2) h.1
 
 -- a request that names a call
-pub request_call : (before after : State) (q : RequestFields) (call : Call) (old new : List ℕ) → IsCall q.rpc q.params call → AppendsCall before q.id call after old new → AppendsReply before q after old new
+pub request_call : (before after : State) (q : RequestFields) (call : Call) (old new : List ℕ) → IsCall q.rpc q.params call
+    → AppendsCall before q.id call after old new → AppendsReply before q after old new
 request_call before after q call old new is h = record {
   text = h.text;
   appended = h.appended;

@@ -23,7 +23,8 @@ use Rattle.gc_instrument.specs.declared.face.Face.{Face}
 use Rattle.gc_instrument.specs.declared.face.Face.TheVariants.{Normal, Turned}
 use Rattle.gc_instrument.specs.declared.target.Target.{Target}
 
-done_outcome : (s t : State) (call : Call) (a : Answer) → opening_of t ≡ opening_of s → (IsFittingState s → IsFittingState t) → IsAnswerOf call a → (IsFittingState s → IsFitting call → IsFittingAnswer a) → ComesOut s call (done t a)
+done_outcome : (s t : State) (call : Call) (a : Answer) → opening_of t ≡ opening_of s → (IsFittingState s → IsFittingState t) → IsAnswerOf call a
+    → (IsFittingState s → IsFitting call → IsFittingAnswer a) → ComesOut s call (done t a)
 done_outcome s t call a same fits of_call answer_fits = record {
   same = same;
   fits = fits;
@@ -128,7 +129,8 @@ tests a b c d e f g h i all =
 -- the values of a date that the clock takes lie in their types
 date_fits : (d : DateTime) → is_date d ≡ true → AreValues (date_values d)
 date_fits d h =
-    let t = tests (int_le (pos 1) d.year) (int_le d.year (pos 9999)) (nat_le 1 d.month) (nat_le d.month 12) (nat_le 1 d.day) (nat_le d.day 31) (nat_le d.hour 23) (nat_le d.minute 59) (nat_le d.second 59) h in
+    let t = tests (int_le (pos 1) d.year) (int_le d.year (pos 9999)) (nat_le 1 d.month) (nat_le d.month 12) (nat_le 1 d.day) (nat_le d.day 31)
+    (nat_le d.hour 23) (nat_le d.minute 59) (nat_le d.second 59) h in
     let month = at_most d.month 12 t.2 in
     let day = at_most d.day 31 t.3 in
     let hour = at_most d.hour 23 t.4 in

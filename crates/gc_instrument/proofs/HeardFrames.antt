@@ -48,11 +48,13 @@ heard_line : (s u t : State) (line : List ℕ) (reply text : Option (List ℕ)) 
 heard_line s u t line reply text later rest texts replied text_is h are = record {
   replies = option_to_list reply ++ h.replies;
   hears = (u, reply, h.replies, replied, h.hears, refl);
-  texts_are = are ∙ ap (λ (o : Option (List ℕ)). option_to_list o ++ rest) text_is ∙ ap (λ (ts : List (List ℕ)). option_to_list (option_map with_end reply) ++ ts) h.texts_are ∙ mapped with_end reply h.replies;
+  texts_are = are ∙ ap (λ (o : Option (List ℕ)). option_to_list o ++ rest) text_is
+      ∙ ap (λ (ts : List (List ℕ)). option_to_list (option_map with_end reply) ++ ts) h.texts_are ∙ mapped with_end reply h.replies;
 }
 
 -- a frame that is no line
-heard_silence : (s u t : State) (text : Option (List ℕ)) (seen : List Frame) (rest texts : List (List ℕ)) → u ≡ s → text ≡ None → Heard u t seen rest → texts ≡ option_to_list text ++ rest → Heard s t seen texts
+heard_silence : (s u t : State) (text : Option (List ℕ)) (seen : List Frame) (rest texts : List (List ℕ)) → u ≡ s → text ≡ None → Heard u t seen rest
+    → texts ≡ option_to_list text ++ rest → Heard s t seen texts
 heard_silence s u t text seen rest texts same none h are = record {
   replies = h.replies;
   hears = subst (λ (v : State). Hears v (lines_of seen) t h.replies) same h.hears;
@@ -99,7 +101,8 @@ record Drawn (s t : State) (frame : Frame) (text : List ℕ) : Type 0 where
   replied : IsReplied s line t (Some reply)
   text_is : text ≡ with_end reply
 
-drawn_line : (s t : State) (line : List ℕ) (reply : Option (List ℕ)) (text : List ℕ) → IsReplied s line t reply → ◌≡◌ {A = Option (List ℕ)} (Some text) (option_map with_end reply) → Drawn s t (Line (record { items = line })) text
+drawn_line : (s t : State) (line : List ℕ) (reply : Option (List ℕ)) (text : List ℕ) → IsReplied s line t reply
+    → ◌≡◌ {A = Option (List ℕ)} (Some text) (option_map with_end reply) → Drawn s t (Line (record { items = line })) text
 drawn_line s t line None text replied is = let wrong : ⊥ = cc in absurd wrong
 drawn_line s t line (Some reply) text replied is = record { line = line; reply = reply; is_line = λ later. refl; replied = replied; text_is = cc }
 
@@ -128,7 +131,8 @@ part_serves s t seen a b i j bytes part =
       draws = d.replied;
       counts = part.counts ∙ ap (λ (texts : List (List ℕ)). i + length texts) h.texts_are ∙ ap (λ n. i + n) (length-mapped with_end h.replies);
       not_all = subst (λ (text : List ℕ). bytes < length text) d.text_is part.not_all;
-      took = Appends-is a b _ _ (ap (λ (xs : List ℕ). xs ++ take bytes part.text) (ap all_of h.texts_are ∙ written_as h.replies) ∙ ap (λ (xs : List ℕ). replies_text h.replies ++ take bytes xs) d.text_is) part.took;
+      took = Appends-is a b _ _ (ap (λ (xs : List ℕ). xs ++ take bytes part.text) (ap all_of h.texts_are ∙ written_as h.replies)
+          ∙ ap (λ (xs : List ℕ). replies_text h.replies ++ take bytes xs) d.text_is) part.took;
     }
 
 -- the whole result

@@ -38,7 +38,8 @@ by_test b o p c e = ap (λ x. cond x o p) (sym e)
 
 pub same_kept : (id asked : Option ℕ) (k n : ℕ) (line : List ℕ) → id ≡ Some k → asked ≡ Some n → eqb k n ≡ true → Some line ≡ kept_line (kept_in id line) asked
 same_kept id asked k n line e f same =
-    subst (λ o. Some line ≡ kept_line (kept_in o line) asked) (sym e) (subst (λ o. Some line ≡ kept_line (Some (record { id = k; line = line })) o) (sym f) (by_test (eqb k n) (Some line) None true same))
+    subst (λ o. Some line ≡ kept_line (kept_in o line) asked) (sym e) (subst (λ o. Some line ≡ kept_line (Some (record { id = k; line = line })) o) (sym f)
+    (by_test (eqb k n) (Some line) None true same))
 
 pub other_kept : (id asked : Option ℕ) (k n : ℕ) (line : List ℕ) → id ≡ Some k → asked ≡ Some n → eqb k n ≡ false → None ≡ kept_line (kept_in id line) asked
 other_kept id asked k n line e f other =
@@ -71,7 +72,8 @@ adjusted_apart s kept (Some t) = refl
 
 searched_apart : (s : State) (kept : Option KeptReply) (area_hz area_v : Decimal) → executed_with kept (searched s area_hz area_v) ≡ searched (with_kept kept s) area_hz area_v
 searched_apart s kept area_hz area_v = by_test (int_lt area_hz.digits (pos 0) || int_lt area_v.digits (pos 0)) where
-  by_test : (b : Bool) → executed_with kept (cond b (refused s 2) (adjusted s (first_within s.pointing area_hz area_v s.scene))) ≡ cond b (refused (with_kept kept s) 2) (adjusted (with_kept kept s) (first_within s.pointing area_hz area_v s.scene))
+  by_test : (b : Bool) → executed_with kept (cond b (refused s 2) (adjusted s (first_within s.pointing area_hz area_v s.scene))) ≡ cond b
+      (refused (with_kept kept s) 2) (adjusted (with_kept kept s) (first_within s.pointing area_hz area_v s.scene))
   by_test true = refl
   by_test false = adjusted_apart s kept (first_within s.pointing area_hz area_v s.scene)
 
@@ -114,7 +116,8 @@ pub fits_kept : (s : State) (kept : Option KeptReply) → IsFittingState s → I
 fits_kept s kept h k = record { precision = h.precision; serial = h.serial; name = h.name; date = h.date; prism = h.prism; kept = k }
 
 -- an instrument that keeps it is one
-pub sound_keeping : (s : State) (id : Option ℕ) (kept : Option KeptReply) (number : ℕ) (line : List ℕ) (fields : ReplyFields) → IsFittingState s → IsPlainKept s.kept → kept ≡ kept_after s.kept id line → number ≡ unwrap_or id 0
+pub sound_keeping : (s : State) (id : Option ℕ) (kept : Option KeptReply) (number : ℕ) (line : List ℕ) (fields : ReplyFields) → IsFittingState s
+    → IsPlainKept s.kept → kept ≡ kept_after s.kept id line → number ≡ unwrap_or id 0
     → IsReply line fields → fields.id ≡ Some number → IsPlain line → IsFittingState (with_kept kept s) × IsPlainKept kept
 sound_keeping s None kept number line fields h plain is same reply own one =
     (fits_kept s kept h (subst IsFittingKept (sym is) h.kept), subst IsPlainKept (sym is) plain)

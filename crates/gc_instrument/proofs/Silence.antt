@@ -50,8 +50,10 @@ foreign_lines_are_silent s t front foreign back bytes front_whole foreign_whole 
     let shorter : lines (front ++ back) ≡ lines front ++ lines back = lines-next front back (whole_rest front front_whole) in (
       same_output s t (front ++ (foreign ++ back)) (front ++ back) bytes (λ ps h.
           subst (λ (xs : List (List ℕ)). Hears s xs t ps) (sym shorter)
-          (behind s t (lines front) (lines foreign ++ lines back) (lines back) ps (λ u qs k. take_out u t (lines foreign) (lines back) qs none k) (subst (λ (xs : List (List ℕ)). Hears s xs t ps) longer h))),
+          (behind s t (lines front) (lines foreign ++ lines back) (lines back) ps
+          (λ u qs k. take_out u t (lines foreign) (lines back) qs none k) (subst (λ (xs : List (List ℕ)). Hears s xs t ps) longer h))),
       same_output s t (front ++ back) (front ++ (foreign ++ back)) bytes (λ ps h.
           subst (λ (xs : List (List ℕ)). Hears s xs t ps) (sym longer)
-          (behind s t (lines front) (lines back) (lines foreign ++ lines back) ps (λ u qs k. put_in u t (lines foreign) (lines back) qs none k) (subst (λ (xs : List (List ℕ)). Hears s xs t ps) shorter h))),
+          (behind s t (lines front) (lines back) (lines foreign ++ lines back) ps
+          (λ u qs k. put_in u t (lines foreign) (lines back) qs none k) (subst (λ (xs : List (List ℕ)). Hears s xs t ps) shorter h))),
     )

@@ -3,7 +3,7 @@ use Rattle.std.proofs.Common.{◌≡◌, ℕ, List, [], ◌∷◌, ◌++◌, Opt
 use Rattle.std.specs.Option.{option_to_list}
 use Rattle.gc_lines.specs.Frames.{lines, rest_of}
 use Rattle.gc_lines.specs.Requests.{RequestFields}
-use Rattle.gc_lines.proofs.Requests.{request_one}
+use Rattle.gc_lines.proofs.Requests.{one_request}
 use Rattle.gc_catalogue.specs.declared.fault.CallFault.{CallFault}
 use Rattle.gc_catalogue.specs.declared.call.Call.{Call}
 use Rattle.gc_catalogue.proofs.CallLaws.{one_call, one_refusal, no_refusal}
@@ -38,7 +38,7 @@ one_reply s t u line p q (silent none same quiet) (silent never again mute) = (s
 one_reply s t u line p q (silent none same quiet) (answers r is text does told) = absurd (none r is)
 one_reply s t u line p q (answers r is text does told) (silent none same quiet) = absurd (none r is)
 one_reply s t u line p q (answers a is x does told) (answers b other y makes said) =
-    let same = one_answer s t u a x y does (subst (λ (r : RequestFields). AnswersRequest s r u y) (request_one line b a other is) makes) in
+    let same = one_answer s t u a x y does (subst (λ (r : RequestFields). AnswersRequest s r u y) (one_request line b a other is) makes) in
     (same.0, told ∙ ap (λ (text : List ℕ). Some text) same.1 ∙ sym said)
 
 -- lines have one output

@@ -56,7 +56,8 @@ pub data AnswersCall (before : State) (id : Option ℕ) (call : Call) (after : S
   -- its request carries the kept id: it has the kept line, and nothing changes
   repeats : kept_line before.kept id ≡ Some reply → after ≡ before → AnswersCall before id call after reply
   -- it is carried out, and its reply is kept, where its request carried an id
-  executes : kept_line before.kept id ≡ None → after ≡ with_kept (kept_after before.kept id reply) (exec before call).state → reply ≡ executed_line (unwrap_or id 0) (exec before call) → AnswersCall before id call after reply
+  executes : kept_line before.kept id ≡ None → after ≡ with_kept (kept_after before.kept id reply) (exec before call).state
+      → reply ≡ executed_line (unwrap_or id 0) (exec before call) → AnswersCall before id call after reply
 
 -- what the instrument does with a request, and its reply
 pub data AnswersRequest (before : State) (q : RequestFields) (after : State) (reply : List ℕ) : Type 0 where

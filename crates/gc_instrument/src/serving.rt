@@ -1,5 +1,6 @@
 //! Serving request lines: an instrument answers the frames of a source, and its replies go into a sink.
 
+ghost use Rattle.gc_lines.specs.Answering.{ports_of};
 ghost use Rattle.gc_instrument.specs.Serving.{IsServing};
 
 use crate::instrument::Instrument;
@@ -42,22 +43,8 @@ pub fn serve<S: Source, K: Sink>(
     max_reads: u32,
 ) -> Result<Served, ServeFault>
     ensures { IsServing instrument.old instrument.new
-        (record {
-          remaining = S.remaining source.old;
-          reads = S.reads source.old;
-          ended = S.ended source.old;
-          source_failed = S.failed source.old;
-          taken = K.taken sink.old;
-          sink_failed = K.failed sink.old;
-        })
-        (record {
-          remaining = S.remaining source.new;
-          reads = S.reads source.new;
-          ended = S.ended source.new;
-          source_failed = S.failed source.new;
-          taken = K.taken sink.new;
-          sink_failed = K.failed sink.new;
-        })
+        (ports_of S.Source source.old K.Sink sink.old)
+        (ports_of S.Source source.new K.Sink sink.new)
         max_reads result }
 {
     answer_frames(instrument, source, sink, max_reads, false)

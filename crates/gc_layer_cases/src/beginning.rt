@@ -1,6 +1,6 @@
 //! Rows of a beginning, one null procedure after the other.
 
-use gc_cases::{Rows, bytes_of, push_bytes};
+use gc_cases::{Rows, push_bytes};
 use gc_client::Beginning;
 use std::alloc::{AllocError, Global};
 
@@ -16,34 +16,45 @@ impl Beginnings {
             beginning: Beginning::new(),
         }
     }
+
+    fn ask(&self, came: &mut String) -> Result<(), AllocError> {
+        match self.beginning.ask() {
+            Some(line) => push_bytes(came, line.as_slice()),
+            None => came.push_str("nothing"),
+        }
+    }
+
+    // How many null procedures are answered, and whether it has begun.
+    fn tell_answered(&self, came: &mut String) -> Result<(), AllocError> {
+        write!(came, "{}, begun ", self.beginning.answered())?;
+        tell(self.beginning.has_begun(), came)
+    }
+
+    fn resume(&mut self) -> Result<(), AllocError> {
+        self.beginning = Beginning::resume(self.beginning.answered());
+        Ok(())
+    }
 }
 
 impl Rows for Beginnings {
     fn play(
         &mut self,
-        alloc: Global,
+        _alloc: Global,
         word: &str,
-        what: &str,
+        _what: &str,
+        bytes: &[u8],
         came: &mut String,
     ) -> Result<(), AllocError> {
-        let bytes = bytes_of(alloc, what)?;
         match word {
-            "ask" => match self.beginning.ask() {
-                Some(line) => push_bytes(came, line.as_slice()),
-                None => came.push_str("nothing"),
-            },
-            "hear" => write!(came, "{}", self.beginning.hear(bytes.as_slice())),
-            "answered" => write!(
-                came,
-                "{}, begun {}",
-                self.beginning.answered(),
-                self.beginning.has_begun()
-            ),
-            "resume" => {
-                self.beginning = Beginning::resume(self.beginning.answered());
-                Ok(())
-            }
+            "ask" => self.ask(came),
+            "hear" => tell(self.beginning.hear(bytes), came),
+            "answered" => self.tell_answered(came),
+            "resume" => self.resume(),
             _ => came.push_str("an unknown word"),
         }
     }
+}
+
+fn tell(fact: bool, came: &mut String) -> Result<(), AllocError> {
+    came.push_str(if fact { "true" } else { "false" })
 }

@@ -1,6 +1,6 @@
 //! Rows of calls and answers on the line.
 
-use gc_cases::{Rows, bytes_of, cut_word, push_bytes};
+use gc_cases::{Rows, cut_word, push_bytes};
 use gc_catalogue::{
     Answer, Call, CallFault, Reading, decode_answer, decode_call, encode_answer, encode_call,
 };
@@ -14,18 +14,15 @@ pub struct Calls;
 impl Rows for Calls {
     fn play(
         &mut self,
-        alloc: Global,
+        _alloc: Global,
         word: &str,
         what: &str,
+        bytes: &[u8],
         came: &mut String,
     ) -> Result<(), AllocError> {
-        let bytes = bytes_of(alloc, what)?;
         match word {
-            "call" => call_again(bytes.as_slice(), came),
-            "reading" => match reading_of(what) {
-                Some(reading) => write!(came, "{reading:?}"),
-                None => came.push_str("no request and reply"),
-            },
+            "call" => call_again(bytes, came),
+            "reading" => tell_reading(what, came),
             "answer" => answer_again(what, came),
             _ => came.push_str("an unknown word"),
         }
@@ -65,6 +62,13 @@ fn reading_of(words: &str) -> Option<Reading> {
     match read_reply(reply.as_bytes()) {
         Ok(reply) => Some(decode_answer(&call, &reply)),
         Err(_) => None,
+    }
+}
+
+fn tell_reading(words: &str, came: &mut String) -> Result<(), AllocError> {
+    match reading_of(words) {
+        Some(reading) => write!(came, "{reading:?}"),
+        None => came.push_str("no request and reply"),
     }
 }
 

@@ -2,7 +2,7 @@
 
 use crate::calls::call_of;
 use arrayvec::ArrayVec;
-use gc_cases::{Rows, bytes_of, cut_word, push_bytes};
+use gc_cases::{Rows, cut_word, push_bytes};
 use gc_catalogue::Call;
 use gc_client::{Client, Heard, Hearing, Outcome, Ring, Settlement, Slots, WINDOW, Window};
 use gc_lines::{Line, LineFault};
@@ -45,6 +45,21 @@ impl Clients {
         }
     }
 
+    // Plays a row over both windows.
+    fn play_both(
+        &mut self,
+        alloc: Global,
+        word: &str,
+        what: &str,
+        line: &[u8],
+        came: &mut String,
+    ) -> Result<(), AllocError> {
+        let mut other = String::new(alloc);
+        self.ring.play(self.call, word, what, line, &mut other)?;
+        self.slots.play(self.call, word, what, line, came)?;
+        tell_other(other.as_str(), came)
+    }
+
     // The client begins with this width.
     fn widen(&mut self, alloc: Global, what: &str, came: &mut String) -> Result<(), AllocError> {
         let width = u8::try_from(number(what)).unwrap_or(0);
@@ -63,19 +78,13 @@ impl Rows for Clients {
         alloc: Global,
         word: &str,
         what: &str,
+        bytes: &[u8],
         came: &mut String,
     ) -> Result<(), AllocError> {
-        let bytes = bytes_of(alloc, what)?;
-        let line = bytes.as_slice();
         match word {
-            "call" => self.take_call(line, came),
+            "call" => self.take_call(bytes, came),
             "width" => self.widen(alloc, what, came),
-            _ => {
-                let mut other = String::new(alloc);
-                self.ring.play(self.call, word, what, line, &mut other)?;
-                self.slots.play(self.call, word, what, line, came)?;
-                tell_other(other.as_str(), came)
-            }
+            _ => self.play_both(alloc, word, what, bytes, came),
         }
     }
 }
@@ -112,23 +121,30 @@ impl<W: Window> Played<W> {
         line: &[u8],
         came: &mut String,
     ) -> Result<(), AllocError> {
+        self.play_word(call, word, what, line, came)?;
+        let (waiting, next) = (self.client.waiting(), self.client.next_id());
+        write!(came, "; {waiting} wait, next {next}")
+    }
+
+    fn play_word(
+        &mut self,
+        call: Call,
+        word: &str,
+        what: &str,
+        line: &[u8],
+        came: &mut String,
+    ) -> Result<(), AllocError> {
         match word {
-            "send" => self.send(call, what, came)?,
-            "send_into" => self.send_into(call, what, came)?,
-            "hear" => self.hear(line, came)?,
-            "hear_into" => self.hear_into(line, came)?,
-            "each_byte" => self.hear_each_byte(came)?,
-            "expire" => self.expire(what, came)?,
-            "restart" => tell_all(self.client.restart().as_slice(), came)?,
-            "deadline" => self.tell_deadline(came)?,
-            _ => came.push_str("an unknown word")?,
+            "send" => self.send(call, what, came),
+            "send_into" => self.send_into(call, what, came),
+            "hear" => self.hear(line, came),
+            "hear_into" => self.hear_into(line, came),
+            "each_byte" => self.hear_each_byte(came),
+            "expire" => self.expire(what, came),
+            "restart" => tell_all(self.client.restart().as_slice(), came),
+            "deadline" => self.tell_deadline(came),
+            _ => came.push_str("an unknown word"),
         }
-        write!(
-            came,
-            "; {} wait, next {}",
-            self.client.waiting(),
-            self.client.next_id()
-        )
     }
 
     fn send(&mut self, call: Call, what: &str, came: &mut String) -> Result<(), AllocError> {
@@ -176,17 +192,28 @@ impl<W: Window> Played<W> {
 
     // Hears each byte as a line: how many were unread by their signature, and left all as it was.
     fn hear_each_byte(&mut self, came: &mut String) -> Result<(), AllocError> {
-        let before = (self.client.waiting(), self.client.next_id());
         let mut count = 0u32;
         for byte in 0..=255 {
-            let mut line = Line::new();
-            line.push(byte);
-            let is_unread = self.client.on_line(&line) == Heard::Unread(LineFault::Signature);
-            if is_unread && (self.client.waiting(), self.client.next_id()) == before {
+            if self.leaves(byte) {
                 count = count.saturating_add(1);
             }
         }
         write!(came, "{count} unread 1")
+    }
+
+    // Whether a line of one byte is unread by its signature, and leaves all as it was.
+    fn leaves(&mut self, byte: u8) -> bool {
+        let (waiting, next) = (self.client.waiting(), self.client.next_id());
+        self.is_unread(byte) && self.client.waiting() == waiting && self.client.next_id() == next
+    }
+
+    fn is_unread(&mut self, byte: u8) -> bool {
+        let mut line = Line::new();
+        line.push(byte);
+        matches!(
+            self.client.on_line(&line),
+            Heard::Unread(LineFault::Signature)
+        )
     }
 
     fn expire(&mut self, what: &str, came: &mut String) -> Result<(), AllocError> {
@@ -212,15 +239,19 @@ fn target_of(word: &str) -> u32 {
 pub fn tell_all(settled: &[Settlement], came: &mut String) -> Result<(), AllocError> {
     for settlement in settled {
         write!(came, "{} ", settlement.target)?;
-        match &settlement.outcome {
-            Outcome::Answered(reading, line) => {
-                write!(came, "{reading:?} ")?;
-                push_bytes(came, line.as_slice())?;
-            }
-            Outcome::Late => came.push_str("late")?,
-            Outcome::Lost => came.push_str("lost")?,
-        }
+        tell_outcome(&settlement.outcome, came)?;
         came.push_str(", ")?;
     }
     Ok(())
+}
+
+fn tell_outcome(outcome: &Outcome, came: &mut String) -> Result<(), AllocError> {
+    match outcome {
+        Outcome::Answered(reading, line) => {
+            write!(came, "{reading:?} ")?;
+            push_bytes(came, line.as_slice())
+        }
+        Outcome::Late => came.push_str("late"),
+        Outcome::Lost => came.push_str("lost"),
+    }
 }

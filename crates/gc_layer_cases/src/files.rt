@@ -2,7 +2,7 @@
 
 use gc_cases::{Rows, bytes_of, cut_word, push_bytes};
 use gc_files::{MemoryFile, RowsFile, open_rows};
-use gc_lines::{Lasting, Sink};
+use gc_lines::{Durable, Sink};
 use gc_values::read_whole;
 use std::alloc::{AllocError, Global};
 
@@ -28,16 +28,9 @@ impl Files {
         words: &str,
         came: &mut String,
     ) -> Result<(), AllocError> {
-        let (room, held) = cut_word(words);
-        let held = bytes_of(alloc, held)?;
-        let room = usize::try_from(read_whole(room.as_bytes(), 1000).unwrap_or(0)).unwrap_or(0);
-        let Some(file) = MemoryFile::new(alloc, held.as_slice(), room) else {
-            return Err(AllocError);
-        };
-        match open_rows(file, HEAD, HEAD, is_synced) {
+        match open_rows(file_of(alloc, words)?, HEAD, HEAD, is_synced) {
             Ok(rows) => {
-                write!(came, "{} cut off, holds ", rows.torn())?;
-                push_bytes(came, rows.file().bytes())?;
+                tell_rows(&rows, came)?;
                 self.rows = Some(rows);
                 Ok(())
             }
@@ -45,6 +38,13 @@ impl Files {
                 write!(came, "{why:?}, holds ")?;
                 push_bytes(came, file.bytes())
             }
+        }
+    }
+
+    fn use_open(&mut self, word: &str, bytes: &[u8], came: &mut String) -> Result<(), AllocError> {
+        match &mut self.rows {
+            Some(rows) => use_rows(rows, word, bytes, came),
+            None => came.push_str("no file is open"),
         }
     }
 }
@@ -55,19 +55,28 @@ impl Rows for Files {
         alloc: Global,
         word: &str,
         what: &str,
+        bytes: &[u8],
         came: &mut String,
     ) -> Result<(), AllocError> {
         match word {
-            "open" => return self.open(alloc, false, what, came),
-            "open_synced" => return self.open(alloc, true, what, came),
-            _ => {}
-        }
-        let bytes = bytes_of(alloc, what)?;
-        match &mut self.rows {
-            Some(rows) => use_rows(rows, word, bytes.as_slice(), came),
-            None => came.push_str("no file is open"),
+            "open" => self.open(alloc, false, what, came),
+            "open_synced" => self.open(alloc, true, what, came),
+            _ => self.use_open(word, bytes, came),
         }
     }
+}
+
+// A file that takes as many bytes as the first word says, and holds what stands behind it.
+fn file_of(alloc: Global, words: &str) -> Result<MemoryFile, AllocError> {
+    let (room, held) = cut_word(words);
+    let held = bytes_of(alloc, held)?;
+    let room = usize::try_from(read_whole(room.as_bytes(), 1000).unwrap_or(0)).unwrap_or(0);
+    MemoryFile::new(alloc, held.as_slice(), room).ok_or(AllocError)
+}
+
+fn tell_rows(rows: &RowsFile<MemoryFile>, came: &mut String) -> Result<(), AllocError> {
+    write!(came, "{} cut off, holds ", rows.torn())?;
+    push_bytes(came, rows.file().bytes())
 }
 
 // Keeps what was written, writes, or tells what the file holds.
@@ -78,14 +87,18 @@ fn use_rows(
     came: &mut String,
 ) -> Result<(), AllocError> {
     match word {
-        "keep" => match rows.keep() {
-            Ok(()) => came.push_str("kept"),
-            Err(_) => came.push_str("failed"),
-        },
+        "keep" => keep(rows, came),
         "write" => write_to(rows, bytes, came),
         "holds" => push_bytes(came, rows.file().bytes()),
         _ => came.push_str("an unknown word"),
     }
+}
+
+fn keep(rows: &mut RowsFile<MemoryFile>, came: &mut String) -> Result<(), AllocError> {
+    came.push_str(match rows.sync() {
+        Ok(()) => "kept",
+        Err(_) => "failed",
+    })
 }
 
 // Writes what isn't empty.

@@ -3,7 +3,7 @@
 use crate::calls::call_of;
 use crate::twice::ask_twice;
 use gc_cases::{Rows, bytes_of, cut_word, push_bytes};
-use gc_instrument::{Instrument, Target, serve};
+use gc_instrument::{Instrument, ServeFault, Served, Target, serve};
 use gc_lines::Line;
 use gc_probes::{PieceSink, PieceSource};
 use gc_values::{Decimal, Text, read_long, read_whole};
@@ -59,6 +59,20 @@ impl Instruments {
         write!(came, "{code} {answer:?}")
     }
 
+    // Plays a row of one word.
+    fn play_word(&mut self, word: &str, came: &mut String) -> Result<(), AllocError> {
+        match word {
+            "restart" => {
+                self.instrument.restart();
+                Ok(())
+            }
+            "settings" => self.tell_settings(came),
+            "face" => write!(came, "{:?}", self.instrument.face()),
+            "pointing" => self.tell_pointing(came),
+            _ => came.push_str("an unknown word"),
+        }
+    }
+
     // What is set.
     fn tell_settings(&self, came: &mut String) -> Result<(), AllocError> {
         write!(
@@ -83,25 +97,18 @@ impl Rows for Instruments {
         alloc: Global,
         word: &str,
         what: &str,
+        bytes: &[u8],
         came: &mut String,
     ) -> Result<(), AllocError> {
-        let bytes = bytes_of(alloc, what)?;
         match word {
-            "line" => hand_in(&mut self.instrument, bytes.as_slice(), came),
+            "line" => hand_in(&mut self.instrument, bytes, came),
             "each_byte" => each_byte(&mut self.instrument, came),
-            "execute" => self.execute(bytes.as_slice(), came),
-            "restart" => {
-                self.instrument.restart();
-                Ok(())
-            }
-            "settings" => self.tell_settings(came),
-            "face" => write!(came, "{:?}", self.instrument.face()),
-            "pointing" => self.tell_pointing(came),
+            "execute" => self.execute(bytes, came),
             "target" => self.add_target(what, came),
             "instrument" => self.make(what, came),
-            "twice" => ask_twice(alloc, bytes.as_slice(), came),
+            "twice" => ask_twice(alloc, &mut self.instrument, bytes, came),
             "serve" => serve_bytes(alloc, what, came),
-            _ => came.push_str("an unknown word"),
+            _ => self.play_word(word, came),
         }
     }
 }
@@ -125,17 +132,25 @@ pub fn hand_in(
     bytes: &[u8],
     came: &mut String,
 ) -> Result<(), AllocError> {
+    push_reply(instrument, bytes, came)?;
+    match instrument.kept_id() {
+        Some(id) => write!(came, ", kept {id}"),
+        None => came.push_str(", none kept"),
+    }
+}
+
+fn push_reply(
+    instrument: &mut Instrument,
+    bytes: &[u8],
+    came: &mut String,
+) -> Result<(), AllocError> {
     let mut line = Line::new();
     if line.try_extend_from_slice(bytes).is_err() {
         return came.push_str("more bytes than a line has");
     }
     match instrument.on_line(&line) {
-        Some(reply) => push_bytes(came, reply.as_slice())?,
-        None => came.push_str("no reply")?,
-    }
-    match instrument.kept_id() {
-        Some(id) => write!(came, ", kept {id}"),
-        None => came.push_str(", none kept"),
+        Some(reply) => push_bytes(came, reply.as_slice()),
+        None => came.push_str("no reply"),
     }
 }
 
@@ -143,13 +158,18 @@ pub fn hand_in(
 fn each_byte(instrument: &mut Instrument, came: &mut String) -> Result<(), AllocError> {
     let mut count = 0u32;
     for byte in 0..=255 {
-        let mut line = Line::new();
-        line.push(byte);
-        if instrument.on_line(&line).is_none() {
+        if is_ignored(instrument, byte) {
             count = count.saturating_add(1);
         }
     }
     write!(came, "{count} without a reply")
+}
+
+// Whether a line of one byte draws no reply.
+fn is_ignored(instrument: &mut Instrument, byte: u8) -> bool {
+    let mut line = Line::new();
+    line.push(byte);
+    instrument.on_line(&line).is_none()
 }
 
 // A number of 32 bits.
@@ -164,16 +184,28 @@ fn serve_bytes(alloc: Global, words: &str, came: &mut String) -> Result<(), Allo
     let (reads, rest) = cut_word(words);
     let (writes, input) = cut_word(rest);
     let input = bytes_of(alloc, input)?;
-    let mut source = PieceSource::new(input.as_slice(), &[], u64::MAX);
     let mut sink = PieceSink::new(alloc, 5, u64::from(number(writes)));
+    tell_served(serve_into(&mut sink, input.as_slice(), number(reads)), came)?;
+    tell_taken(sink.taken(), came)
+}
+
+fn serve_into(sink: &mut PieceSink, input: &[u8], reads: u32) -> Result<Served, ServeFault> {
+    let mut source = PieceSource::new(input, &[], u64::MAX);
     let mut instrument = Instrument::simulator();
-    match serve(&mut instrument, &mut source, &mut sink, number(reads)) {
-        Ok(served) => write!(came, "{} replies", served.replies)?,
-        Err(fault) => write!(came, "{fault:?} {fault}")?,
+    serve(&mut instrument, &mut source, sink, reads)
+}
+
+fn tell_served(served: Result<Served, ServeFault>, came: &mut String) -> Result<(), AllocError> {
+    match served {
+        Ok(served) => write!(came, "{} replies", served.replies),
+        Err(fault) => write!(came, "{fault:?} {fault}"),
     }
-    if sink.taken().is_empty() {
+}
+
+fn tell_taken(taken: &[u8], came: &mut String) -> Result<(), AllocError> {
+    if taken.is_empty() {
         return came.push_str(", taken nothing");
     }
     came.push_str(", taken ")?;
-    push_bytes(came, sink.taken())
+    push_bytes(came, taken)
 }

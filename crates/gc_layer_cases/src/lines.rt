@@ -1,6 +1,6 @@
 //! Rows of lines: requests and replies read and written again, headers, and what an assembler makes of a piece.
 
-use gc_cases::{Rows, bytes_of, cut_word, push_bytes};
+use gc_cases::{Rows, cut_word, push_bytes};
 use gc_lines::{
     Assembler, Lent, Line, LineFault, is_plain, push_reply, push_request, read_reply, read_request,
     write_reply, write_request,
@@ -25,17 +25,17 @@ impl Lines {
 impl Rows for Lines {
     fn play(
         &mut self,
-        alloc: Global,
+        _alloc: Global,
         word: &str,
         what: &str,
+        bytes: &[u8],
         came: &mut String,
     ) -> Result<(), AllocError> {
-        let bytes = bytes_of(alloc, what)?;
         match word {
-            "request" => request_again(bytes.as_slice(), came),
-            "reply" => reply_again(bytes.as_slice(), came),
+            "request" => request_again(bytes, came),
+            "reply" => reply_again(bytes, came),
             "header" => header(what, came),
-            "piece" => piece(&mut self.assembler, bytes.as_slice(), came),
+            "piece" => piece(&mut self.assembler, bytes, came),
             "start" => write!(came, "{}", self.assembler.at_start()),
             _ => came.push_str("an unknown word"),
         }
@@ -75,27 +75,27 @@ fn number(word: &str) -> Option<u16> {
 
 // The header of a request, from its number, or of a reply, from its communication code, its id and its return code.
 fn header(words: &str, came: &mut String) -> Result<(), AllocError> {
+    match header_of(words) {
+        Some(line) => push_bytes(came, line.as_slice()),
+        None => came.push_str("no header"),
+    }
+}
+
+fn header_of(words: &str) -> Option<Line> {
     let (first, rest) = cut_word(words);
-    let Some(first) = number(first) else {
-        return came.push_str("no number");
-    };
+    let first = number(first)?;
     let mut line = Line::new();
     if rest.is_empty() {
         push_request(&mut line, first, None);
-        return push_bytes(came, line.as_slice());
+        return Some(line);
     }
     let (id, code) = cut_word(rest);
-    let (Some(id), Some(code)) = (number(id), number(code)) else {
-        return came.push_str("no id and code");
-    };
-    let Ok(id) = u8::try_from(id) else {
-        return came.push_str("a wide id");
-    };
+    let id = u8::try_from(number(id)?).ok()?;
     if id > 7 {
-        return came.push_str("no id");
+        return None;
     }
-    push_reply(&mut line, first, id, code);
-    push_bytes(came, line.as_slice())
+    push_reply(&mut line, first, id, number(code)?);
+    Some(line)
 }
 
 // How many bytes of a piece the assembler used, and what came of them.

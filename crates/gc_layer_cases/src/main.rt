@@ -17,6 +17,7 @@ use files::Files;
 use gc_cases::{Case, Player, play_folder, play_rows};
 use instrument::Instruments;
 use lines::Lines;
+use std::alloc::{AllocError, Global};
 use std::io;
 use std::process::ExitCode;
 use values::Values;
@@ -46,22 +47,27 @@ impl Player for Layer {
         }
     }
 
-    fn key(&self, _place: usize) -> Option<&'static str> {
-        Some("do")
+    fn play(&self, rt: &HostRuntime, case: &Case<'_>, wrong: &mut String) -> io::Result<()> {
+        Ok(self.play_case(rt.alloc(), case, wrong)?)
     }
+}
 
-    fn play(&self, rt: &HostRuntime, case: &Case<'_>) -> io::Result<Vec<Vec<u8>>> {
-        let alloc = rt.alloc();
-        let played = match self {
-            Layer::Lines => play_rows(alloc, case, &mut Lines::new())?,
-            Layer::Values => play_rows(alloc, case, &mut Values)?,
-            Layer::Calls => play_rows(alloc, case, &mut Calls)?,
-            Layer::Client => play_rows(alloc, case, &mut Clients::new(alloc)?)?,
-            Layer::Beginning => play_rows(alloc, case, &mut Beginnings::new())?,
-            Layer::Instrument => play_rows(alloc, case, &mut Instruments::new(alloc))?,
-            Layer::Files => play_rows(alloc, case, &mut Files::new())?,
-        };
-        Ok(played)
+impl Layer {
+    fn play_case(
+        &self,
+        alloc: Global,
+        case: &Case<'_>,
+        wrong: &mut String,
+    ) -> Result<(), AllocError> {
+        match self {
+            Layer::Lines => play_rows(alloc, case, &mut Lines::new(), wrong),
+            Layer::Values => play_rows(alloc, case, &mut Values, wrong),
+            Layer::Calls => play_rows(alloc, case, &mut Calls, wrong),
+            Layer::Client => play_rows(alloc, case, &mut Clients::new(alloc)?, wrong),
+            Layer::Beginning => play_rows(alloc, case, &mut Beginnings::new(), wrong),
+            Layer::Instrument => play_rows(alloc, case, &mut Instruments::new(alloc), wrong),
+            Layer::Files => play_rows(alloc, case, &mut Files::new(), wrong),
+        }
     }
 }
 

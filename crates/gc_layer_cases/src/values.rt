@@ -1,6 +1,6 @@
 //! Rows of values: lists of parameters, decimals, and items by their kinds.
 
-use gc_cases::{Rows, bytes_of, cut_word, push_bytes};
+use gc_cases::{Rows, cut_word, push_bytes};
 use gc_values::{
     Decimal, Kind, Text, Value, ValueFault, read_bool, read_byte, read_long, read_text, read_whole,
     split,
@@ -14,13 +14,12 @@ pub struct Values;
 impl Rows for Values {
     fn play(
         &mut self,
-        alloc: Global,
+        _alloc: Global,
         word: &str,
         what: &str,
+        item: &[u8],
         came: &mut String,
     ) -> Result<(), AllocError> {
-        let bytes = bytes_of(alloc, what)?;
-        let item = bytes.as_slice();
         match word {
             "split" => split_list(item, came),
             "decimal" => tell_decimal(Decimal::read(item), came),
@@ -28,14 +27,21 @@ impl Rows for Values {
             "compare" => compare(what, came),
             "round" => round(what, came),
             "within" => within(what, came),
-            "long" => tell_long(item, came),
-            "byte" => tell_byte(item, came),
-            "bool" => tell_bool(item, came),
             "whole" => whole(what, came),
-            "text" => tell_text(read_text(item), came),
-            "string" => tell_text(Text::new(item), came),
-            _ => typed(word, item, came),
+            _ => play_item(word, item, came),
         }
+    }
+}
+
+// Reads an item.
+fn play_item(word: &str, item: &[u8], came: &mut String) -> Result<(), AllocError> {
+    match word {
+        "long" => tell_long(item, came),
+        "byte" => tell_byte(item, came),
+        "bool" => tell_bool(item, came),
+        "text" => tell_text(read_text(item), came),
+        "string" => tell_text(Text::new(item), came),
+        _ => typed(word, item, came),
     }
 }
 

@@ -38,10 +38,11 @@ is_cut r (b ∷ bs) = elim (is_line_feed b) as (λ v. is_line_feed b ≡ v → C
 
 -- with no line feed in it
 pub cut_none : (r xs : List ℕ) → position is_line_feed xs ≡ None → (pieces_behind r xs ≡ []) × (rest_behind r xs ≡ r ++ xs)
-cut_none r xs e = (is_cut r xs).ends (elim (ltb (prefix_len goes_on xs) (length xs)) as (λ v. ltb (prefix_len goes_on xs) (length xs) ≡ v → cond v (Some (prefix_len goes_on xs)) None ≡ None → length xs ≤ prefix_len goes_on xs) [
-  | true ↦ λ _ f. (cc)
-  | false ↦ λ f _. ltb-false _ _ f
-] refl e)
+cut_none r xs e = (is_cut r xs).ends (elim (ltb (prefix_len goes_on xs) (length xs)) as
+    (λ v. ltb (prefix_len goes_on xs) (length xs) ≡ v → cond v (Some (prefix_len goes_on xs)) None ≡ None → length xs ≤ prefix_len goes_on xs) [
+      | true ↦ λ _ f. (cc)
+      | false ↦ λ f _. ltb-false _ _ f
+    ] refl e)
 
 -- with a first line feed
 pub cut_some : (r xs : List ℕ) (at : ℕ) → position is_line_feed xs ≡ Some at →
@@ -72,11 +73,14 @@ rest-append r (x ∷ xs) ys = elim (is_line_feed x) as (λ v. cond v (rest_behin
 -- The pieces and the rest are the whole stream.
 pub cut_whole : (r xs : List ℕ) → flat_map (λ part. part ++ 10 ∷ []) (pieces_behind r xs) ++ rest_behind r xs ≡ r ++ xs
 cut_whole r [] = sym (append-nil r)
-cut_whole r (x ∷ xs) = elim (is_line_feed x) as (λ v. is_line_feed x ≡ v → flat_map (λ part. part ++ 10 ∷ []) (cond v (r ∷ pieces_behind [] xs) (pieces_behind (r ++ x ∷ []) xs)) ++ cond v (rest_behind [] xs) (rest_behind (r ++ x ∷ []) xs) ≡ r ++ x ∷ xs) [
-  | true ↦ λ e. let ten : x ≡ 10 = eqb-true x 10 e in
-      append_assoc (r ++ 10 ∷ []) (flat_map (λ part. part ++ 10 ∷ []) (pieces_behind [] xs)) (rest_behind [] xs) ∙ ap (λ zs. (r ++ 10 ∷ []) ++ zs) (cut_whole [] xs) ∙ append_assoc r (10 ∷ []) xs ∙ ap (λ n. r ++ n ∷ xs) (sym ten)
-  | false ↦ λ e. cut_whole (r ++ x ∷ []) xs ∙ append_assoc r (x ∷ []) xs
-] refl
+cut_whole r (x ∷ xs) = elim (is_line_feed x) as (λ v. is_line_feed x ≡ v
+    → flat_map (λ part. part ++ 10 ∷ []) (cond v (r ∷ pieces_behind [] xs) (pieces_behind (r ++ x ∷ []) xs)) ++ cond v (rest_behind [] xs)
+    (rest_behind (r ++ x ∷ []) xs) ≡ r ++ x ∷ xs) [
+      | true ↦ λ e. let ten : x ≡ 10 = eqb-true x 10 e in
+          append_assoc (r ++ 10 ∷ []) (flat_map (λ part. part ++ 10 ∷ []) (pieces_behind [] xs)) (rest_behind [] xs)
+          ∙ ap (λ zs. (r ++ 10 ∷ []) ++ zs) (cut_whole [] xs) ∙ append_assoc r (10 ∷ []) xs ∙ ap (λ n. r ++ n ∷ xs) (sym ten)
+      | false ↦ λ e. cut_whole (r ++ x ∷ []) xs ∙ append_assoc r (x ∷ []) xs
+    ] refl
 
 -- A stream has one such cutting.
 
@@ -115,13 +119,15 @@ cut_parts (part ∷ parts) rest each last =
 -- what is cut has no line feed in it
 cut_clean : (r xs : List ℕ) → HasNoLineFeed r → AllByRecursion HasNoLineFeed (pieces_behind r xs) × HasNoLineFeed (rest_behind r xs)
 cut_clean r [] clean = (tt, clean)
-cut_clean r (b ∷ bs) clean = elim (is_line_feed b) as (λ v. is_line_feed b ≡ v → AllByRecursion HasNoLineFeed (cond v (r ∷ pieces_behind [] bs) (pieces_behind (r ++ b ∷ []) bs)) × HasNoLineFeed (cond v (rest_behind [] bs) (rest_behind (r ++ b ∷ []) bs))) [
-  | true ↦ λ _. let more = cut_clean [] bs tt in ((clean, more.0), more.1)
-  | false ↦ λ e. cut_clean (r ++ b ∷ []) bs (clean_more r b clean e)
-] refl where
-  clean_more : (r : List ℕ) (b : ℕ) → HasNoLineFeed r → is_line_feed b ≡ false → HasNoLineFeed (r ++ b ∷ [])
-  clean_more [] b clean e = ((λ same. let t = eq-eqb b 10 same in (cc)), tt)
-  clean_more (x ∷ xs) b clean e = (clean.0, clean_more xs b clean.1 e)
+cut_clean r (b ∷ bs) clean = elim (is_line_feed b) as (λ v. is_line_feed b ≡ v
+    → AllByRecursion HasNoLineFeed (cond v (r ∷ pieces_behind [] bs) (pieces_behind (r ++ b ∷ []) bs))
+    × HasNoLineFeed (cond v (rest_behind [] bs) (rest_behind (r ++ b ∷ []) bs))) [
+      | true ↦ λ _. let more = cut_clean [] bs tt in ((clean, more.0), more.1)
+      | false ↦ λ e. cut_clean (r ++ b ∷ []) bs (clean_more r b clean e)
+    ] refl where
+      clean_more : (r : List ℕ) (b : ℕ) → HasNoLineFeed r → is_line_feed b ≡ false → HasNoLineFeed (r ++ b ∷ [])
+      clean_more [] b clean e = ((λ same. let t = eq-eqb b 10 same in (cc)), tt)
+      clean_more (x ∷ xs) b clean e = (clean.0, clean_more xs b clean.1 e)
 
 pub one_cut : (stream : List ℕ) (parts : List (List ℕ)) (rest : List ℕ) → IsCut stream parts rest → (parts ≡ pieces stream) × (rest ≡ rest_of stream)
 one_cut stream parts rest cut =

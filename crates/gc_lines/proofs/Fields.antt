@@ -65,7 +65,16 @@ number_found f bytes x e =
 
 number_of_text : (f : LineFault) (text rest : List ℕ) (n : ℕ) → IsNumber text n → NoDigitFirst rest → number_at f (text ++ rest) ≡ Ok (n, rest)
 number_of_text f text rest n h stop =
-    rw (run_length text rest h.digits stop, take_at text rest (length text) refl, drop_at text rest (length text) refl, h.value, lt-ltb 0 (length text) h.some, lt-ltb (length text) 6 (omega (arith, h.few)), lt-ltb n 65536 h.bound) refl
+    rw (
+      run_length text rest h.digits stop,
+      take_at text rest (length text) refl,
+      drop_at text rest (length text) refl,
+      h.value,
+      lt-ltb 0
+          (length text) h.some,
+      lt-ltb (length text) 6 (omega (arith, h.few)),
+      lt-ltb n 65536 h.bound,
+    ) refl
 
 number_again : (f : LineFault) (bytes : List ℕ) (x : ℕ × List ℕ) → HasNumber bytes x.0 x.1 → number_at f bytes ≡ Ok x
 number_again f bytes x has = ap (number_at f) has.whole ∙ number_of_text f has.text x.1 x.0 has.is_number has.ends
@@ -100,13 +109,15 @@ id_some b bs x e =
 
 id_found : (bytes : List ℕ) (x : Option ℕ × List ℕ) → id_at bytes ≡ Ok x → HasId bytes x.0 x.1
 id_found [] x e = let same : (let p : Option ℕ × List ℕ = (None, []) in p) ≡ x = cc in subst (λ (p : Option ℕ × List ℕ). HasId [] p.0 p.1) same (id_none [] refl)
-id_found (a ∷ bs) x e = elim (eqb a 44) as (λ v. eqb a 44 ≡ v → cond v (cond (eqb (digits_len bs) 1 && ltb (get_or bs 0 0) 56) (Ok (Some (get_or bs 0 0 - 48), drop 1 bs)) (Err Id)) (Ok (None, a ∷ bs)) ≡ Ok x → HasId (a ∷ bs) x.0 x.1) [
-  | true ↦ λ t f. subst (λ (n : ℕ). HasId (n ∷ bs) x.0 x.1) (sym (eqb-true a 44 t)) (id_after bs x f)
-  | false ↦ λ t f. let same : (let p : Option ℕ × List ℕ = (None, a ∷ bs) in p) ≡ x = cc in subst (λ (p : Option ℕ × List ℕ). HasId (a ∷ bs) p.0 p.1) same (id_none (a ∷ bs) t)
-] refl e where
-  id_after : (bs : List ℕ) (x : Option ℕ × List ℕ) → cond (eqb (digits_len bs) 1 && ltb (get_or bs 0 0) 56) (Ok (Some (get_or bs 0 0 - 48), drop 1 bs)) (Err Id) ≡ Ok x → HasId (44 ∷ bs) x.0 x.1
-  id_after [] x f = (cc)
-  id_after (b ∷ cs) x f = id_some b cs x f
+id_found (a ∷ bs) x e = elim (eqb a 44) as (λ v. eqb a 44 ≡ v → cond v
+    (cond (eqb (digits_len bs) 1 && ltb (get_or bs 0 0) 56) (Ok (Some (get_or bs 0 0 - 48), drop 1 bs)) (Err Id)) (Ok (None, a ∷ bs)) ≡ Ok x
+    → HasId (a ∷ bs) x.0 x.1) [
+      | true ↦ λ t f. subst (λ (n : ℕ). HasId (n ∷ bs) x.0 x.1) (sym (eqb-true a 44 t)) (id_after bs x f)
+      | false ↦ λ t f. let same : (let p : Option ℕ × List ℕ = (None, a ∷ bs) in p) ≡ x = cc in subst (λ (p : Option ℕ × List ℕ). HasId (a ∷ bs) p.0 p.1) same (id_none (a ∷ bs) t)
+    ] refl e where
+      id_after : (bs : List ℕ) (x : Option ℕ × List ℕ) → cond (eqb (digits_len bs) 1 && ltb (get_or bs 0 0) 56) (Ok (Some (get_or bs 0 0 - 48), drop 1 bs)) (Err Id) ≡ Ok x → HasId (44 ∷ bs) x.0 x.1
+      id_after [] x f = (cc)
+      id_after (b ∷ cs) x f = id_some b cs x f
 
 no_comma : (rest : List ℕ) → EndsId None rest → eqb (get_or rest 0 0) 44 ≡ false
 no_comma [] h = refl
@@ -128,10 +139,11 @@ ok_no_fault x d f e = (cc)
 
 id_named : (bytes : List ℕ) (d : LineFault) → id_at bytes ≡ Err d → Id ≡ d
 id_named [] d e = let x : Option ℕ × List ℕ = (None, []) in ok_no_fault x d Id e
-id_named (a ∷ bs) d e = elim (eqb a 44) as (λ v. cond {A = Result (Option ℕ × List ℕ) LineFault} v (cond (eqb (digits_len bs) 1 && ltb (get_or bs 0 0) 56) (Ok (Some (get_or bs 0 0 - 48), drop 1 bs)) (Err Id)) (Ok (None, a ∷ bs)) ≡ Err d → Id ≡ d) [
-  | true ↦ λ f. (let x : Option ℕ × List ℕ = (Some (get_or bs 0 0 - 48), drop 1 bs) in guard_err _ x Id d f).1
-  | false ↦ λ f. let x : Option ℕ × List ℕ = (None, a ∷ bs) in ok_no_fault x d Id f
-] e
+id_named (a ∷ bs) d e = elim (eqb a 44) as (λ v. cond {A = Result (Option ℕ × List ℕ) LineFault} v
+    (cond (eqb (digits_len bs) 1 && ltb (get_or bs 0 0) 56) (Ok (Some (get_or bs 0 0 - 48), drop 1 bs)) (Err Id)) (Ok (None, a ∷ bs)) ≡ Err d → Id ≡ d) [
+      | true ↦ λ f. (let x : Option ℕ × List ℕ = (Some (get_or bs 0 0 - 48), drop 1 bs) in guard_err _ x Id d f).1
+      | false ↦ λ f. let x : Option ℕ × List ℕ = (None, a ∷ bs) in ok_no_fault x d Id f
+    ] e
 
 pub id_reads : Reads id_at (λ bytes x. HasId bytes x.0 x.1) Id
 id_reads = record { found = id_found; again = id_again; named = id_named }

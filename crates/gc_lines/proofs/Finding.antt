@@ -11,7 +11,8 @@ not_true false = λ _. refl
 
 pub first_position : (test : ℕ → Bool) (bytes : List ℕ) (r : Option ℕ) → IsFirstByte test bytes r → r ≡ position test bytes
 first_position test bytes None h =
-    let at : position_or_len test bytes ≡ length bytes = position_or_len_is test bytes (length bytes) 0 (omega arith) (λ k below. not_true _ (h k (omega arith) below)) (λ below. absurd (omega arith)) in
+    let at : position_or_len test bytes ≡ length bytes = position_or_len_is test bytes (length bytes) 0 (omega arith)
+    (λ k below. not_true _ (h k (omega arith) below)) (λ below. absurd (omega arith)) in
     rw (at, le-ltb (length bytes) (length bytes) (omega arith)) refl
 first_position test bytes (Some k) h =
     let at : position_or_len test bytes ≡ k = position_or_len_is test bytes k 0 (omega (arith, h.0.high)) (λ j below. not_true _ (h.0.before j (omega arith) below)) (λ below. h.1) in

@@ -187,7 +187,8 @@ cut_silent rule s u frame later texts whole n draws k = record {
 }
 
 cut_text : {State : Type 0} (rule : AnswerRule State) (s u : State) (frame : Frame) (later : List Frame) (text : Option (List ℕ)) (rest : List (List ℕ)) (whole n : ℕ)
-    → rule s frame u text → n < length (all_of (option_to_list text ++ rest)) → ((w m : ℕ) → m < length (all_of rest) → Cut rule u later rest w m) → Cut rule s (frame ∷ later) (option_to_list text ++ rest) whole n
+    → rule s frame u text → n < length (all_of (option_to_list text ++ rest)) → ((w m : ℕ) → m < length (all_of rest) → Cut rule u later rest w m)
+    → Cut rule s (frame ∷ later) (option_to_list text ++ rest) whole n
 cut_text rule s u frame later None rest whole n draws less next = cut_silent rule s u frame later rest whole n draws (next whole n less)
 cut_text rule s u frame later (Some t) rest whole n draws less next = elim (nat_lt n (length t)) as (λ b. nat_lt n (length t) ≡ b → Cut rule s (frame ∷ later) (t ∷ rest) whole n) [
   | true ↦ λ e. cut_here rule s u frame later t rest whole n draws e
@@ -236,7 +237,8 @@ lt_is : (m n : ℕ) → m < n → nat_lt m n ≡ true
 lt_is m n e = grind (arith, nat_tests)
 
 -- one more text, and then a part of what waited went out
-pub answered_part : {State : Type 0} (rule : AnswerRule State) (from to last : Progress State) (seen : List Frame) (frame : Frame) (text lengths more text' lengths' : List ℕ) (bytes n : ℕ) (gathers : Bool)
+pub answered_part : {State : Type 0} (rule : AnswerRule State) (from to last : Progress State) (seen : List Frame) (frame : Frame)
+    (text lengths more text' lengths' : List ℕ) (bytes n : ℕ) (gathers : Bool)
     → (gathers ≡ false → lengths ≡ []) → rule to.state frame last.state (Some more) → Gathering rule from to seen text lengths
     → text' ≡ text ++ more → lengths' ≡ lengths ++ length more ∷ [] → TakesFront to.taken last.taken n text' → (last.whole, bytes) ≡ parted to.whole n lengths'
     → GathersPart rule from last (seen ++ frame ∷ []) bytes gathers
@@ -251,7 +253,8 @@ answered_part rule from to last seen frame text lengths more text' lengths' byte
     let less : nat_lt n (length more) ≡ true = lt_is n (length more) took_more.0 in
     let same : (last.whole, bytes) ≡ (to.whole, n) = counts ∙ ap (λ (ns : List ℕ). parted to.whole n ns) (counted ∙ ap (λ (ns : List ℕ). ns ++ length more ∷ []) none)
     ∙ ap (λ (b : Bool). cond b (to.whole, n) (to.whole + 1, n - length more)) less in
-    let part : AnswersPart rule to.state last.state (frame ∷ []) to.taken last.taken to.whole to.whole n = one_part rule to.state last.state frame more to.taken last.taken to.whole n draws took_more in
+    let part : AnswersPart rule to.state last.state (frame ∷ []) to.taken last.taken to.whole to.whole n =
+    one_part rule to.state last.state frame more to.taken last.taken to.whole n draws took_more in
     let all = gathering_end rule from to seen text lengths none g in
     let told = part_then rule from.state to.state last.state seen (frame ∷ []) from.taken to.taken last.taken from.whole to.whole to.whole n all part in
     record {

@@ -19,7 +19,8 @@ pub record Given {State : Type 0} (rule : AnswerRule State) (source_old source_n
   pub all : AnswersAll rule from to (frames given) sink_old sink_new 0 count
 
 -- one more piece, whose frames were all answered
-pub given_more : {State : Type 0} (rule : AnswerRule State) (a a' a'' b b' b'' : Option (List ℕ)) (kept kept' : Kept) (s t u : State) (reads n n' : ℕ) (piece : List ℕ) → Given rule a a' b b' kept s t reads n → Consumes a' a'' piece → length piece ≤ 256
+pub given_more : {State : Type 0} (rule : AnswerRule State) (a a' a'' b b' b'' : Option (List ℕ)) (kept kept' : Kept) (s t u : State) (reads n n' : ℕ)
+    (piece : List ℕ) → Given rule a a' b b' kept s t reads n → Consumes a' a'' piece → length piece ≤ 256
     → ((rest : List ℕ) → StandsFor kept rest → StandsFor kept' (rest_behind rest piece) × AnswersAll rule t u (frames_behind rest piece) b' b'' n n') → Given rule a a'' b b'' kept' s u (reads + 1) n'
 given_more rule a a' a'' b b' b'' kept kept' s t u reads n n' piece so gave short answered =
     let it = answered (rest_behind [] so.given) so.stands in
@@ -43,7 +44,8 @@ given_end rule a a' a'' b b' kept s t reads n so gave = (
 )
 
 -- one more piece, of which a text went out in part
-pub given_part : {State : Type 0} (rule : AnswerRule State) (a a' a'' b b' b'' : Option (List ℕ)) (kept : Kept) (s t u : State) (reads n n' bytes : ℕ) (piece : List ℕ) (gathers : Bool) → Given rule a a' b b' kept s t reads n → Consumes a' a'' piece → length piece ≤ 256
+pub given_part : {State : Type 0} (rule : AnswerRule State) (a a' a'' b b' b'' : Option (List ℕ)) (kept : Kept) (s t u : State) (reads n n' bytes : ℕ)
+    (piece : List ℕ) (gathers : Bool) → Given rule a a' b b' kept s t reads n → Consumes a' a'' piece → length piece ≤ 256
     → ((rest : List ℕ) → StandsFor kept rest → GathersPart rule (record { state = t; taken = b'; whole = n }) (record { state = u; taken = b''; whole = n' }) (frames_behind rest piece) bytes gathers)
     → (reached : State) × ((given : List ℕ) × Consumes a a'' given × (length given ≤ 256 * (reads + 1)) × AnswersPart rule s reached (frames given) b b'' 0 n' bytes) × (gathers ≡ false → reached ≡ u)
 given_part rule a a' a'' b b' b'' kept s t u reads n n' bytes piece gathers so gave short answered =

@@ -10,7 +10,8 @@ use Rattle.gc_lines.specs.declared.frame.Frame.{Frame}
 use Rattle.gc_lines.proofs.Known.{Appends-append, Appends-nil, Appends-is}
 
 -- frames after frames
-pub in_order_then : {State : Type 0} (rule : AnswerRule State) (s t u : State) (xs ys : List Frame) (ps qs : List (List ℕ)) → AnswersInOrder State rule s xs t ps → AnswersInOrder State rule t ys u qs → AnswersInOrder State rule s (xs ++ ys) u (ps ++ qs)
+pub in_order_then : {State : Type 0} (rule : AnswerRule State) (s t u : State) (xs ys : List Frame) (ps qs : List (List ℕ))
+    → AnswersInOrder State rule s xs t ps → AnswersInOrder State rule t ys u qs → AnswersInOrder State rule s (xs ++ ys) u (ps ++ qs)
 in_order_then {State} rule s t u [] ys ps qs first next =
     rw first.1 (subst (λ (v : State). AnswersInOrder State rule v ys u qs) first.0 next)
 in_order_then {State} rule s t u (x ∷ xs) ys ps qs first next = (
@@ -23,7 +24,8 @@ in_order_then {State} rule s t u (x ∷ xs) ys ps qs first next = (
 )
 
 -- one frame
-pub in_order_one : {State : Type 0} (rule : AnswerRule State) (s t : State) (frame : Frame) (text : Option (List ℕ)) → rule s frame t text → AnswersInOrder State rule s (frame ∷ []) t (option_to_list text)
+pub in_order_one : {State : Type 0} (rule : AnswerRule State) (s t : State) (frame : Frame) (text : Option (List ℕ)) → rule s frame t text
+    → AnswersInOrder State rule s (frame ∷ []) t (option_to_list text)
 in_order_one rule s t frame text h = (t, text, [], h, (refl, refl), sym (append-nil (option_to_list text)))
 
 pub all_of-append : (xs ys : List (List ℕ)) → all_of (xs ++ ys) ≡ all_of xs ++ all_of ys
@@ -34,7 +36,8 @@ pub all_none : {State : Type 0} (rule : AnswerRule State) (state : State) (known
 all_none rule state known count = record { texts = []; answers = (refl, refl); counts = omega arith; took = Appends-nil known }
 
 -- more was answered
-pub all_then : {State : Type 0} (rule : AnswerRule State) (s t u : State) (xs ys : List Frame) (a b c : Option (List ℕ)) (i j k : ℕ) → AnswersAll rule s t xs a b i j → AnswersAll rule t u ys b c j k → AnswersAll rule s u (xs ++ ys) a c i k
+pub all_then : {State : Type 0} (rule : AnswerRule State) (s t u : State) (xs ys : List Frame) (a b c : Option (List ℕ)) (i j k : ℕ)
+    → AnswersAll rule s t xs a b i j → AnswersAll rule t u ys b c j k → AnswersAll rule s u (xs ++ ys) a c i k
 all_then rule s t u xs ys a b c i j k first next = record {
   texts = first.texts ++ next.texts;
   answers = in_order_then rule s t u xs ys first.texts next.texts first.answers next.answers;
@@ -43,7 +46,8 @@ all_then rule s t u xs ys a b c i j k first next = record {
 }
 
 -- more was answered, and the last text went out in part
-pub part_then : {State : Type 0} (rule : AnswerRule State) (s t u : State) (xs ys : List Frame) (a b c : Option (List ℕ)) (i j k bytes : ℕ) → AnswersAll rule s t xs a b i j → AnswersPart rule t u ys b c j k bytes → AnswersPart rule s u (xs ++ ys) a c i k bytes
+pub part_then : {State : Type 0} (rule : AnswerRule State) (s t u : State) (xs ys : List Frame) (a b c : Option (List ℕ)) (i j k bytes : ℕ)
+    → AnswersAll rule s t xs a b i j → AnswersPart rule t u ys b c j k bytes → AnswersPart rule s u (xs ++ ys) a c i k bytes
 part_then rule s t u xs ys a b c i j k bytes first part =
     let end = take bytes part.text in
     record {
@@ -63,7 +67,8 @@ part_then rule s t u xs ys a b c i j k bytes first part =
     }
 
 -- frames that come after the last one that was answered
-pub part_before : {State : Type 0} (rule : AnswerRule State) (s u : State) (xs ys : List Frame) (a c : Option (List ℕ)) (i k bytes : ℕ) → AnswersPart rule s u xs a c i k bytes → AnswersPart rule s u (xs ++ ys) a c i k bytes
+pub part_before : {State : Type 0} (rule : AnswerRule State) (s u : State) (xs ys : List Frame) (a c : Option (List ℕ)) (i k bytes : ℕ)
+    → AnswersPart rule s u xs a c i k bytes → AnswersPart rule s u (xs ++ ys) a c i k bytes
 part_before rule s u xs ys a c i k bytes part = record {
   earlier = part.earlier;
   frame = part.frame;
@@ -80,7 +85,8 @@ part_before rule s u xs ys a c i k bytes part = record {
 }
 
 -- one frame, whose text went out whole
-pub one_whole : {State : Type 0} (rule : AnswerRule State) (s t : State) (frame : Frame) (text : List ℕ) (a b : Option (List ℕ)) (count : ℕ) → rule s frame t (Some text) → Appends a b text → AnswersAll rule s t (frame ∷ []) a b count (count + 1)
+pub one_whole : {State : Type 0} (rule : AnswerRule State) (s t : State) (frame : Frame) (text : List ℕ) (a b : Option (List ℕ)) (count : ℕ)
+    → rule s frame t (Some text) → Appends a b text → AnswersAll rule s t (frame ∷ []) a b count (count + 1)
 one_whole rule s t frame text a b count draws took = record {
   texts = text ∷ [];
   answers = in_order_one rule s t frame (Some text) draws;
@@ -89,7 +95,8 @@ one_whole rule s t frame text a b count draws took = record {
 }
 
 -- one frame, whose text went out in part
-pub one_part : {State : Type 0} (rule : AnswerRule State) (s t : State) (frame : Frame) (text : List ℕ) (a b : Option (List ℕ)) (count bytes : ℕ) → rule s frame t (Some text) → TakesFront a b bytes text → AnswersPart rule s t (frame ∷ []) a b count count bytes
+pub one_part : {State : Type 0} (rule : AnswerRule State) (s t : State) (frame : Frame) (text : List ℕ) (a b : Option (List ℕ)) (count bytes : ℕ)
+    → rule s frame t (Some text) → TakesFront a b bytes text → AnswersPart rule s t (frame ∷ []) a b count count bytes
 one_part rule s t frame text a b count bytes draws took = record {
   earlier = [];
   frame = frame;

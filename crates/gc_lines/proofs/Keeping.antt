@@ -28,7 +28,8 @@ pub front_length : (old : Kept) (rest : List ℕ) → StandsFor old rest → 513
 front_length old rest s = omega (arith, ap length s.front, length-take 513 rest)
 
 -- all of it fits
-pub keeps_all : (old : Kept) (rest bytes front : List ℕ) (last : ℕ) → StandsFor old rest → 0 < length bytes → length bytes ≤ 513 - length old.front → front ≡ old.front ++ bytes → last ≡ get_or bytes (length bytes - 1) 0
+pub keeps_all : (old : Kept) (rest bytes front : List ℕ) (last : ℕ) → StandsFor old rest → 0 < length bytes → length bytes ≤ 513 - length old.front
+    → front ≡ old.front ++ bytes → last ≡ get_or bytes (length bytes - 1) 0
     → StandsFor (record { front = front; last = last; long = old.long }) (rest ++ bytes)
 keeps_all old rest bytes front last s some fits f l =
     let short : length rest ≡ length old.front = all_kept old rest s (omega arith) in
@@ -40,7 +41,8 @@ keeps_all old rest bytes front last s some fits f l =
     }
 
 -- a part of it fits
-pub keeps_part : (old : Kept) (rest bytes front : List ℕ) (last : ℕ) → StandsFor old rest → 513 - length old.front < length bytes → front ≡ old.front ++ take (513 - length old.front) bytes → last ≡ get_or bytes (length bytes - 1) 0
+pub keeps_part : (old : Kept) (rest bytes front : List ℕ) (last : ℕ) → StandsFor old rest → 513 - length old.front < length bytes
+    → front ≡ old.front ++ take (513 - length old.front) bytes → last ≡ get_or bytes (length bytes - 1) 0
     → StandsFor (record { front = front; last = last; long = true }) (rest ++ bytes)
 keeps_part old rest bytes front last s more f l =
     let room = front_length old rest s in

@@ -23,7 +23,8 @@ rest_behind-append given piece = rest-append [] given piece
 -- a line feed makes a frame
 made : (bytes : List ℕ) → completed (frame_of bytes) ≡ frame_of bytes ∷ []
 made bytes = by_tests (ends_in_return bytes) _ where
-  by_tests : (a b : Bool) → completed (cond a (cond b Overlong (Line (record { items = take (length bytes - 1) bytes }))) Cleared) ≡ cond a (cond b Overlong (Line (record { items = take (length bytes - 1) bytes }))) Cleared ∷ []
+  by_tests : (a b : Bool) → completed (cond a (cond b Overlong (Line (record { items = take (length bytes - 1) bytes }))) Cleared) ≡ cond a
+      (cond b Overlong (Line (record { items = take (length bytes - 1) bytes }))) Cleared ∷ []
   by_tests true true = refl
   by_tests true false = refl
   by_tests false b = refl
@@ -35,7 +36,8 @@ pub record Takes (rest left : List ℕ) (used : ℕ) (frame : Frame) (kept : Kep
   pub seen : frames_behind rest left ≡ completed frame ++ frames_behind now (drop used left)
   pub rests : rest_behind rest left ≡ rest_behind now (drop used left)
 
-takes_none : (rest left : List ℕ) (used : ℕ) (frame : Frame) (kept : Kept) → position is_line_feed left ≡ None → used ≡ length left → frame ≡ More → StandsFor kept (rest ++ left) → Takes rest left used frame kept
+takes_none : (rest left : List ℕ) (used : ℕ) (frame : Frame) (kept : Kept) → position is_line_feed left ≡ None → used ≡ length left → frame ≡ More
+    → StandsFor kept (rest ++ left) → Takes rest left used frame kept
 takes_none rest left used frame kept none all more s =
     let cut = cut_none rest left none in
     let nothing : drop used left ≡ [] = drop_all used left (omega arith) in
@@ -46,7 +48,8 @@ takes_none rest left used frame kept none all more s =
       rests = rw nothing cut.1;
     }
 
-takes_some : (rest left : List ℕ) (at used : ℕ) (frame : Frame) (kept : Kept) → position is_line_feed left ≡ Some at → used ≡ at + 1 → frame ≡ frame_of (rest ++ take at left) → StandsFor kept [] → Takes rest left used frame kept
+takes_some : (rest left : List ℕ) (at used : ℕ) (frame : Frame) (kept : Kept) → position is_line_feed left ≡ Some at → used ≡ at + 1
+    → frame ≡ frame_of (rest ++ take at left) → StandsFor kept [] → Takes rest left used frame kept
 takes_some rest left at used frame kept some next is s =
     let cut = cut_some rest left at some in
     record {
@@ -90,7 +93,8 @@ seen_more : (answered frame later all left : List Frame) → all ≡ answered ++
 seen_more answered frame later all left e f = e ∙ ap (λ zs. answered ++ zs) f ∙ sym (append_assoc answered frame later)
 
 -- one more frame
-pub going_on : {State : Type 0} (rule : AnswerRule State) (rest piece left : List ℕ) (used : ℕ) (frame : Frame) (kept kept' : Kept) (from to next : Progress State) (text lengths text' lengths' : List ℕ)
+pub going_on : {State : Type 0} (rule : AnswerRule State) (rest piece left : List ℕ) (used : ℕ) (frame : Frame) (kept kept' : Kept)
+    (from to next : Progress State) (text lengths text' lengths' : List ℕ)
     → (g : Going rule rest piece left kept from to text lengths) → Takes g.now left used frame kept' → Gathering rule from next (g.answered ++ completed frame) text' lengths'
     → Going rule rest piece (drop used left) kept' from next text' lengths'
 going_on rule rest piece left used frame kept kept' from to next text lengths text' lengths' g taken more = record {
@@ -103,7 +107,8 @@ going_on rule rest piece left used frame kept kept' from to next text lengths te
 }
 
 -- one more frame, and then a text went out in part
-pub going_part : {State : Type 0} (rule : AnswerRule State) (rest piece left : List ℕ) (used : ℕ) (frame : Frame) (kept kept' : Kept) (from to last : Progress State) (text lengths : List ℕ) (bytes : ℕ) (gathers : Bool)
+pub going_part : {State : Type 0} (rule : AnswerRule State) (rest piece left : List ℕ) (used : ℕ) (frame : Frame) (kept kept' : Kept)
+    (from to last : Progress State) (text lengths : List ℕ) (bytes : ℕ) (gathers : Bool)
     → (g : Going rule rest piece left kept from to text lengths) → Takes g.now left used frame kept' → GathersPart rule from last (g.answered ++ completed frame) bytes gathers
     → GathersPart rule from last (frames_behind rest piece) bytes gathers
 going_part rule rest piece left used frame kept kept' from to last text lengths bytes gathers g taken part =

@@ -38,9 +38,9 @@ pub request_bad : (line : List ℕ) (f : LineFault) → FirstBadOfRequest line f
 unfolding request_at
 request_bad line f bad = line_bad request_signature body (λ _. Unit {0}) reads line f bad
 
--- a line has one reading
-pub request_one : (line : List ℕ) (p q : RequestFields) → IsRequest line p → IsRequest line q → p ≡ q
-request_one line p q is_p is_q = let a = request_again line p is_p in let b = request_again line q is_q in cc
+-- a line reads as at most one request
+pub one_request : (line : List ℕ) (p q : RequestFields) → IsRequest line p → IsRequest line q → p ≡ q
+one_request line p q is_p is_q = let a = request_again line p is_p in let b = request_again line q is_q in cc
 
 -- it finds just what has the grammar, and names just the first bad field
 pub request_reads : ReadsLines request_at IsRequest FirstBadOfRequest

@@ -102,7 +102,8 @@ abbrev pub EndsBecause : Ports → Ports → ℕ → Result Served ServeFault �
 EndsBecause old new most (Ok _) = (old.reads < new.reads) × (new.reads ≤ old.reads + most) × (new.ended ≡ true) × (new.source_failed ≡ false) × (new.sink_failed ≡ old.sink_failed)
 EndsBecause old new most (Err (Read _)) = (new.reads < old.reads + most) × (old.reads < new.reads → new.ended ≡ false) × (new.source_failed ≡ true) × (new.sink_failed ≡ old.sink_failed)
 EndsBecause old new most (Err (Write _ _)) = (old.reads < new.reads) × (new.reads ≤ old.reads + most) × (new.ended ≡ false) × (new.source_failed ≡ false) × (new.sink_failed ≡ true)
-EndsBecause old new most (Err (TooManyReads _)) = (new.reads ≡ old.reads + most) × (old.reads < new.reads → new.ended ≡ false) × (new.source_failed ≡ old.source_failed) × (new.sink_failed ≡ old.sink_failed)
+EndsBecause old new most (Err (TooManyReads _)) = (new.reads ≡ old.reads + most) × (old.reads < new.reads → new.ended ≡ false)
+    × (new.source_failed ≡ old.source_failed) × (new.sink_failed ≡ old.sink_failed)
 
 -- answering in at most most reads took the ports from old to new, and gave this result
 pub record HasEnded (old new : Ports) (most : ℕ) (result : Result Served ServeFault) : Type 0 where

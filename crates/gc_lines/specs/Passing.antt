@@ -22,6 +22,9 @@ pub record Progress (State : Type 0) : Type 0 where
   pub taken : Option (List ℕ)
   pub whole : ℕ
 
+abbrev pub progress_at : {State : Type 0} → State → Option (List ℕ) → ℕ → Progress State
+progress_at state taken whole = record { state = state; taken = taken; whole = whole }
+
 -- frames were answered; the texts of the first of them, done, went out, and those of the others, held, stand in a text, with these lengths
 pub record Gathering {State : Type 0} (rule : AnswerRule State) (from to : Progress State) (seen : List Frame) (text lengths : List ℕ) : Type 0 where
   pub state : State

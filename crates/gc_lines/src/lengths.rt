@@ -4,7 +4,7 @@ ghost use Rattle.std.specs.Prelude.{◌≡◌, ◌<◌, [], ◌∷◌, ◌++◌,
 
 use std::marker::Model;
 
-// At most 256 lengths. To forget them costs nothing, which counts where one text is written after the other.
+// At most 256 lengths, in an array: clearing them only resets the count, which matters where each text is written at once.
 #[derive(Drop)]
 pub(crate) struct Lengths {
     all: [usize; 256],

@@ -30,7 +30,7 @@ pub use fault::LineFault;
 pub use frame::{Frame, Lent};
 pub use from_reader::FromReader;
 pub use line::{Line, append, is_plain};
-pub use ports::{Lasting, PortFailed, Sink, Source};
+pub use ports::{Durable, PortFailed, Sink, Source};
 pub use read_ahead::ReadAhead;
 pub use reply::{Reply, push_reply, read_reply, write_reply};
 pub use request::{Request, begin_request, push_request, read_request, write_request};

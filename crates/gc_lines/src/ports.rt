@@ -80,16 +80,16 @@ pub trait Sink {
 
 /// A sink whose bytes can be made to last, as those of a file do once the disk has them.
 ///
-/// An implementor says with `lasts` whether the bytes that were taken outlast what the sink is meant to outlast: a crash, for a
+/// An implementor says with `is_durable` whether the bytes that were taken outlast what the sink is meant to outlast: a crash, for a
 /// file that is synced. The end of a pipe is meant to outlast nothing, so its bytes always do.
-pub trait Lasting: Sink {
+pub trait Durable: Sink {
     /// Whether what was taken outlasts what this sink is meant to outlast.
-    ghost lasts: { Self → Bool };
+    ghost is_durable: { Self → Bool };
 
     /// Makes all bytes that were taken outlast what this sink is meant to outlast. It takes no bytes, and fails exactly where
     /// `has_failed` is true afterwards.
-    fn keep(&mut self) -> Result<(), PortFailed>
-        ensures lasts { OnOk result (lasts self.new ≡ true) }
+    fn sync(&mut self) -> Result<(), PortFailed>
+        ensures is_durable { OnOk result (is_durable self.new ≡ true) }
         ensures same { Keeps (Self.taken self.old) (Self.taken self.new) }
         ensures fails { Fails (Self.failed self.old) (Self.failed self.new) result };
 }

@@ -7,7 +7,7 @@ ghost use Rattle.gc_lines.specs.Answering.{AnswersAll};
 ghost use Rattle.gc_lines.specs.Assembler.{StandsFor};
 ghost use Rattle.gc_lines.specs.Frames.{rest_behind};
 ghost use Rattle.gc_lines.specs.Lent.{lent_seen};
-ghost use Rattle.gc_lines.specs.Passing.{completed, frames_behind, Gathering, GathersPart, HasRoom, parted, Progress};
+ghost use Rattle.gc_lines.specs.Passing.{completed, frames_behind, Gathering, GathersPart, HasRoom, parted, Progress, progress_at};
 ghost use Rattle.gc_lines.specs.Ports.{FailsWith, TakesFront};
 ghost use Rattle.gc_lines.specs.declared.frame.Frame.{Frame};
 
@@ -69,8 +69,8 @@ impl Session {
             × AnswersAll A.answers answerer.old answerer.new (frames_behind rest piece.now)
             (K.taken sink.old) (K.taken sink.new) self.old.replies self.new.replies) }
         ensures err { IfErr result (λ bytes. (rest : List ℕ) → StandsFor self.old.assembler rest
-            → GathersPart A.answers (record { state = answerer.old; taken = K.taken sink.old; whole = self.old.replies })
-            (record { state = answerer.new; taken = K.taken sink.new; whole = self.new.replies })
+            → GathersPart A.answers (progress_at answerer.old (K.taken sink.old) self.old.replies)
+            (progress_at answerer.new (K.taken sink.new) self.new.replies)
             (frames_behind rest piece.now) bytes self.old.gathers) }
     {
         let mut left = piece;
@@ -102,14 +102,14 @@ impl Session {
         ensures same { (self.new.assembler ≡ self.old.assembler) × (self.new.gathers ≡ self.old.gathers) }
         ensures failed { FailsWith result (K.failed sink.old) (K.failed sink.new) }
         ensures ok { OnOk result ((from : Progress A) (seen : List Frame)
-            → Gathering A.answers from (record { state = answerer.old; taken = K.taken sink.old; whole = self.old.replies })
+            → Gathering A.answers from (progress_at answerer.old (K.taken sink.old) self.old.replies)
             seen self.old.text.items self.old.lengths
-            → Gathering A.answers from (record { state = answerer.new; taken = K.taken sink.new; whole = self.new.replies })
+            → Gathering A.answers from (progress_at answerer.new (K.taken sink.new) self.new.replies)
             (seen ++ completed (lent_seen frame.entry)) self.new.text.items self.new.lengths) }
         ensures err { IfErr result (λ bytes. (from : Progress A) (seen : List Frame)
-            → Gathering A.answers from (record { state = answerer.old; taken = K.taken sink.old; whole = self.old.replies })
+            → Gathering A.answers from (progress_at answerer.old (K.taken sink.old) self.old.replies)
             seen self.old.text.items self.old.lengths
-            → GathersPart A.answers from (record { state = answerer.new; taken = K.taken sink.new; whole = self.new.replies })
+            → GathersPart A.answers from (progress_at answerer.new (K.taken sink.new) self.new.replies)
             (seen ++ completed (lent_seen frame.entry)) bytes self.old.gathers) }
     {
         if let Lent::More = frame {

@@ -2,7 +2,7 @@
 
 ghost use Rattle.std.specs.Prelude.{◌≡◌, true, false};
 
-use crate::ports::{Lasting, PortFailed, Sink};
+use crate::ports::{Durable, PortFailed, Sink};
 use std::io::Write;
 
 /// A sink that writes to a writer of std.
@@ -55,10 +55,10 @@ impl<W: Write> Sink for ToWriter<W> {
 }
 
 // What a writer of std took is meant to outlast nothing.
-impl<W: Write> Lasting for ToWriter<W> {
-    ghost lasts = { λ _. true };
+impl<W: Write> Durable for ToWriter<W> {
+    ghost is_durable = { λ _. true };
 
-    fn keep(&mut self) -> Result<(), PortFailed> {
+    fn sync(&mut self) -> Result<(), PortFailed> {
         if self.broken {
             return Err(PortFailed);
         }

@@ -45,7 +45,7 @@ impl History {
         History {}
     }
 
-    /// The history with one act more.
+    /// The history with one more act, that of the note. Its acts are ghost, so there is nothing to copy.
     pub fn then(&self, _note: &Note<'_>) -> History
         ensures { result.acts ≡ self.now.acts ++ act_of _note.now ∷ [] }
     {

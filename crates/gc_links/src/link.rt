@@ -5,7 +5,7 @@ ghost use Rattle.gc_links.specs.Acts.{Closed, Tells, told_as, put_as, came_as, o
 
 use gc_lines::PortFailed;
 
-/// A moment, on two clocks. Either clock may go back. A request's deadline is then as far away as it was told.
+/// A moment, on two clocks. Either clock may go back. A request's deadline isn't moved then, so it is that much further away.
 #[derive(Clone, Copy, Debug, PartialEq, Eq)]
 pub struct Moment {
     /// Milliseconds since some start, for deadlines.
@@ -43,7 +43,7 @@ pub trait Link {
     fn now(&mut self) -> Result<Moment, PortFailed>
         ensures { Tells (acts self.old) (acts self.new) (told_as result ∷ []) };
 
-    /// Reads some bytes, and waits for them no longer than so many milliseconds.
+    /// Reads some bytes into the front of `buf`, and waits for them no longer than `millis` milliseconds.
     ///
     /// Without a connection it waits that long, and returns `Silence`.
     fn read(&mut self, buf: &mut [u8], millis: u64) -> Came

@@ -13,7 +13,7 @@ pub fn listen<R: Net<Listener = TcpListener, Stream = TcpStream>>(
     TcpListener::bind(rt, here(port))
 }
 
-/// The next connection that comes, which sends each line as it is written.
+/// Waits for the next connection, and has it send each line as it is written.
 pub fn accept(listener: &TcpListener) -> io::Result<TcpStream> {
     let (stream, _) = listener.accept()?;
     send_at_once(&stream);

@@ -11,8 +11,8 @@ use std::io::{self, ErrorKind, Read, Write};
 use std::net::{Net, TcpListener, TcpStream};
 use std::time::{Clock, Duration};
 
-// A read that may wait no longer than so many milliseconds only looks, since the system may end a wait so much too late. A look
-// every few milliseconds keeps the moment that is waited for.
+// The system may end a wait this many milliseconds too late. So a read that may wait no longer than this rests a millisecond and looks
+// once, and the caller looks again: that keeps the moment that is waited for.
 const SHORT: u64 = 40;
 
 // How often one put is tried again where it was interrupted.

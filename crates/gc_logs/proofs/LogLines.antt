@@ -8,16 +8,17 @@ use Rattle.gc_lines.proofs.Known.{Appends-append}
 use Rattle.gc_lines.specs.Frames.{ends_in_return}
 use Rattle.gc_texts.specs.Logs.{log_line}
 use Rattle.gc_logs.specs.Logging.{Entry, entry, nothing, pending, line_mark, part_mark, entry_of_line, entries_at, pending_at, entries, pending_behind, log_text_of, Takes, wire_of, wire, LogKeepsAll}
-use Rattle.gc_logs.specs.declared.logging.Pending.{Pending}
+use Rattle.gc_logs.specs.declared.logging.Unwritten.{Unwritten}
 use Rattle.gc_logs.specs.declared.logging.Way.{Way}
 use Rattle.gc_logs.specs.declared.logging.Way.TheVariants.{Went, Came}
 
 -- the lines of one more byte
-entries_more : (way : Way) (p : Pending) (bs : List ℕ) (b : ℕ) → entries way p (bs ++ b ∷ []) ≡ entries way p bs ++ entries_at way (pending_behind p bs) b
+entries_more : (way : Way) (p : Unwritten) (bs : List ℕ) (b : ℕ) → entries way p (bs ++ b ∷ []) ≡ entries way p bs ++ entries_at way (pending_behind p bs) b
 entries_more way p [] b = append-nil (entries_at way p b)
-entries_more way p (c ∷ cs) b = ap (λ es. entries_at way p c ++ es) (entries_more way (pending_at p c) cs b) ∙ sym (append_assoc (entries_at way p c) (entries way (pending_at p c) cs) (entries_at way (pending_behind (pending_at p c) cs) b))
+entries_more way p (c ∷ cs) b = ap (λ es. entries_at way p c ++ es) (entries_more way (pending_at p c) cs b)
+    ∙ sym (append_assoc (entries_at way p c) (entries way (pending_at p c) cs) (entries_at way (pending_behind (pending_at p c) cs) b))
 
-pending_more : (p : Pending) (bs : List ℕ) (b : ℕ) → pending_behind p (bs ++ b ∷ []) ≡ pending_at (pending_behind p bs) b
+pending_more : (p : Unwritten) (bs : List ℕ) (b : ℕ) → pending_behind p (bs ++ b ∷ []) ≡ pending_at (pending_behind p bs) b
 pending_more p [] b = refl
 pending_more p (c ∷ cs) b = pending_more (pending_at p c) cs b
 
@@ -35,7 +36,7 @@ takes_is : (a b : Option (List ℕ)) (fa fb : Bool) (xs ys : List ℕ) → xs �
 takes_is a b fa fb xs ys e h = subst (Takes a b fa fb) e h
 
 -- a loop over bytes takes one more
-module _ (a b c : Option (List ℕ)) (fa fb fc : Bool) (utc : ℕ) (way : Way) (p q r : Pending) (bs : List ℕ) (i : ℕ) (within : i < length bs) where
+module _ (a b c : Option (List ℕ)) (fa fb fc : Bool) (utc : ℕ) (way : Way) (p q r : Unwritten) (bs : List ℕ) (i : ℕ) (within : i < length bs) where
   more : take (i + 1) bs ≡ take i bs ++ get_or bs i 0 ∷ []
   more = take_more bs i 0 within
 
@@ -65,7 +66,8 @@ last_return bytes e =
     let some : 0 < length bytes = ltb-true 0 (length bytes) (and_left (nat_lt 0 (length bytes)) _ e) in
     let last : get_or bytes (length bytes - 1) 0 ≡ 13 = eqb-true (get_or bytes (length bytes - 1) 0) 13 (and_right (nat_lt 0 (length bytes)) _ e) in
     let n : length bytes - 1 + 1 ≡ length bytes = omega (arith, some) in
-    sym (take_all (length bytes) bytes (omega arith)) ∙ ap (λ k. take k bytes) (sym n) ∙ take_more bytes (length bytes - 1) 0 (omega (arith, some)) ∙ ap (λ b. take (length bytes - 1) bytes ++ b ∷ []) last
+    sym (take_all (length bytes) bytes (omega arith)) ∙ ap (λ k. take k bytes) (sym n) ∙ take_more bytes (length bytes - 1) 0 (omega (arith, some))
+    ∙ ap (λ b. take (length bytes - 1) bytes ++ b ∷ []) last
 
 -- what a line stands for
 whole_wire : (way : Way) (bytes : List ℕ) → wire (entry (line_mark way) bytes ∷ []) ≡ bytes ++ 13 ∷ 10 ∷ []
@@ -76,7 +78,7 @@ part_wire : (way : Way) (bytes : List ℕ) → wire (entry (part_mark way) bytes
 part_wire Went bytes = append-nil bytes
 part_wire Came bytes = append-nil bytes
 
-line_wire : (way : Way) (p : Pending) → wire (entry_of_line way p ∷ []) ≡ p.bytes.items ++ 10 ∷ []
+line_wire : (way : Way) (p : Unwritten) → wire (entry_of_line way p ∷ []) ≡ p.bytes.items ++ 10 ∷ []
 line_wire way p =
     cond_both (not p.is_long && ends_in_return p.bytes.items) (entry (line_mark way) (take (length p.bytes.items - 1) p.bytes.items)) (entry (part_mark way) (p.bytes.items ++ 10 ∷ []))
     (λ e. wire (e ∷ []) ≡ p.bytes.items ++ 10 ∷ [])
@@ -87,21 +89,22 @@ line_wire way p =
     (λ _. part_wire way (p.bytes.items ++ 10 ∷ []))
 
 -- one more byte
-in_line : (way : Way) (p : Pending) (b : ℕ) (short : Bool) → wire (cond short [] (entry (part_mark way) p.bytes.items ∷ [])) ++ (cond short (pending (p.bytes.items ++ b ∷ []) p.is_long) (pending (b ∷ []) true)).bytes.items ≡ p.bytes.items ++ b ∷ []
+in_line : (way : Way) (p : Unwritten) (b : ℕ) (short : Bool) → wire (cond short [] (entry (part_mark way) p.bytes.items ∷ [])) ++
+    (cond short (pending (p.bytes.items ++ b ∷ []) p.is_long) (pending (b ∷ []) true)).bytes.items ≡ p.bytes.items ++ b ∷ []
 in_line way p b true = refl
 in_line way p b false = ap (λ w. w ++ b ∷ []) (part_wire way p.bytes.items)
 
-at_end : (way : Way) (p : Pending) (b : ℕ) (feed : Bool) → (b == 10) ≡ feed
+at_end : (way : Way) (p : Unwritten) (b : ℕ) (feed : Bool) → (b == 10) ≡ feed
     → wire (cond feed (entry_of_line way p ∷ []) (cond (nat_lt (length p.bytes.items) 513) [] (entry (part_mark way) p.bytes.items ∷ [])))
     ++ (cond feed nothing (cond (nat_lt (length p.bytes.items) 513) (pending (p.bytes.items ++ b ∷ []) p.is_long) (pending (b ∷ []) true))).bytes.items ≡ p.bytes.items ++ b ∷ []
 at_end way p b true is = append-nil (wire (entry_of_line way p ∷ [])) ∙ line_wire way p ∙ ap (λ c. p.bytes.items ++ c ∷ []) (sym (eqb-true b 10 is))
 at_end way p b false is = in_line way p b (nat_lt (length p.bytes.items) 513)
 
-byte_wire : (way : Way) (p : Pending) (b : ℕ) → wire (entries_at way p b) ++ (pending_at p b).bytes.items ≡ p.bytes.items ++ b ∷ []
+byte_wire : (way : Way) (p : Unwritten) (b : ℕ) → wire (entries_at way p b) ++ (pending_at p b).bytes.items ≡ p.bytes.items ++ b ∷ []
 byte_wire way p b = at_end way p b (b == 10) refl
 
 -- nothing of the bytes of one way is lost, and nothing is added
-keeps : (way : Way) (p : Pending) (bytes : List ℕ) → wire (entries way p bytes) ++ (pending_behind p bytes).bytes.items ≡ p.bytes.items ++ bytes
+keeps : (way : Way) (p : Unwritten) (bytes : List ℕ) → wire (entries way p bytes) ++ (pending_behind p bytes).bytes.items ≡ p.bytes.items ++ bytes
 keeps way p [] = sym (append-nil p.bytes.items)
 keeps way p (b ∷ bs) =
     let es = entries_at way p b in
@@ -115,9 +118,11 @@ pub keeps_all : LogKeepsAll
 keeps_all way p bytes = sym (keeps way p bytes)
 
 -- some lines, and others behind them
-pub takes_then : (a b c : Option (List ℕ)) (fa fb fc : Bool) (utc : ℕ) (es fs : List Entry) → Takes a b fa fb (log_text_of utc es) → Takes b c fb fc (log_text_of utc fs) → Takes a c fa fc (log_text_of utc (es ++ fs))
+pub takes_then : (a b c : Option (List ℕ)) (fa fb fc : Bool) (utc : ℕ) (es fs : List Entry) → Takes a b fa fb (log_text_of utc es)
+    → Takes b c fb fc (log_text_of utc fs) → Takes a c fa fc (log_text_of utc (es ++ fs))
 takes_then a b c fa fb fc utc es fs one next = takes_is a c fa fc _ _ (sym (text_more utc es fs)) (takes_both a b c fa fb fc (log_text_of utc es) (log_text_of utc fs) one next)
 
 -- and at the same moment
-pub takes_last : (a b c : Option (List ℕ)) (fa fb fc : Bool) (utc now : ℕ) (es fs : List Entry) → now ≡ utc → Takes a b fa fb (log_text_of utc es) → Takes b c fb fc (log_text_of now fs) → Takes a c fa fc (log_text_of utc (es ++ fs))
+pub takes_last : (a b c : Option (List ℕ)) (fa fb fc : Bool) (utc now : ℕ) (es fs : List Entry) → now ≡ utc → Takes a b fa fb (log_text_of utc es)
+    → Takes b c fb fc (log_text_of now fs) → Takes a c fa fc (log_text_of utc (es ++ fs))
 takes_last a b c fa fb fc utc now es fs same one next = takes_then a b c fa fb fc utc es fs one (subst (λ u. Takes b c fb fc (log_text_of u fs)) same next)

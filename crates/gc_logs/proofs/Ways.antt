@@ -5,7 +5,7 @@ use Rattle.std.specs.List.{AllByRecursion}
 use Rattle.gc_lines.specs.Frames.{ends_in_return}
 use Rattle.gc_logs.specs.Logging.{Entry, entry, line_mark, part_mark, entry_of_line, entries_at, pending_at, entries, entries_of_pending}
 use Rattle.gc_logs.specs.Ways.{sign_of, IsSigned, MarksTellTheWay}
-use Rattle.gc_logs.specs.declared.logging.Pending.{Pending}
+use Rattle.gc_logs.specs.declared.logging.Unwritten.{Unwritten}
 use Rattle.gc_logs.specs.declared.logging.Way.{Way}
 use Rattle.gc_logs.specs.declared.logging.Way.TheVariants.{Went, Came}
 
@@ -21,15 +21,16 @@ one_of : (way : Way) (b : Bool) (x y : Entry) → IsSigned (sign_of way) x → I
 one_of way true x y h k = h
 one_of way false x y h k = k
 
-end_signed : (way : Way) (p : Pending) → IsSigned (sign_of way) (entry_of_line way p)
+end_signed : (way : Way) (p : Unwritten) → IsSigned (sign_of way) (entry_of_line way p)
 end_signed way p =
     one_of way (not p.is_long && ends_in_return p.bytes.items) _ _ (line_signed way (take (length p.bytes.items - 1) p.bytes.items)) (part_signed way (p.bytes.items ++ 10 ∷ []))
 
-all_of : (way : Way) (b : Bool) (xs ys : List Entry) → AllByRecursion (IsSigned (sign_of way)) xs → AllByRecursion (IsSigned (sign_of way)) ys → AllByRecursion (IsSigned (sign_of way)) (if b then xs else ys)
+all_of : (way : Way) (b : Bool) (xs ys : List Entry) → AllByRecursion (IsSigned (sign_of way)) xs → AllByRecursion (IsSigned (sign_of way)) ys
+    → AllByRecursion (IsSigned (sign_of way)) (if b then xs else ys)
 all_of way true xs ys h k = h
 all_of way false xs ys h k = k
 
-at_signed : (way : Way) (p : Pending) (b : ℕ) → AllByRecursion (IsSigned (sign_of way)) (entries_at way p b)
+at_signed : (way : Way) (p : Unwritten) (b : ℕ) → AllByRecursion (IsSigned (sign_of way)) (entries_at way p b)
 at_signed way p b =
     all_of way (b == 10) _ _ (end_signed way p, tt) (all_of way (nat_lt (length p.bytes.items) 513) [] (entry (part_mark way) p.bytes.items ∷ []) tt (part_signed way p.bytes.items, tt))
 
@@ -37,7 +38,7 @@ both_signed : (sign : ℕ) (xs ys : List Entry) → AllByRecursion (IsSigned sig
 both_signed sign [] ys h k = k
 both_signed sign (x ∷ xs) ys h k = (h.0, both_signed sign xs ys h.1 k)
 
-lines_signed : (way : Way) (p : Pending) (bytes : List ℕ) → AllByRecursion (IsSigned (sign_of way)) (entries way p bytes)
+lines_signed : (way : Way) (p : Unwritten) (bytes : List ℕ) → AllByRecursion (IsSigned (sign_of way)) (entries way p bytes)
 lines_signed way p [] = tt
 lines_signed way p (b ∷ bs) = both_signed (sign_of way) (entries_at way p b) (entries way (pending_at p b) bs) (at_signed way p b) (lines_signed way (pending_at p b) bs)
 

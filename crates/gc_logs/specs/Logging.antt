@@ -3,11 +3,13 @@ use Rattle.std.specs.Prelude.{◌≡◌, ℕ, ◌-◌, ◌==◌, ◌&&◌, Bool,
 use Rattle.std.specs.Io.KnownBytes.{Appends}
 use Rattle.std.specs.List.{flat_map}
 use Rattle.gc_lines.specs.Frames.{ends_in_return}
+use Rattle.gc_lines.specs.declared.ports.Sink.{Ghosts as Sink}
 use Rattle.gc_texts.specs.Logs.{log_line}
 use Rattle.gc_texts.specs.declared.log_line.LogMark.{LogMark}
 use Rattle.gc_texts.specs.declared.log_line.LogMark.TheVariants as mark
 use Rattle.gc_links.specs.Acts.{Act, Told, Put, Cut, Gave, Silent, Ended, Broke, Closed, Opened, Unopened}
-use Rattle.gc_logs.specs.declared.logging.Pending.{Pending}
+use Rattle.gc_logs.specs.declared.logging.Log.{Log}
+use Rattle.gc_logs.specs.declared.logging.Unwritten.{Unwritten}
 use Rattle.gc_logs.specs.declared.logging.Way.{Way}
 use Rattle.gc_logs.specs.declared.logging.Way.TheVariants.{Went, Came}
 
@@ -29,36 +31,36 @@ part_mark Went = mark.WentPart
 part_mark Came = mark.CamePart
 
 -- nothing is pending
-abbrev pub nothing : Pending
+abbrev pub nothing : Unwritten
 nothing = record { bytes = record { items = [] }; is_long = false }
 
-abbrev pub pending : List ℕ → Bool → Pending
+abbrev pub pending : List ℕ → Bool → Unwritten
 pending bytes long = record { bytes = record { items = bytes }; is_long = long }
 
 -- what a line feed makes of what is pending: a line, where a CR stands before it and no front of it was written
-abbrev pub entry_of_line : Way → Pending → Entry
+abbrev pub entry_of_line : Way → Unwritten → Entry
 entry_of_line way p =
     if not p.is_long && ends_in_return p.bytes.items then entry (line_mark way) (take (length p.bytes.items - 1) p.bytes.items)
     else entry (part_mark way) (p.bytes.items ++ codes "\n")
 
 -- which lines one more byte gives: a line feed ends one, and behind 513 others a byte begins another
-abbrev pub entries_at : Way → Pending → ℕ → List Entry
+abbrev pub entries_at : Way → Unwritten → ℕ → List Entry
 entries_at way p b =
     if b == 10 then entry_of_line way p ∷ []
     else (if nat_lt (length p.bytes.items) 513 then [] else entry (part_mark way) p.bytes.items ∷ [])
 
 -- what is pending behind it
-abbrev pub pending_at : Pending → ℕ → Pending
+abbrev pub pending_at : Unwritten → ℕ → Unwritten
 pending_at p b =
     if b == 10 then nothing
     else (if nat_lt (length p.bytes.items) 513 then pending (p.bytes.items ++ b ∷ []) p.is_long else pending (b ∷ []) true)
 
 -- which lines some bytes give, and what is pending behind them
-abbrev pub entries : Way → Pending → List ℕ → List Entry
+abbrev pub entries : Way → Unwritten → List ℕ → List Entry
 entries way p [] = []
 entries way p (b ∷ bs) = entries_at way p b ++ entries way (pending_at p b) bs
 
-abbrev pub pending_behind : Pending → List ℕ → Pending
+abbrev pub pending_behind : Unwritten → List ℕ → Unwritten
 pending_behind p [] = p
 pending_behind p (b ∷ bs) = pending_behind (pending_at p b) bs
 
@@ -90,15 +92,19 @@ wire es = flat_map (λ (e : Entry). wire_of e.mark e.bytes) es
 -- of the bytes of one way nothing is missing, nothing is added and nothing changes places: what was pending and the bytes are
 -- what the lines stand for, and what is pending then
 abbrev pub LogKeepsAll : Type 0
-LogKeepsAll = (way : Way) (p : Pending) (bytes : List ℕ) → p.bytes.items ++ bytes ≡ wire (entries way p bytes) ++ (pending_behind p bytes).bytes.items
+LogKeepsAll = (way : Way) (p : Unwritten) (bytes : List ℕ) → p.bytes.items ++ bytes ≡ wire (entries way p bytes) ++ (pending_behind p bytes).bytes.items
 
 -- what is seen of a log: what its sink took, what it still holds, and its moment
 pub record LogSeen : Type 0 where
   pub taken : Option (List ℕ)
   pub failed : Bool
-  pub went : Pending
-  pub came : Pending
+  pub went : Unwritten
+  pub came : Unwritten
   pub utc : ℕ
+
+-- what is seen of this log, by the ghost members of its sink
+abbrev pub log_seen : {K : Type 0} → Sink K → Log K → LogSeen
+log_seen of_sink log = record { taken = of_sink.taken log.sink; failed = of_sink.failed log.sink; went = log.went; came = log.came; utc = log.utc }
 
 -- a line of what became of the connection
 abbrev pub link_entry : List ℕ → Entry
@@ -112,7 +118,7 @@ utc_of utc (Silent m) = m.utc
 utc_of utc _ = utc
 
 -- the lines of an act
-abbrev pub entries_of_act : Pending → Pending → Act → List Entry
+abbrev pub entries_of_act : Unwritten → Unwritten → Act → List Entry
 entries_of_act went came (Put bytes) = entries Went went bytes
 entries_of_act went came (Cut bytes count) = entries Went went (take count bytes) ++ link_entry (codes "failed") ∷ []
 entries_of_act went came (Gave bytes m) = entries Came came bytes
@@ -124,13 +130,13 @@ entries_of_act went came Unopened = link_entry (codes "not open") ∷ []
 entries_of_act went came _ = []
 
 -- what is pending behind an act: nothing behind a close
-abbrev pub went_behind : Pending → Act → Pending
+abbrev pub went_behind : Unwritten → Act → Unwritten
 went_behind went (Put bytes) = pending_behind went bytes
 went_behind went (Cut bytes count) = pending_behind went (take count bytes)
 went_behind went Closed = nothing
 went_behind went _ = went
 
-abbrev pub came_behind : Pending → Act → Pending
+abbrev pub came_behind : Unwritten → Act → Unwritten
 came_behind came (Gave bytes m) = pending_behind came bytes
 came_behind came Closed = nothing
 came_behind came _ = came

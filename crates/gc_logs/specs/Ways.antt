@@ -3,7 +3,7 @@ use Rattle.std.specs.Prelude.{◌≡◌, ℕ, List, ◌∷◌}
 use Rattle.std.specs.List.{AllByRecursion}
 use Rattle.gc_texts.specs.Logs.{mark_text}
 use Rattle.gc_logs.specs.Logging.{Entry, entries, entries_of_pending}
-use Rattle.gc_logs.specs.declared.logging.Pending.{Pending}
+use Rattle.gc_logs.specs.declared.logging.Unwritten.{Unwritten}
 use Rattle.gc_logs.specs.declared.logging.Way.{Way}
 use Rattle.gc_logs.specs.declared.logging.Way.TheVariants.{Went, Came}
 
@@ -18,5 +18,5 @@ IsSigned sign e = (rest : List ℕ) × (mark_text e.mark ≡ sign ∷ rest)
 
 -- each line of what goes is marked as what goes, and each of what comes as what comes, whole or in part, also where no more follows
 pub record MarksTellTheWay : Type 0 where
-  pub lines : (way : Way) (p : Pending) (bytes : List ℕ) → AllByRecursion (IsSigned (sign_of way)) (entries way p bytes)
+  pub lines : (way : Way) (p : Unwritten) (bytes : List ℕ) → AllByRecursion (IsSigned (sign_of way)) (entries way p bytes)
   pub cut : (way : Way) (bytes : List ℕ) → AllByRecursion (IsSigned (sign_of way)) (entries_of_pending way bytes)

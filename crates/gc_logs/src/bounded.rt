@@ -88,7 +88,8 @@ fn put_full<K: Sink>(sink: &mut K, line: &[u8]) -> Result<(), usize>
     write_whole(sink, &full_line(line))
 }
 
-// Writes it, as far as the sink takes it: a front of it is cut off where the log is opened next.
+// Writes the line that says that the log is full, as far as the sink takes it. A part of that line is cut off when the log is next
+// opened.
 fn write_full<K: Sink>(sink: &mut K, line: &[u8])
     ensures { TakesFull (K.taken sink.old) (K.taken sink.new) line.now }
 {

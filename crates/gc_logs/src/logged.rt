@@ -3,7 +3,7 @@
 ghost use Rattle.std.specs.Prelude.{◌≡◌, ◌<◌, [], ◌∷◌, length};
 ghost use Rattle.gc_links.specs.Acts.{Tells, Closed, told_as, came_as, put_as, opened_as, IsWithin, IsPart};
 ghost use Rattle.gc_logs.specs.Bounds.{sink_of};
-ghost use Rattle.gc_logs.specs.Logging.{Logs};
+ghost use Rattle.gc_logs.specs.Logging.{Logs, log_seen};
 
 use crate::logging::Log;
 use gc_lines::{PortFailed, Sink};
@@ -53,10 +53,7 @@ impl<L: Link, K: Sink> Link for Logged<L, K> {
 
     fn now(&mut self) -> Result<Moment, PortFailed>
         ensures tells { Tells (L.acts self.old.link) (L.acts self.new.link) (told_as result ∷ []) }
-        ensures logs { Logs
-            (record { taken = K.taken self.old.log.sink; failed = K.failed self.old.log.sink; went = self.old.log.went; came = self.old.log.came; utc = self.old.log.utc })
-            (record { taken = K.taken self.new.log.sink; failed = K.failed self.new.log.sink; went = self.new.log.went; came = self.new.log.came; utc = self.new.log.utc })
-            (told_as result) }
+        ensures logs { Logs (log_seen K.Sink self.old.log) (log_seen K.Sink self.new.log) (told_as result) }
     {
         let told = self.link.now();
         if let Ok(moment) = &told {
@@ -69,10 +66,7 @@ impl<L: Link, K: Sink> Link for Logged<L, K> {
         requires { 0 < length buf.old }
         ensures tells { Tells (L.acts self.old.link) (L.acts self.new.link) (came_as result buf.new ∷ []) }
         ensures within { IsWithin result buf.new }
-        ensures logs { Logs
-            (record { taken = K.taken self.old.log.sink; failed = K.failed self.old.log.sink; went = self.old.log.went; came = self.old.log.came; utc = self.old.log.utc })
-            (record { taken = K.taken self.new.log.sink; failed = K.failed self.new.log.sink; went = self.new.log.went; came = self.new.log.came; utc = self.new.log.utc })
-            (came_as result buf.new) }
+        ensures logs { Logs (log_seen K.Sink self.old.log) (log_seen K.Sink self.new.log) (came_as result buf.new) }
     {
         let came = self.link.read(buf, millis);
         match came {
@@ -92,10 +86,7 @@ impl<L: Link, K: Sink> Link for Logged<L, K> {
         requires { 0 < length bytes.now }
         ensures tells { Tells (L.acts self.old.link) (L.acts self.new.link) (put_as result bytes.now ∷ []) }
         ensures part { IsPart result bytes.now }
-        ensures logs { Logs
-            (record { taken = K.taken self.old.log.sink; failed = K.failed self.old.log.sink; went = self.old.log.went; came = self.old.log.came; utc = self.old.log.utc })
-            (record { taken = K.taken self.new.log.sink; failed = K.failed self.new.log.sink; went = self.new.log.went; came = self.new.log.came; utc = self.new.log.utc })
-            (put_as result bytes.now) }
+        ensures logs { Logs (log_seen K.Sink self.old.log) (log_seen K.Sink self.new.log) (put_as result bytes.now) }
     {
         let put = self.link.put(bytes);
         match put {
@@ -110,10 +101,7 @@ impl<L: Link, K: Sink> Link for Logged<L, K> {
 
     fn close(&mut self)
         ensures tells { Tells (L.acts self.old.link) (L.acts self.new.link) (Closed ∷ []) }
-        ensures logs { Logs
-            (record { taken = K.taken self.old.log.sink; failed = K.failed self.old.log.sink; went = self.old.log.went; came = self.old.log.came; utc = self.old.log.utc })
-            (record { taken = K.taken self.new.log.sink; failed = K.failed self.new.log.sink; went = self.new.log.went; came = self.new.log.came; utc = self.new.log.utc })
-            (Closed) }
+        ensures logs { Logs (log_seen K.Sink self.old.log) (log_seen K.Sink self.new.log) (Closed) }
     {
         self.link.close();
         self.log.cut();
@@ -122,10 +110,7 @@ impl<L: Link, K: Sink> Link for Logged<L, K> {
 
     fn open(&mut self) -> Result<(), PortFailed>
         ensures tells { Tells (L.acts self.old.link) (L.acts self.new.link) (opened_as result ∷ []) }
-        ensures logs { Logs
-            (record { taken = K.taken self.old.log.sink; failed = K.failed self.old.log.sink; went = self.old.log.went; came = self.old.log.came; utc = self.old.log.utc })
-            (record { taken = K.taken self.new.log.sink; failed = K.failed self.new.log.sink; went = self.new.log.went; came = self.new.log.came; utc = self.new.log.utc })
-            (opened_as result) }
+        ensures logs { Logs (log_seen K.Sink self.old.log) (log_seen K.Sink self.new.log) (opened_as result) }
     {
         let opened = self.link.open();
         match &opened {

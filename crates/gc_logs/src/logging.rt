@@ -42,18 +42,18 @@ impl Way {
 // What of one way is not written yet: the bytes of a line that has no end, of at most 512 bytes and a CR, or the last ones of
 // a longer one.
 #[derive(Drop)]
-struct Pending {
+struct Unwritten {
     bytes: ArrayVec<u8, 513>,
     // Whether a front of this line was written.
     is_long: bool,
 }
 
-impl Pending {
+impl Unwritten {
     // Nothing.
-    fn nothing() -> Pending
+    fn nothing() -> Unwritten
         ensures { result ≡ nothing }
     {
-        Pending {
+        Unwritten {
             bytes: ArrayVec::new(),
             is_long: false,
         }
@@ -64,8 +64,8 @@ impl Pending {
 #[derive(Drop)]
 pub(crate) struct Log<K> {
     pub(crate) sink: K,
-    went: Pending,
-    came: Pending,
+    went: Unwritten,
+    came: Unwritten,
     // The last moment that was told, in milliseconds since 1970.
     pub(crate) utc: u64,
 }
@@ -80,8 +80,8 @@ impl<K: Sink> Log<K> {
     {
         Log {
             sink,
-            went: Pending::nothing(),
-            came: Pending::nothing(),
+            went: Unwritten::nothing(),
+            came: Unwritten::nothing(),
             utc,
         }
     }
@@ -131,7 +131,7 @@ impl<K: Sink> Log<K> {
 }
 
 // Takes bytes, and writes each line that they end.
-fn log_bytes<K: Sink>(sink: &mut K, utc: u64, way: Way, pending: &mut Pending, bytes: &[u8])
+fn log_bytes<K: Sink>(sink: &mut K, utc: u64, way: Way, pending: &mut Unwritten, bytes: &[u8])
     ensures took { Takes (K.taken sink.old) (K.taken sink.new) (K.failed sink.old) (K.failed sink.new) (log_text_of utc (entries way pending.old bytes.now)) }
     ensures pending { pending.new ≡ pending_behind pending.old bytes.now }
 {
@@ -141,7 +141,7 @@ fn log_bytes<K: Sink>(sink: &mut K, utc: u64, way: Way, pending: &mut Pending, b
 }
 
 // Takes one more byte, and writes the line that it ends.
-fn log_byte<K: Sink>(sink: &mut K, utc: u64, way: Way, pending: &mut Pending, b: u8)
+fn log_byte<K: Sink>(sink: &mut K, utc: u64, way: Way, pending: &mut Unwritten, b: u8)
     ensures took { Takes (K.taken sink.old) (K.taken sink.new) (K.failed sink.old) (K.failed sink.new) (log_text_of utc (entries_at way pending.old b)) }
     ensures pending { pending.new ≡ pending_at pending.old b }
 {
@@ -160,7 +160,7 @@ fn log_byte<K: Sink>(sink: &mut K, utc: u64, way: Way, pending: &mut Pending, b:
 }
 
 // Writes what a line feed ends.
-fn log_line_end<K: Sink>(sink: &mut K, utc: u64, way: Way, pending: &mut Pending)
+fn log_line_end<K: Sink>(sink: &mut K, utc: u64, way: Way, pending: &mut Unwritten)
     ensures took { Takes (K.taken sink.old) (K.taken sink.new) (K.failed sink.old) (K.failed sink.new) (log_text_of utc (entry_of_line way pending.old ∷ [])) }
     ensures pending { pending.new ≡ nothing }
 {
@@ -179,7 +179,7 @@ fn log_line_end<K: Sink>(sink: &mut K, utc: u64, way: Way, pending: &mut Pending
 }
 
 // Writes what has no end.
-fn log_pending<K: Sink>(sink: &mut K, utc: u64, way: Way, pending: &mut Pending)
+fn log_pending<K: Sink>(sink: &mut K, utc: u64, way: Way, pending: &mut Unwritten)
     ensures took { Takes (K.taken sink.old) (K.taken sink.new) (K.failed sink.old) (K.failed sink.new) (log_text_of utc (entries_of_pending way pending.old.bytes.items)) }
     ensures pending { pending.new ≡ nothing }
 {

@@ -4,7 +4,7 @@ ghost use Rattle.std.specs.Prelude.{◌≡◌, ◌<◌, [], Some, true, false, l
 ghost use Rattle.gc_lines.specs.Ports.{TakesBytes, Fails};
 ghost use Rattle.gc_probes.specs.Seen.{SinkSeen, WritesAsTold};
 
-use gc_lines::{Lasting, PortFailed, Sink};
+use gc_lines::{Durable, PortFailed, Sink};
 use std::alloc::Global;
 use std::marker::Model;
 
@@ -99,10 +99,10 @@ impl Sink for PieceSink {
     }
 }
 
-impl Lasting for PieceSink {
-    ghost lasts = { λ _. true };
+impl Durable for PieceSink {
+    ghost is_durable = { λ _. true };
 
-    fn keep(&mut self) -> Result<(), PortFailed> {
+    fn sync(&mut self) -> Result<(), PortFailed> {
         if self.failed {
             return Err(PortFailed);
         }

@@ -5,6 +5,7 @@
 mod far_end;
 mod far_files;
 mod program;
+mod room;
 mod said;
 
 use gc_cases::play_folder;

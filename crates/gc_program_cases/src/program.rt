@@ -2,15 +2,16 @@
 //! status, the output and the messages; of a far end also what came there, and how long it took by its clock.
 
 use crate::far_end::{FarEnd, Seen, both_ends};
-use crate::said::{self, Said};
+use crate::said::{Said, tell_seen};
 use gc_cases::{Case, Player, input_of};
 use gc_console::{Oddities, Standard, Streams, run_program};
 use std::alloc::{AllocError, Global};
 use std::cell::RefCell;
 use std::env::Args;
 use std::fs::{File, Files};
-use std::io::{self, ErrorKind, Read, Write};
+use std::io::{self, ErrorKind, Read};
 use std::net::{Net, SocketAddr, TcpListener, TcpStream};
+use std::process::ExitCode;
 use std::time::Clock;
 
 /// Plays `.program`.
@@ -21,30 +22,41 @@ impl Player for Program {
         ".program"
     }
 
-    fn key(&self, place: usize) -> Option<&'static str> {
-        said::KEYS.get(place).copied()
-    }
-
-    fn play(&self, rt: &HostRuntime, case: &Case<'_>) -> io::Result<Vec<Vec<u8>>> {
+    fn play(&self, rt: &HostRuntime, case: &Case<'_>, wrong: &mut String) -> io::Result<()> {
         let listener = TcpListener::bind(rt, SocketAddr::from(([127, 0, 0, 1], 0)))?;
-        let port = format!(in rt.alloc(); "{}", listener.local_addr()?.port())?;
+        let port = port_of(rt.alloc(), &listener)?;
         if case.value("port") == "free" {
             drop(listener);
-            return play_at(rt, case, port.as_str());
+            return play_at(rt, case, port.as_str(), wrong);
         }
-        let came = play_at(rt, case, port.as_str())?;
-        drop(listener);
-        Ok(came)
+        play_at(rt, case, port.as_str(), wrong)
     }
 }
 
+fn port_of(alloc: Global, listener: &TcpListener) -> io::Result<String> {
+    Ok(format!(in alloc; "{}", listener.local_addr()?.port())?)
+}
+
 // Plays a case in which this port is meant by `PORT`.
-fn play_at(rt: &HostRuntime, case: &Case<'_>, port: &str) -> io::Result<Vec<Vec<u8>>> {
-    let said = match case.value("far") {
-        "" => run(rt, rt.alloc(), case, port)?,
-        answer => run_far(rt, case, port, answer.parse::<u64>().ok())?,
-    };
-    said.values(rt.alloc(), case, port)
+fn play_at(rt: &HostRuntime, case: &Case<'_>, port: &str, wrong: &mut String) -> io::Result<()> {
+    let alloc = rt.alloc();
+    let seen = RefCell::new(Seen::new(alloc));
+    let said = run_case(rt, case, port, &seen)?;
+    said.tell(alloc, case, port, wrong)?;
+    Ok(tell_seen(alloc, case, &seen.into_inner(), wrong)?)
+}
+
+// Runs the program over the system, or at the far end that a case has.
+fn run_case(
+    rt: &HostRuntime,
+    case: &Case<'_>,
+    port: &str,
+    seen: &RefCell<Seen>,
+) -> io::Result<Said> {
+    match case.value("far") {
+        "" => run(rt, rt.alloc(), case, port),
+        answer => run_far(rt, case, port, answer.parse::<u64>().ok(), seen),
+    }
 }
 
 // What the line of a case does to what is sent over it.
@@ -56,27 +68,24 @@ fn oddities_of(case: &Case<'_>) -> Oddities {
 }
 
 // Runs the program at a far end whose answers take so many milliseconds; None: there are none.
-fn run_far(rt: &HostRuntime, case: &Case<'_>, port: &str, answer: Option<u64>) -> io::Result<Said> {
-    let alloc = rt.alloc();
+fn run_far(
+    rt: &HostRuntime,
+    case: &Case<'_>,
+    port: &str,
+    answer: Option<u64>,
+    seen: &RefCell<Seen>,
+) -> io::Result<Said> {
     let ends = both_ends(rt)?;
-    let seen = RefCell::new(Seen::new(alloc));
     let far_end = FarEnd {
         ends: &ends,
-        seen: &seen,
+        seen,
         answer,
         until: case.number("until", 3_600_000),
         refused: case.number("refused", 0),
         silent: case.number("silent", u64::MAX),
         odd: oddities_of(case),
     };
-    let mut said = run(&far_end, alloc, case, port)?;
-    if let Ok(seen) = seen.try_borrow() {
-        said.heard = Vec::from_slice(alloc, seen.heard.as_slice())?;
-        said.files = Vec::from_slice(alloc, seen.files.as_slice())?;
-        said.opened = seen.opened;
-        said.elapsed = seen.elapsed;
-    }
-    Ok(said)
+    run(&far_end, rt.alloc(), case, port)
 }
 
 // Runs the program over this runtime.
@@ -87,19 +96,31 @@ fn run<R: Net<Listener = TcpListener, Stream = TcpStream> + Clock + Files<File =
     port: &str,
 ) -> io::Result<Said> {
     let input = input_of(alloc, case)?;
-    let mut output = Room::new(alloc, case.number("room", u64::MAX));
-    let mut messages = Vec::new(alloc);
+    let mut said = Said::new(alloc, case.number("room", u64::MAX));
+    said.status = run_on(rt, alloc, case, port, input.as_slice(), &mut said)?;
+    Ok(said)
+}
+
+// Runs it with this input.
+fn run_on<R: Net<Listener = TcpListener, Stream = TcpStream> + Clock + Files<File = File>>(
+    rt: &R,
+    alloc: Global,
+    case: &Case<'_>,
+    port: &str,
+    input: &[u8],
+    said: &mut Said,
+) -> io::Result<ExitCode> {
+    let is_broken = case.value("reads") == "fail";
     let streams = Streams {
         input: Input {
-            bytes: input.as_slice(),
-            is_broken: case.value("reads") == "fail",
+            bytes: input,
+            is_broken,
         },
-        output: &mut output,
-        messages: &mut messages,
+        output: &mut said.output,
+        messages: &mut said.messages,
     };
     let words = words_of(alloc, case, port);
-    let status = run_program(rt, alloc, standard_of(case), words, streams)?;
-    Said::of(alloc, status, output.bytes, messages)
+    run_program(rt, alloc, standard_of(case), words, streams)
 }
 
 // Which standard streams are open.
@@ -147,35 +168,5 @@ impl<'a> Read for Input<'a> {
             return Err(io::Error::from(ErrorKind::BrokenPipe));
         }
         self.bytes.read(buf)
-    }
-}
-
-// Standard output: it has room for so many bytes.
-#[derive(Drop)]
-struct Room {
-    bytes: Vec<u8>,
-    left: u64,
-}
-
-impl Room {
-    fn new(alloc: Global, left: u64) -> Room {
-        Room {
-            bytes: Vec::new(alloc),
-            left,
-        }
-    }
-}
-
-impl Write for Room {
-    fn write(&mut self, buf: &[u8]) -> io::Result<usize> {
-        let left = usize::try_from(self.left).unwrap_or(usize::MAX);
-        let taken = buf.get(..left).unwrap_or(buf);
-        self.bytes.extend_from_slice(taken)?;
-        self.left = self.left.saturating_sub(taken.len() as u64);
-        Ok(taken.len().min(buf.len()))
-    }
-
-    fn flush(&mut self) -> io::Result<()> {
-        Ok(())
     }
 }

@@ -19,8 +19,8 @@ use Rattle.gc_links.specs.Acts.{Act, Told, Cut, Gave, Silent, Ended, Broke, Open
 use Rattle.gc_station.specs.Deciding.{is_up, is_past, is_quiet}
 use Rattle.gc_station.specs.Marks.{commands_in}
 use Rattle.gc_station.specs.Progressing.{told, failing, again, is_finished, is_spared, lines_asked, quieted, drained, time_passed, silent, is_idle, closed}
-use Rattle.gc_station.specs.Standing.{Standing, with_progress, with_moment, with_rest, waiting_of, line_came, lines_came, lines_behind, came, is_heard, reckoned, piece_at, after_clock, after_put, after_open, after_read, after_close}
-use Rattle.gc_station.proofs.Fine.{is_bare, is_done, says_done}
+use Rattle.gc_station.specs.Model.{Model, with_progress, with_moment, with_rest, waiting_of, line_came, lines_came, lines_behind, came, is_heard, reckoned, piece_at, after_clock, after_put, after_open, after_read, after_close}
+use Rattle.gc_station.proofs.Invariant.{is_bare, is_done, says_done}
 use Rattle.gc_station.proofs.Midway.{Placed, SoundAt, PlacedAt, Mid, clash, sound_moment, sound_settles}
 use Rattle.gc_station.proofs.Walk.{asked_along, closed_along}
 
@@ -29,20 +29,21 @@ fail_placed : (p : Progress) (rest : List ℕ) (marks : List (Option Mark)) (why
 fail_placed p rest marks why true other = record { empty = λ e. cc; finished = λ e. absurd (clash (is_done why) e other) }
 fail_placed p rest marks why false other = record { empty = λ e. cc; finished = λ e. absurd (clash (is_done why) e other) }
 
-pub mid_fail : (plan : Plan) (commands : List Task) (s : Standing) (why : Cause) → is_done why ≡ false → Mid plan commands s → Mid plan commands (with_progress (failing why) s)
+pub mid_fail : (plan : Plan) (commands : List Task) (s : Model) (why : Cause) → is_done why ≡ false → Mid plan commands s → Mid plan commands (with_progress (failing why) s)
 mid_fail plan commands s why other mid = (mid.0, fail_placed s.progress s.rest s.marks why (is_up s.progress.phase) other)
 
 -- a moment
-pub mid_moment : (plan : Plan) (commands : List Task) (s : Standing) (m : Moment) → Mid plan commands s → Mid plan commands (with_moment m s)
+pub mid_moment : (plan : Plan) (commands : List Task) (s : Model) (m : Moment) → Mid plan commands s → Mid plan commands (with_moment m s)
 mid_moment plan commands s m mid = (sound_moment plan commands s.progress.left s.progress.unsent s.client s.marks s.records m.elapsed mid.0, mid.1)
 
 -- the clock was read
-pub mid_clock : (plan : Plan) (commands : List Task) (f : Moment → Progress → Progress) (s : Standing) (act : Act) → Mid plan commands s → ((m : Moment) → Mid plan commands (with_progress (f m) s)) → Mid plan commands (after_clock f s act)
+pub mid_clock : (plan : Plan) (commands : List Task) (f : Moment → Progress → Progress) (s : Model) (act : Act) → Mid plan commands s
+    → ((m : Moment) → Mid plan commands (with_progress (f m) s)) → Mid plan commands (after_clock f s act)
 mid_clock plan commands f s (Told m) mid ok = mid_moment plan commands (with_progress (f m) s) m (ok m)
 mid_clock plan commands f s act mid ok = mid_fail plan commands s cause.Clock refl mid
 
 -- bytes were put
-pub mid_put : (plan : Plan) (commands : List Task) (requests : ℕ) (f : Standing → Standing) (s : Standing) (act : Act) → Mid plan commands (f s) → Mid plan commands (after_put requests f s act)
+pub mid_put : (plan : Plan) (commands : List Task) (requests : ℕ) (f : Model → Model) (s : Model) (act : Act) → Mid plan commands (f s) → Mid plan commands (after_put requests f s act)
 mid_put plan commands requests f s (Cut bytes n) mid = mid_fail plan commands (f s) (cause.Write requests n) refl mid
 mid_put plan commands requests f s act mid = mid
 
@@ -64,7 +65,7 @@ placed_again : (plan : Plan) (n : ℕ) (why : Cause) (p : Progress) (rest : List
 placed_again plan n why p rest marks other none = again_placed why p.left p.unsent rest marks (is_finished n p) (is_spared plan why p || nat_lt 0 p.tries) other none (all_sent n p)
 
 -- a connection was asked for
-pub mid_open : (plan : Plan) (commands : List Task) (s : Standing) (act : Act) → s.progress.phase ≡ Down → Mid plan commands s → Mid plan commands (after_open plan s act)
+pub mid_open : (plan : Plan) (commands : List Task) (s : Model) (act : Act) → s.progress.phase ≡ Down → Mid plan commands s → Mid plan commands (after_open plan s act)
 mid_open plan commands s Opened is mid = (mid.0, record { empty = λ e. mid.1.empty (ap is_bare is); finished = λ e. cc })
 mid_open plan commands s act is mid = (mid.0, placed_again plan (commands_in s.marks) cause.Open s.progress s.rest s.marks refl (mid.1.empty (ap is_bare is)))
 
@@ -78,14 +79,16 @@ close_placed plan w cause.Clock p marks done = over_placed cause.Clock p marks (
 close_placed plan w cause.Turns p marks done = over_placed cause.Turns p marks (λ e. cc)
 close_placed plan w why p marks done = placed_again plan w.commands why p [] marks refl refl
 
-close_sound : (plan : Plan) (commands : List Task) (s : Standing) (w : Waiting) (why : Cause) → SoundAt plan commands s.progress s.client s.marks s.records → SoundAt plan commands (closed plan w why s.progress) s.client s.marks s.records
+close_sound : (plan : Plan) (commands : List Task) (s : Model) (w : Waiting) (why : Cause) → SoundAt plan commands s.progress s.client s.marks s.records
+    → SoundAt plan commands (closed plan w why s.progress) s.client s.marks s.records
 close_sound plan commands s w why sound = closed_along (λ (q : Progress). SoundAt plan commands q s.client s.marks s.records) plan w why s.progress sound sound
 
-pub mid_close : (plan : Plan) (commands : List Task) (s : Standing) (why : Cause) → (why ≡ cause.Done → (s.progress.left ≡ 0) × (s.progress.unsent ≡ 0)) → Mid plan commands s → Mid plan commands (after_close plan why s)
+pub mid_close : (plan : Plan) (commands : List Task) (s : Model) (why : Cause) → (why ≡ cause.Done → (s.progress.left ≡ 0) × (s.progress.unsent ≡ 0))
+    → Mid plan commands s → Mid plan commands (after_close plan why s)
 mid_close plan commands s why done mid = let w : Waiting = waiting_of (with_rest [] s) in (close_sound plan commands s w why mid.0, close_placed plan w why s.progress s.marks done)
 
 -- Lines are heard where requests go out.
-pub record Listening (plan : Plan) (commands : List Task) (s : Standing) : Type 0 where
+pub record Listening (plan : Plan) (commands : List Task) (s : Model) : Type 0 where
   pub sound : SoundAt plan commands s.progress s.client s.marks s.records
   pub is_ready : s.progress.phase ≡ Ready
 
@@ -96,17 +99,18 @@ same_next c line (Some id) = by_place (nat_lt (place_in c id) (length c.waiting)
   by_place true = refl
   by_place false = refl
 
-listen_line : (plan : Plan) (commands : List Task) (s : Standing) (line : List ℕ) → Listening plan commands s → Listening plan commands (line_came s line)
+listen_line : (plan : Plan) (commands : List Task) (s : Model) (line : List ℕ) → Listening plan commands s → Listening plan commands (line_came s line)
 listen_line plan commands s line l =
     let p = s.progress in
     let x = hears s.client line (heard line) in
     let next : x.client.next ≡ s.client.next = same_next s.client line (heard line) in
     record {
-      sound = sound_settles s.reads plan commands p.left p.unsent s.client x.client s.marks s.records p.moment.utc x.settlements (heard_parts s.client line (heard line)) (subst (λ (n : ℕ). n < 8) (sym next) l.sound.digit) l.sound;
+      sound = sound_settles s.reads plan commands p.left p.unsent s.client x.client s.marks s.records p.moment.utc x.settlements
+          (heard_parts s.client line (heard line)) (subst (λ (n : ℕ). n < 8) (sym next) l.sound.digit) l.sound;
       is_ready = l.is_ready;
     }
 
-listen_lines : (plan : Plan) (commands : List Task) (s : Standing) (lines : List (List ℕ)) → Listening plan commands s → Listening plan commands (lines_came s lines)
+listen_lines : (plan : Plan) (commands : List Task) (s : Model) (lines : List (List ℕ)) → Listening plan commands s → Listening plan commands (lines_came s lines)
 listen_lines plan commands s [] l = l
 listen_lines plan commands s (line ∷ others) l = listen_lines plan commands (line_came s line) others (listen_line plan commands s line l)
 
@@ -115,52 +119,56 @@ heard_ready Ready e = refl
 heard_ready phase e = cc
 
 -- while it begins lines change neither the counts nor the phase
-listen_asked : (plan : Plan) (commands : List Task) (s : Standing) (lines : List (List ℕ)) → Listening plan commands s → Listening plan commands (with_progress (λ p. lines_asked p lines) s)
+listen_asked : (plan : Plan) (commands : List Task) (s : Model) (lines : List (List ℕ)) → Listening plan commands s → Listening plan commands (with_progress (λ p. lines_asked p lines) s)
 listen_asked plan commands s lines l =
     let it = asked_along (λ (q : Progress). SoundAt plan commands q s.client s.marks s.records × (q.phase ≡ Ready)) (λ q line h. h) s.progress lines (l.sound, l.is_ready) in
     record { sound = it.0; is_ready = it.1 }
 
-listen_came : (plan : Plan) (commands : List Task) (s : Standing) (word piece : List ℕ) → Listening plan commands s → Listening plan commands (came true word piece s)
+listen_came : (plan : Plan) (commands : List Task) (s : Model) (word piece : List ℕ) → Listening plan commands s → Listening plan commands (came true word piece s)
 listen_came plan commands s [] piece l = listen_lines plan commands (with_rest (rest_behind s.rest piece) s) (lines_behind s.rest piece) (record { sound = l.sound; is_ready = l.is_ready })
-listen_came plan commands s (asked ∷ others) piece l = listen_asked plan commands (with_rest (rest_behind s.rest piece) s) (lines_behind s.rest piece) (record { sound = l.sound; is_ready = l.is_ready })
+listen_came plan commands s (asked ∷ others) piece l = listen_asked plan commands (with_rest (rest_behind s.rest piece) s) (lines_behind s.rest piece)
+    (record { sound = l.sound; is_ready = l.is_ready })
 
-reckoned_ready : (plan : Plan) (commands : List Task) (s : Standing) (until : Until) (before : ℕ) → Listening plan commands s → Mid plan commands (reckoned plan until before s)
+reckoned_ready : (plan : Plan) (commands : List Task) (s : Model) (until : Until) (before : ℕ) → Listening plan commands s → Mid plan commands (reckoned plan until before s)
 reckoned_ready plan commands s until before l =
     (l.sound, record { empty = λ e. absurd (clash (is_bare s.progress.phase) e (ap is_bare l.is_ready)); finished = λ e. absurd (clash (says_done s.progress.phase) e (ap says_done l.is_ready)) })
 
-reckoned_came : (plan : Plan) (commands : List Task) (s : Standing) (until : Until) (before : ℕ) (h : Bool) (word piece : List ℕ) → is_heard s.progress.phase ≡ h → Mid plan commands s → Mid plan commands (reckoned plan until before (came h word piece s))
+reckoned_came : (plan : Plan) (commands : List Task) (s : Model) (until : Until) (before : ℕ) (h : Bool) (word piece : List ℕ) → is_heard s.progress.phase ≡ h
+    → Mid plan commands s → Mid plan commands (reckoned plan until before (came h word piece s))
 reckoned_came plan commands s until before true word piece is mid =
     reckoned_ready plan commands (came true word piece s) until before (listen_came plan commands s word piece (record { sound = mid.0; is_ready = heard_ready s.progress.phase is }))
 reckoned_came plan commands s until before false word piece is mid = (mid.0, record { empty = mid.1.empty; finished = mid.1.finished })
 
-pub mid_piece : (plan : Plan) (commands : List Task) (s : Standing) (until : Until) (piece : List ℕ) (m : Moment) → Mid plan commands s → Mid plan commands (piece_at plan until piece m s)
+pub mid_piece : (plan : Plan) (commands : List Task) (s : Model) (until : Until) (piece : List ℕ) (m : Moment) → Mid plan commands s → Mid plan commands (piece_at plan until piece m s)
 mid_piece plan commands s until piece m mid =
-    reckoned_came plan commands (with_moment m (with_progress (told m) s)) until (commands_in s.marks) (is_heard s.progress.phase) s.progress.word piece refl (mid_moment plan commands (with_progress (told m) s) m mid)
+    reckoned_came plan commands (with_moment m (with_progress (told m) s)) until (commands_in s.marks) (is_heard s.progress.phase) s.progress.word piece refl
+    (mid_moment plan commands (with_progress (told m) s) m mid)
 
 -- Nothing came.
 
-down_placed : (b : Bool) (phase : Phase) (left unsent : ℕ) (rest : List ℕ) (marks : List (Option Mark)) → phase ≡ Pausing → Placed phase left unsent rest marks → Placed (if b then Down else phase) left unsent rest marks
+down_placed : (b : Bool) (phase : Phase) (left unsent : ℕ) (rest : List ℕ) (marks : List (Option Mark)) → phase ≡ Pausing
+    → Placed phase left unsent rest marks → Placed (if b then Down else phase) left unsent rest marks
 down_placed true phase left unsent rest marks is placed = record { empty = λ e. placed.empty (ap is_bare is); finished = λ e. cc }
 down_placed false phase left unsent rest marks is placed = placed
 
--- what is said of a standing, once it is this far
-abbrev MidAt : Plan → List Task → Standing → Progress → Type 0
+-- what is said of a model, once it is this far
+abbrev MidAt : Plan → List Task → Model → Progress → Type 0
 MidAt plan commands s p = SoundAt plan commands p s.client s.marks s.records × PlacedAt p s.rest s.marks
 
-drained_there : (plan : Plan) (commands : List Task) (s : Standing) (p : Progress) (b : Bool) → MidAt plan commands s p → MidAt plan commands s (if b then drained p else p)
+drained_there : (plan : Plan) (commands : List Task) (s : Model) (p : Progress) (b : Bool) → MidAt plan commands s p → MidAt plan commands s (if b then drained p else p)
 drained_there plan commands s p true mid = (mid.0, record { empty = λ e. cc; finished = λ e. cc })
 drained_there plan commands s p false mid = mid
 
-quiet_there : (plan : Plan) (commands : List Task) (s : Standing) (phase : Phase) (p : Progress) → p.phase ≡ phase → MidAt plan commands s p → MidAt plan commands s (quieted plan phase p)
+quiet_there : (plan : Plan) (commands : List Task) (s : Model) (phase : Phase) (p : Progress) → p.phase ≡ phase → MidAt plan commands s p → MidAt plan commands s (quieted plan phase p)
 quiet_there plan commands s Pausing p is mid = (mid.0, down_placed (is_past p.pause p && not (is_idle plan p)) p.phase p.left p.unsent s.rest s.marks is mid.1)
 quiet_there plan commands s Draining p is mid = drained_there plan commands s p (is_quiet plan p) mid
 quiet_there plan commands s phase p is mid = mid
 
-pub mid_silent : (plan : Plan) (commands : List Task) (s : Standing) (until : Until) (m : Moment) → Mid plan commands s → Mid plan commands (with_moment m (with_progress (silent plan until m) s))
+pub mid_silent : (plan : Plan) (commands : List Task) (s : Model) (until : Until) (m : Moment) → Mid plan commands s → Mid plan commands (with_moment m (with_progress (silent plan until m) s))
 mid_silent plan commands s until m mid = mid_moment plan commands (with_progress (silent plan until m) s) m (quiet_there plan commands s s.progress.phase (time_passed until m s.progress) refl mid)
 
 -- what was read
-pub mid_read : (plan : Plan) (commands : List Task) (until : Until) (s : Standing) (act : Act) → Mid plan commands s → Mid plan commands (after_read plan until s act)
+pub mid_read : (plan : Plan) (commands : List Task) (until : Until) (s : Model) (act : Act) → Mid plan commands s → Mid plan commands (after_read plan until s act)
 mid_read plan commands until s (Gave bytes m) mid = mid_piece plan commands s until bytes m mid
 mid_read plan commands until s (Silent m) mid = mid_silent plan commands s until m mid
 mid_read plan commands until s Ended mid = mid_fail plan commands s cause.End refl mid

@@ -7,36 +7,38 @@ use Rattle.gc_links.specs.Acts.{Act}
 use Rattle.gc_station.specs.Progressing.{turned}
 use Rattle.gc_station.specs.Runs.{stood}
 use Rattle.gc_station.specs.Scopes.{Scope}
-use Rattle.gc_station.specs.Standing.{Standing, opening, order_at, with_progress, Obeys, moved, after, after_all, Runs}
+use Rattle.gc_station.specs.Model.{Model, opening, action_at, with_progress, Performs, moved, after, after_all, Runs}
 use Rattle.gc_station.proofs.Counts.{ended_progress}
 use Rattle.gc_station.proofs.Going.{after_all-append}
 
 module _ (plan : Plan) (commands : List Task) where
   -- of the acts so far, and where the station stands behind them
-  pub always : (s : Standing) (P : List Act → Standing → Type 0)
-      → ((done : List Act) (act : Act) → Runs plan commands s done → Obeys commands (after_all plan commands s done) (order_at plan (after_all plan commands s done)) act
+  pub always : (s : Model) (P : List Act → Model → Type 0)
+      → ((done : List Act) (act : Act) → Runs plan commands s done → Performs commands (after_all plan commands s done) (action_at plan (after_all plan commands s done)) act
       → P done (after_all plan commands s done) → P (done ++ act ∷ []) (after plan commands (after_all plan commands s done) act))
       → P [] s → (acts : List Act) → Runs plan commands s acts → P acts (after_all plan commands s acts)
   always s P step start [] runs = start
   always s P step start (act ∷ acts) runs =
-      always (after plan commands s act) (λ (done : List Act) (t : Standing). P (act ∷ done) t) (λ done next runs' o p. step (act ∷ done) next (runs.0, runs') o p) (step [] act tt runs.0 start) acts runs.1
+      always (after plan commands s act) (λ (done : List Act) (t : Model). P (act ∷ done) t)
+      (λ done next runs' o p. step (act ∷ done) next (runs.0, runs') o p) (step [] act tt runs.0 start) acts runs.1
 
   -- of the acts so far, and how far the station is
-  pub always_far : (s : Standing) (P : Progress → List Act → Type 0)
-      → ((done : List Act) (act : Act) → Runs plan commands s done → Obeys commands (after_all plan commands s done) (order_at plan (after_all plan commands s done)) act
+  pub always_far : (s : Model) (P : Progress → List Act → Type 0)
+      → ((done : List Act) (act : Act) → Runs plan commands s done → Performs commands (after_all plan commands s done) (action_at plan (after_all plan commands s done)) act
       → P (after_all plan commands s done).progress done
-      → P (moved plan commands (order_at plan (after_all plan commands s done)) (with_progress turned (after_all plan commands s done)) act).progress (done ++ act ∷ []))
+      → P (moved plan commands (action_at plan (after_all plan commands s done)) (with_progress turned (after_all plan commands s done)) act).progress (done ++ act ∷ []))
       → P s.progress [] → (acts : List Act) → Runs plan commands s acts → P (after_all plan commands s acts).progress acts
-  always_far s P step start acts runs = always s (λ (done : List Act) (t : Standing). P t.progress done) far start acts runs where
-    far : (done : List Act) (act : Act) → Runs plan commands s done → Obeys commands (after_all plan commands s done) (order_at plan (after_all plan commands s done)) act
+  always_far s P step start acts runs = always s (λ (done : List Act) (t : Model). P t.progress done) far start acts runs where
+    far : (done : List Act) (act : Act) → Runs plan commands s done → Performs commands (after_all plan commands s done) (action_at plan (after_all plan commands s done)) act
         → P (after_all plan commands s done).progress done → P (after plan commands (after_all plan commands s done) act).progress (done ++ act ∷ [])
     far done act runs o p =
         let t = after_all plan commands s done in
-        subst (λ (q : Progress). P q (done ++ act ∷ [])) (sym (ended_progress (moved plan commands (order_at plan t) (with_progress turned t) act))) (step done act runs o p)
+        subst (λ (q : Progress). P q (done ++ act ∷ [])) (sym (ended_progress (moved plan commands (action_at plan t) (with_progress turned t) act))) (step done act runs o p)
 
 -- how far it is behind one act more
 pub progress_behind : (plan : Plan) (commands : List Task) (scope : Scope) (done : List Act) (act : Act)
-    → (stood plan commands scope (done ++ act ∷ [])).progress ≡ (moved plan commands (order_at plan (stood plan commands scope done)) (with_progress turned (stood plan commands scope done)) act).progress
+    → (stood plan commands scope (done ++ act ∷ [])).progress ≡ (moved plan commands (action_at plan (stood plan commands scope done))
+    (with_progress turned (stood plan commands scope done)) act).progress
 progress_behind plan commands scope done act =
     let s = stood plan commands scope done in
-    ap (λ (x : Standing). x.progress) (after_all-append plan commands (opening plan scope) done (act ∷ [])) ∙ ended_progress (moved plan commands (order_at plan s) (with_progress turned s) act)
+    ap (λ (x : Model). x.progress) (after_all-append plan commands (opening plan scope) done (act ∷ [])) ∙ ended_progress (moved plan commands (action_at plan s) (with_progress turned s) act)

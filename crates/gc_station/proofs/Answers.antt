@@ -15,8 +15,8 @@ use Rattle.gc_texts.specs.Endings.{Skipped, Missed}
 use Rattle.gc_station.specs.declared.mark.Mark.{Mark}
 use Rattle.gc_station.specs.declared.plan.Plan.{Plan}
 use Rattle.gc_links.specs.declared.link.Moment.{Moment}
-use Rattle.gc_station.specs.declared.progress.Order.{Order}
-use Rattle.gc_station.specs.declared.progress.Order.TheVariants as orders
+use Rattle.gc_station.specs.declared.progress.Action.{Action}
+use Rattle.gc_station.specs.declared.progress.Action.TheVariants as actions
 use Rattle.gc_station.specs.declared.progress.Progress.{Progress}
 use Rattle.gc_station.specs.declared.progress.Until.{Until}
 use Rattle.gc_links.specs.Acts.{Act, Told, Untold, Put, Cut, Gave, Silent, Ended, Broke, Closed, Opened, Unopened}
@@ -29,10 +29,10 @@ use Rattle.gc_station.specs.Marks.{commands_in}
 use Rattle.gc_station.specs.Reasons.{IsFor}
 use Rattle.gc_station.specs.Records.{Record}
 use Rattle.gc_station.specs.Runs.{stood}
-use Rattle.gc_station.specs.Standing.{Standing, opening, order_at, waiting_of, mark_next, place_next, request_text, null_text, first_text, with_progress, is_heard, client_sent, asks_null, asks_first, asks_next, bound_next, with_records, skips, skips_first, after_clock, after_put, after_open, after_read, Puts, ReadsClock, IsOpening, IsReading, Obeys, moved, Runs}
+use Rattle.gc_station.specs.Model.{Model, opening, action_at, waiting_of, mark_next, place_next, request_text, null_text, first_text, with_progress, is_heard, client_sent, asks_null, asks_first, asks_next, is_chained_behind_next, with_records, skips, skips_first, after_clock, after_put, after_open, after_read, Puts, ReadsClock, IsOpening, IsReading, Performs, moved, Runs}
 use Rattle.gc_station.proofs.EachRun.{fine_stood}
-use Rattle.gc_station.proofs.Facts.{order_for}
-use Rattle.gc_station.proofs.Fine.{Fine}
+use Rattle.gc_station.proofs.Facts.{action_for}
+use Rattle.gc_station.proofs.Invariant.{Invariant}
 use Rattle.gc_station.proofs.Going.{after_all-append}
 use Rattle.gc_station.proofs.Growing.{losing_records}
 use Rattle.gc_station.proofs.Lists.{all_append, all_on, Rows, rows_more}
@@ -58,7 +58,8 @@ client_is c target call deadline room = ap (λ (b : Bool). client_sent c (id_sen
   not_full n w low = grind (arith, nat_tests, low)
 
 -- one more waits, behind the others
-sent_honest : (plan : Plan) (commands : List Task) (scope : Scope) (acts : List Act) (act : Act) (c : ById) (marks : List (Option Mark)) (records : List Record) (target : ℕ) (call : Call) (deadline : ℕ) (mark : Option Mark)
+sent_honest : (plan : Plan) (commands : List Task) (scope : Scope) (acts : List Act) (act : Act) (c : ById) (marks : List (Option Mark))
+    (records : List Record) (target : ℕ) (call : Call) (deadline : ℕ) (mark : Option Mark)
     → ((d : ℕ) → IsBefore d act) → c.next < 8 → length c.waiting < 7 → length marks ≡ length c.waiting
     → Waits plan commands scope (acts ++ act ∷ []) ((c.next + 1) % 8) (length c.waiting + 1) (length acts) (length c.waiting) (pending_of target call deadline) mark
     → Honest plan commands scope acts (acts ++ act ∷ []) c marks records
@@ -78,18 +79,21 @@ sent_honest plan commands scope acts act c marks records target call deadline ma
           (λ n j p y low w.
           let below : j < length ws = omega (arith, low) in (
             asked_among plan commands scope acts Stayed n j _ p y w,
-            asked_as plan commands scope (acts ++ act ∷ []) Stayed n j j _ _ p y (λ above. above) (ids.others j below) (asked_more plan commands scope acts act Stayed Stayed n j _ p y (stays_still act on) w),
+            asked_as plan commands scope (acts ++ act ∷ []) Stayed n j j _ _ p y
+                (λ above. above) (ids.others j below) (asked_more plan commands scope acts act Stayed Stayed n j _ p y (stays_still act on) w),
           )) h.waiting one);
       written = h.written;
     }
 
 -- the request that goes out
-asked_here : (plan : Plan) (commands : List Task) (scope : Scope) (acts : List Act) (act : Act) (target : ℕ) (call : Call) (deadline : ℕ) (mark : Option Mark) → Fine plan commands (stood plan commands scope acts)
-    → length (stood plan commands scope acts).client.waiting < 7 → (0 < length (stood plan commands scope acts).client.waiting → IsAsking (order_at plan (stood plan commands scope acts)))
+asked_here : (plan : Plan) (commands : List Task) (scope : Scope) (acts : List Act) (act : Act) (target : ℕ) (call : Call) (deadline : ℕ) (mark : Option Mark)
+    → Invariant plan commands (stood plan commands scope acts)
+    → length (stood plan commands scope acts).client.waiting < 7 → (0 < length (stood plan commands scope acts).client.waiting → IsAsking (action_at plan (stood plan commands scope acts)))
     → ((m : Mark) → mark ≡ Some m → Marked plan commands scope acts m)
     → ((m : Mark) → mark ≡ Some m → deadline ≡ deadline_behind plan commands scope acts)
     → Puts (request_text (stood plan commands scope acts).client call) act
-    → Waits plan commands scope (acts ++ act ∷ []) (((stood plan commands scope acts).client.next + 1) % 8) (length (stood plan commands scope acts).client.waiting + 1) (length acts) (length (stood plan commands scope acts).client.waiting)
+    → Waits plan commands scope (acts ++ act ∷ []) (((stood plan commands scope acts).client.next + 1) % 8)
+    (length (stood plan commands scope acts).client.waiting + 1) (length acts) (length (stood plan commands scope acts).client.waiting)
     (pending_of target call deadline) mark
 asked_here plan commands scope acts act target call deadline mark fine room asks its at puts =
     let c = (stood plan commands scope acts).client in
@@ -107,44 +111,58 @@ asked_here plan commands scope acts act target call deadline mark fine room asks
       stays = tt;
     }
 
-is_asking : (o : Order) → (o ≡ orders.Send) ⊎ (o ≡ orders.Flush) → IsAsking o
-is_asking o (inl is) = subst (λ (x : Order). IsAsking x) (sym is) tt
-is_asking o (inr is) = subst (λ (x : Order). IsAsking x) (sym is) tt
+is_asking : (o : Action) → (o ≡ actions.Send) ⊎ (o ≡ actions.Flush) → IsAsking o
+is_asking o (inl is) = subst (λ (x : Action). IsAsking x) (sym is) tt
+is_asking o (inr is) = subst (λ (x : Action). IsAsking x) (sym is) tt
 
 -- a command's
-command_honest : (plan : Plan) (commands : List Task) (scope : Scope) (acts : List Act) (act : Act) (target : ℕ) (call : Call) → Fine plan commands (stood plan commands scope acts) → IsHonest plan commands scope acts (acts ++ act ∷ []) (stood plan commands scope acts)
-    → order_at plan (stood plan commands scope acts) ≡ orders.Send → length (stood plan commands scope acts).client.waiting < 7
+command_honest : (plan : Plan) (commands : List Task) (scope : Scope) (acts : List Act) (act : Act) (target : ℕ) (call : Call)
+    → Invariant plan commands (stood plan commands scope acts) → IsHonest plan commands scope acts (acts ++ act ∷ []) (stood plan commands scope acts)
+    → action_at plan (stood plan commands scope acts) ≡ actions.Send → length (stood plan commands scope acts).client.waiting < 7
     → Puts (request_text (stood plan commands scope acts).client call) act
     → Honest plan commands scope (acts ++ act ∷ []) (acts ++ act ∷ []) (with_sent (stood plan commands scope acts).client target call (deadline_behind plan commands scope acts))
     ((stood plan commands scope acts).marks ++ Some (mark_next plan commands (stood plan commands scope acts).progress) ∷ []) (stood plan commands scope acts).records
 command_honest plan commands scope acts act target call fine h is room puts =
     let s = stood plan commands scope acts in
     let c = s.client in
-    sent_honest plan commands scope acts act c s.marks s.records target call (deadline_behind plan commands scope acts) (Some (mark_next plan commands s.progress)) (puts_still _ act puts) fine.digit room fine.paired
+    sent_honest plan commands scope acts act c s.marks s.records target call (deadline_behind plan commands scope acts)
+    (Some (mark_next plan commands s.progress)) (puts_still _ act puts) fine.digit room fine.paired
     (asked_here plan commands scope acts act target call (deadline_behind plan commands scope acts) (Some (mark_next plan commands s.progress)) fine room (λ above. is_asking _ (inl is))
-    (λ m its. let same : mark_next plan commands s.progress ≡ m = cc in record { sends = is; cycle = ap (λ (x : Mark). x.cycle) (sym same); place = ap (λ (x : Mark). x.place) (sym same); sent = ap (λ (x : Mark). x.sent) (sym same) }) (λ m its. refl) puts) h
+    (λ m its. let same : mark_next plan commands s.progress ≡ m = cc in
+    record {
+      sends = is;
+      cycle = ap (λ (x : Mark). x.cycle) (sym same);
+      place = ap (λ (x : Mark). x.place) (sym same);
+      sent =
+          ap (λ (x : Mark). x.sent) (sym same);
+    }) (λ m its. refl) puts) h
 
-first_honest : (plan : Plan) (commands : List Task) (scope : Scope) (acts : List Act) (act : Act) (bound : Bool) (left : List Task) → Fine plan commands (stood plan commands scope acts) → IsHonest plan commands scope acts (acts ++ act ∷ []) (stood plan commands scope acts)
-    → order_at plan (stood plan commands scope acts) ≡ orders.Send → length (stood plan commands scope acts).client.waiting < 7
+first_honest : (plan : Plan) (commands : List Task) (scope : Scope) (acts : List Act) (act : Act) (next_is_chained : Bool) (left : List Task)
+    → Invariant plan commands (stood plan commands scope acts) → IsHonest plan commands scope acts (acts ++ act ∷ []) (stood plan commands scope acts)
+    → action_at plan (stood plan commands scope acts) ≡ actions.Send → length (stood plan commands scope acts).client.waiting < 7
     → 0 < (stood plan commands scope acts).progress.unsent
     → drop (place_next commands (stood plan commands scope acts).progress) commands ≡ left
     → Puts (first_text (stood plan commands scope acts).client left) act
-    → IsHonest plan commands scope (acts ++ act ∷ []) (acts ++ act ∷ []) (with_progress (sent bound) (asks_first (mark_next plan commands (stood plan commands scope acts).progress) left (with_progress turned (stood plan commands scope acts))))
-first_honest plan commands scope acts act bound [] fine h is room some at puts =
+    → IsHonest plan commands scope (acts ++ act ∷ []) (acts ++ act ∷ [])
+    (with_progress (sent next_is_chained) (asks_first (mark_next plan commands (stood plan commands scope acts).progress) left
+    (with_progress turned (stood plan commands scope acts))))
+first_honest plan commands scope acts act next_is_chained [] fine h is room some at puts =
     let s = stood plan commands scope acts in
     let none : length commands - place_next commands s.progress ≡ 0 = sym (length-drop (place_next commands s.progress) commands) ∙ ap length at in
     let within = fine.unsent in
     absurd (omega (arith, none, some, within))
-first_honest plan commands scope acts act bound (task ∷ others) fine h is room some at puts =
+first_honest plan commands scope acts act next_is_chained (task ∷ others) fine h is room some at puts =
     let s = stood plan commands scope acts in
     let d : later s.progress.moment.elapsed task.deadline ≡ deadline_behind plan commands scope acts = ap (λ (left : List Task). later s.progress.moment.elapsed (first_deadline left)) (sym at) in
     subst (λ (c : ById). Honest plan commands scope (acts ++ act ∷ []) (acts ++ act ∷ []) c (s.marks ++ Some (mark_next plan commands s.progress) ∷ []) s.records)
-    (sym (ap (λ (e : ℕ). client_sent s.client (sends WINDOW s.client task.command.target task.command.call e)) d ∙ client_is s.client task.command.target task.command.call (deadline_behind plan commands scope acts) room))
+    (sym (ap (λ (e : ℕ). client_sent s.client (sends WINDOW s.client task.command.target task.command.call e)) d
+    ∙ client_is s.client task.command.target task.command.call (deadline_behind plan commands scope acts) room))
     (command_honest plan commands scope acts act task.command.target task.command.call fine h is room puts)
 
 -- a null procedure's
-null_honest : (plan : Plan) (commands : List Task) (scope : Scope) (acts : List Act) (act : Act) (f : Progress → Progress) → Fine plan commands (stood plan commands scope acts) → IsHonest plan commands scope acts (acts ++ act ∷ []) (stood plan commands scope acts)
-    → length (stood plan commands scope acts).client.waiting < 7 → (0 < length (stood plan commands scope acts).client.waiting → IsAsking (order_at plan (stood plan commands scope acts)))
+null_honest : (plan : Plan) (commands : List Task) (scope : Scope) (acts : List Act) (act : Act) (f : Progress → Progress)
+    → Invariant plan commands (stood plan commands scope acts) → IsHonest plan commands scope acts (acts ++ act ∷ []) (stood plan commands scope acts)
+    → length (stood plan commands scope acts).client.waiting < 7 → (0 < length (stood plan commands scope acts).client.waiting → IsAsking (action_at plan (stood plan commands scope acts)))
     → Puts (request_text (stood plan commands scope acts).client NullProc) act
     → IsHonest plan commands scope (acts ++ act ∷ []) (acts ++ act ∷ []) (with_progress f (asks_null plan (with_progress turned (stood plan commands scope acts))))
 null_honest plan commands scope acts act f fine h room asks puts =
@@ -156,7 +174,8 @@ null_honest plan commands scope acts act f fine h room asks puts =
       never : (m : Mark) → None ≡ Some m → ⊥
       never m e = cc
 
-put_honest : (plan : Plan) (commands : List Task) (scope : Scope) (acts : List Act) (requests : ℕ) (f : Standing → Standing) (t : Standing) (act : Act) → IsHonest plan commands scope acts acts (f t) → IsHonest plan commands scope acts acts (after_put requests f t act)
+put_honest : (plan : Plan) (commands : List Task) (scope : Scope) (acts : List Act) (requests : ℕ) (f : Model → Model) (t : Model) (act : Act)
+    → IsHonest plan commands scope acts acts (f t) → IsHonest plan commands scope acts acts (after_put requests f t act)
 put_honest plan commands scope acts requests f t (Cut out n) h = h
 put_honest plan commands scope acts requests f t act h = h
 
@@ -167,7 +186,8 @@ unsent_true : (plan : Plan) (commands : List Task) (scope : Scope) (all : List A
 unsent_true plan commands scope all true utc mark command = record { answered = λ line e. cc; late = λ e. cc; lost = λ e. cc }
 unsent_true plan commands scope all false utc mark command = record { answered = λ line e. cc; late = λ e. cc; lost = λ e. cc }
 
-skips_first_true : (plan : Plan) (commands : List Task) (scope : Scope) (all : List Act) (p : Progress) (m : Moment) (mark : Mark) (left : List Task) → AllByRecursion (IsTrue plan commands scope all) (skips_first p m mark left)
+skips_first_true : (plan : Plan) (commands : List Task) (scope : Scope) (all : List Act) (p : Progress) (m : Moment) (mark : Mark) (left : List Task)
+    → AllByRecursion (IsTrue plan commands scope all) (skips_first p m mark left)
 skips_first_true plan commands scope all p m mark [] = tt
 skips_first_true plan commands scope all p m mark (task ∷ others) = (unsent_true plan commands scope all p.missed (skipped_at m p) mark task.command, tt)
 
@@ -175,21 +195,24 @@ skips_true : (plan : Plan) (commands : List Task) (scope : Scope) (all : List Ac
 skips_true plan commands scope all p (Told m) = skips_first_true plan commands scope all p m (mark_next plan commands p) (drop (place_next commands p) commands)
 skips_true plan commands scope all p act = tt
 
--- Each order.
+-- Each action.
 
-clock_honest : (plan : Plan) (commands : List Task) (scope : Scope) (acts : List Act) (act : Act) (f : Moment → Progress → Progress) (s : Standing) → IsHonest plan commands scope acts (acts ++ act ∷ []) s → ReadsClock act
+clock_honest : (plan : Plan) (commands : List Task) (scope : Scope) (acts : List Act) (act : Act) (f : Moment → Progress → Progress) (s : Model)
+    → IsHonest plan commands scope acts (acts ++ act ∷ []) s → ReadsClock act
     → IsHonest plan commands scope (acts ++ act ∷ []) (acts ++ act ∷ []) (after_clock f (with_progress turned s) act)
 clock_honest plan commands scope acts (Told m) f s h o = moment_told plan commands scope acts (Told m) m.elapsed _ _ _ (λ d low. low) (λ d past. past) h
 clock_honest plan commands scope acts Untold f s h o = still plan commands scope acts Untold _ _ _ (λ d. tt) h
 clock_honest plan commands scope acts act f s h o = absurd o
 
-open_honest : (plan : Plan) (commands : List Task) (scope : Scope) (acts : List Act) (act : Act) (s : Standing) → IsHonest plan commands scope acts (acts ++ act ∷ []) s → IsOpening act
+open_honest : (plan : Plan) (commands : List Task) (scope : Scope) (acts : List Act) (act : Act) (s : Model) → IsHonest plan commands scope acts (acts ++ act ∷ []) s → IsOpening act
     → IsHonest plan commands scope (acts ++ act ∷ []) (acts ++ act ∷ []) (after_open plan (with_progress turned s) act)
 open_honest plan commands scope acts Opened s h o = still plan commands scope acts Opened _ _ _ (λ d. tt) h
 open_honest plan commands scope acts Unopened s h o = still plan commands scope acts Unopened _ _ _ (λ d. tt) h
 open_honest plan commands scope acts act s h o = absurd o
 
-read_honest : (plan : Plan) (commands : List Task) (scope : Scope) (acts : List Act) (until : Until) (act : Act) (tail : List Record) → Fine plan commands (stood plan commands scope acts) → IsHonest plan commands scope acts (acts ++ act ∷ []) (stood plan commands scope acts) → IsReading act
+read_honest : (plan : Plan) (commands : List Task) (scope : Scope) (acts : List Act) (until : Until) (act : Act) (tail : List Record)
+    → Invariant plan commands (stood plan commands scope acts) → IsHonest plan commands scope acts (acts ++ act ∷ []) (stood plan commands scope acts)
+    → IsReading act
     → (stood plan commands scope (acts ++ act ∷ [])).records ≡ (after_read plan until (with_progress turned (stood plan commands scope acts)) act).records ++ tail
     → IsHonest plan commands scope (acts ++ act ∷ []) (acts ++ act ∷ []) (after_read plan until (with_progress turned (stood plan commands scope acts)) act)
 read_honest plan commands scope acts until Untold tail fine h o ends = still plan commands scope acts Untold _ _ _ (λ d. tt) h
@@ -204,64 +227,81 @@ read_honest plan commands scope acts until act tail fine h o ends = absurd o
 close_still : (act : Act) → act ≡ Closed → (d : ℕ) → IsBefore d act
 close_still act is d = subst (λ (x : Act). IsBefore d x) (sym is) tt
 
-moved_honest : (plan : Plan) (commands : List Task) (scope : Scope) (acts : List Act) (order : Order) (act : Act) (tail : List Record) → Fine plan commands (stood plan commands scope acts) → IsHonest plan commands scope acts (acts ++ act ∷ []) (stood plan commands scope acts)
-    → order_at plan (stood plan commands scope acts) ≡ order → IsFor plan (stood plan commands scope acts).progress (waiting_of (stood plan commands scope acts)) order
-    → Obeys commands (stood plan commands scope acts) order act
-    → (stood plan commands scope (acts ++ act ∷ [])).records ≡ (moved plan commands order (with_progress turned (stood plan commands scope acts)) act).records ++ tail
-    → IsHonest plan commands scope (acts ++ act ∷ []) (acts ++ act ∷ []) (moved plan commands order (with_progress turned (stood plan commands scope acts)) act)
-moved_honest plan commands scope acts orders.ReadClock act tail fine h is needs o ends =
+moved_honest : (plan : Plan) (commands : List Task) (scope : Scope) (acts : List Act) (action : Action) (act : Act) (tail : List Record)
+    → Invariant plan commands (stood plan commands scope acts) → IsHonest plan commands scope acts (acts ++ act ∷ []) (stood plan commands scope acts)
+    → action_at plan (stood plan commands scope acts) ≡ action → IsFor plan (stood plan commands scope acts).progress (waiting_of (stood plan commands scope acts)) action
+    → Performs commands (stood plan commands scope acts) action act
+    → (stood plan commands scope (acts ++ act ∷ [])).records ≡ (moved plan commands action (with_progress turned (stood plan commands scope acts)) act).records ++ tail
+    → IsHonest plan commands scope (acts ++ act ∷ []) (acts ++ act ∷ []) (moved plan commands action (with_progress turned (stood plan commands scope acts)) act)
+moved_honest plan commands scope acts actions.ReadClock act tail fine h is needs o ends =
     let s = stood plan commands scope acts in clock_honest plan commands scope acts act (λ m p. reckoned_early plan (commands_in s.marks) (told m p)) s h o
-moved_honest plan commands scope acts orders.Renew act tail fine h is needs o ends = clock_honest plan commands scope acts act (λ m p. reckoned_early plan 0 (renewed plan m p)) (stood plan commands scope acts) h o
-moved_honest plan commands scope acts orders.Begin act tail fine h is needs o ends = clock_honest plan commands scope acts act (begun plan (length commands)) (stood plan commands scope acts) h o
-moved_honest plan commands scope acts orders.Open act tail fine h is needs o ends = open_honest plan commands scope acts act (stood plan commands scope acts) h o
-moved_honest plan commands scope acts orders.Clear act tail fine h is needs o ends =
+moved_honest plan commands scope acts actions.Renew act tail fine h is needs o ends =
+    clock_honest plan commands scope acts act (λ m p. reckoned_early plan 0 (renewed plan m p)) (stood plan commands scope acts) h o
+moved_honest plan commands scope acts actions.Begin act tail fine h is needs o ends = clock_honest plan commands scope acts act (begun plan (length commands)) (stood plan commands scope acts) h o
+moved_honest plan commands scope acts actions.Open act tail fine h is needs o ends = open_honest plan commands scope acts act (stood plan commands scope acts) h o
+moved_honest plan commands scope acts actions.Clear act tail fine h is needs o ends =
     let s = stood plan commands scope acts in
     put_honest plan commands scope (acts ++ act ∷ []) _ (with_progress cleared) (with_progress turned s) act (still plan commands scope acts act _ _ _ (puts_still (10 ∷ []) act o) h)
-moved_honest plan commands scope acts orders.Ask act tail fine h is needs o ends =
+moved_honest plan commands scope acts actions.Ask act tail fine h is needs o ends =
     let s = stood plan commands scope acts in
-    put_honest plan commands scope (acts ++ act ∷ []) _ (with_progress (null_sent plan)) (with_progress turned s) act (still plan commands scope acts act _ _ _ (puts_still (null_text s.progress.word) act o) h)
-moved_honest plan commands scope acts orders.Send act tail fine h is needs o ends =
+    put_honest plan commands scope (acts ++ act ∷ []) _ (with_progress (null_sent plan)) (with_progress turned s) act
+    (still plan commands scope acts act _ _ _ (puts_still (null_text s.progress.word) act o) h)
+moved_honest plan commands scope acts actions.Send act tail fine h is needs o ends =
     let s = stood plan commands scope acts in
-    put_honest plan commands scope (acts ++ act ∷ []) _ (λ (x : Standing). with_progress (sent (bound_next commands x.progress)) (asks_next plan commands x)) (with_progress turned s) act
-    (first_honest plan commands scope acts act (bound_next commands s.progress) (drop (place_next commands s.progress) commands) fine h is needs.3.1 needs.2 refl o)
-moved_honest plan commands scope acts orders.Skip act tail fine h is needs o ends =
+    put_honest plan commands scope (acts ++ act ∷ []) _ (λ (x : Model). with_progress (sent (is_chained_behind_next commands x.progress)) (asks_next plan commands x)) (with_progress turned s) act
+    (first_honest plan commands scope acts act (is_chained_behind_next commands s.progress) (drop (place_next commands s.progress) commands) fine h is needs.3.1 needs.2 refl o)
+moved_honest plan commands scope acts actions.Skip act tail fine h is needs o ends =
     let s = stood plan commands scope acts in
-    clock_honest plan commands scope acts act (λ m p. reckoned_early plan (commands_in s.marks) (skipped (bound_next commands s.progress) m p)) (with_records (skips plan commands s.progress act) s)
-    (record { waiting = h.waiting; written = all_append (IsTrue plan commands scope (acts ++ act ∷ [])) s.records (skips plan commands s.progress act) h.written (skips_true plan commands scope (acts ++ act ∷ []) s.progress act) }) o
-moved_honest plan commands scope acts orders.Flush act tail fine h is needs o ends =
+    clock_honest plan commands scope acts act (λ m p. reckoned_early plan (commands_in s.marks) (skipped (is_chained_behind_next commands s.progress) m p))
+    (with_records (skips plan commands s.progress act) s)
+    (record {
+      waiting = h.waiting;
+      written = all_append (IsTrue plan commands scope (acts ++ act ∷ [])) s.records
+          (skips plan commands s.progress act) h.written (skips_true plan commands scope (acts ++ act ∷ []) s.progress act);
+    }) o
+moved_honest plan commands scope acts actions.Flush act tail fine h is needs o ends =
     let s = stood plan commands scope acts in
-    put_honest plan commands scope (acts ++ act ∷ []) _ (λ (x : Standing). with_progress asking (asks_null plan x)) (with_progress turned s) act
+    put_honest plan commands scope (acts ++ act ∷ []) _ (λ (x : Model). with_progress asking (asks_null plan x)) (with_progress turned s) act
     (null_honest plan commands scope acts act asking fine h needs.5.1 (λ above. is_asking _ (inr is)) o)
-moved_honest plan commands scope acts (orders.Read until) act tail fine h is needs o ends = read_honest plan commands scope acts until act tail fine h o ends
-moved_honest plan commands scope acts (orders.Close why) act tail fine h is needs o ends = still plan commands scope acts act _ _ _ (close_still act o) h
-moved_honest plan commands scope acts (orders.Stop why) act tail fine h is needs o ends = absurd o
+moved_honest plan commands scope acts (actions.Read until) act tail fine h is needs o ends = read_honest plan commands scope acts until act tail fine h o ends
+moved_honest plan commands scope acts (actions.Close why) act tail fine h is needs o ends = still plan commands scope acts act _ _ _ (close_still act o) h
+moved_honest plan commands scope acts (actions.Stop why) act tail fine h is needs o ends = absurd o
 
-honest_along : (plan : Plan) (commands : List Task) (scope : Scope) (done acts : List Act) → IsHonest plan commands scope done done (stood plan commands scope done) → Runs plan commands (stood plan commands scope done) acts
+honest_along : (plan : Plan) (commands : List Task) (scope : Scope) (done acts : List Act)
+    → IsHonest plan commands scope done done (stood plan commands scope done) → Runs plan commands (stood plan commands scope done) acts
     → IsHonest plan commands scope (done ++ acts) (done ++ acts) (stood plan commands scope (done ++ acts))
 honest_along plan commands scope done [] h runs = subst (λ (xs : List Act). IsHonest plan commands scope xs xs (stood plan commands scope xs)) (sym (append-nil done)) h
 honest_along plan commands scope done (act ∷ acts) h runs =
     let s = stood plan commands scope done in
-    let t = moved plan commands (order_at plan s) (with_progress turned s) act in
+    let t = moved plan commands (action_at plan s) (with_progress turned s) act in
     let next = after_all-append plan commands (opening plan scope) done (act ∷ []) in
     let fine = fine_stood plan commands scope done in
     let lost = losing_records (loses_all t.progress) t in
-    let ends = ap (λ (x : Standing). x.records) next ∙ lost.1 in
+    let ends = ap (λ (x : Model). x.records) next ∙ lost.1 in
     let prior : IsHonest plan commands scope done (done ++ act ∷ []) s = record { waiting = h.waiting; written = more_true plan commands scope done act s.records runs.0 h.written } in
-    let one = moved_honest plan commands scope done (order_at plan s) act lost.0 fine prior refl (order_for plan s.progress (waiting_of s)) runs.0 ends in
+    let one = moved_honest plan commands scope done (action_at plan s) act lost.0 fine prior refl (action_for plan s.progress (waiting_of s)) runs.0 ends in
     let both = losing_honest plan commands scope done act fine runs.0 one in
-    let here = subst (λ (x : Standing). IsHonest plan commands scope (done ++ act ∷ []) (done ++ act ∷ []) x) (sym next) both in
-    let goes_on = subst (λ (x : Standing). Runs plan commands x acts) (sym next) runs.1 in
-    subst (λ (xs : List Act). IsHonest plan commands scope xs xs (stood plan commands scope xs)) (append_assoc done (act ∷ []) acts) (honest_along plan commands scope (done ++ act ∷ []) acts here goes_on)
+    let here = subst (λ (x : Model). IsHonest plan commands scope (done ++ act ∷ []) (done ++ act ∷ []) x) (sym next) both in
+    let goes_on = subst (λ (x : Model). Runs plan commands x acts) (sym next) runs.1 in
+    subst (λ (xs : List Act). IsHonest plan commands scope xs xs (stood plan commands scope xs)) (append_assoc done (act ∷ []) acts)
+    (honest_along plan commands scope (done ++ act ∷ []) acts here goes_on)
 
 -- each record is true
-all_true : (plan : Plan) (commands : List Task) (scope : Scope) (acts : List Act) → Runs plan commands (opening plan scope) acts → AllByRecursion (IsTrue plan commands scope acts) (stood plan commands scope acts).records
+all_true : (plan : Plan) (commands : List Task) (scope : Scope) (acts : List Act) → Runs plan commands (opening plan scope) acts
+    → AllByRecursion (IsTrue plan commands scope acts) (stood plan commands scope acts).records
 all_true plan commands scope acts runs = (honest_along plan commands scope [] acts (record { waiting = tt; written = tt }) runs).written
 
-pub answers_true : (plan : Plan) (commands : List Task) (scope : Scope) (acts : List Act) → Runs plan commands (opening plan scope) acts → AllByRecursion (IsTrueRecord plan commands scope acts) (stood plan commands scope acts).records
-answers_true plan commands scope acts runs = all_on (IsTrue plan commands scope acts) (IsTrueRecord plan commands scope acts) (stood plan commands scope acts).records (λ r is. is.answered) (all_true plan commands scope acts runs)
+pub answers_true : (plan : Plan) (commands : List Task) (scope : Scope) (acts : List Act) → Runs plan commands (opening plan scope) acts
+    → AllByRecursion (IsTrueRecord plan commands scope acts) (stood plan commands scope acts).records
+answers_true plan commands scope acts runs = all_on (IsTrue plan commands scope acts) (IsTrueRecord plan commands scope acts)
+    (stood plan commands scope acts).records (λ r is. is.answered) (all_true plan commands scope acts runs)
 
-pub late_true : (plan : Plan) (commands : List Task) (scope : Scope) (acts : List Act) → Runs plan commands (opening plan scope) acts → AllByRecursion (IsTrulyLate plan commands scope acts) (stood plan commands scope acts).records
-late_true plan commands scope acts runs = all_on (IsTrue plan commands scope acts) (IsTrulyLate plan commands scope acts) (stood plan commands scope acts).records (λ r is. is.late) (all_true plan commands scope acts runs)
+pub late_true : (plan : Plan) (commands : List Task) (scope : Scope) (acts : List Act) → Runs plan commands (opening plan scope) acts
+    → AllByRecursion (IsTrulyLate plan commands scope acts) (stood plan commands scope acts).records
+late_true plan commands scope acts runs = all_on (IsTrue plan commands scope acts) (IsTrulyLate plan commands scope acts)
+    (stood plan commands scope acts).records (λ r is. is.late) (all_true plan commands scope acts runs)
 
-pub lost_true : (plan : Plan) (commands : List Task) (scope : Scope) (acts : List Act) → Runs plan commands (opening plan scope) acts → AllByRecursion (IsTrulyLost plan commands scope acts) (stood plan commands scope acts).records
-lost_true plan commands scope acts runs = all_on (IsTrue plan commands scope acts) (IsTrulyLost plan commands scope acts) (stood plan commands scope acts).records (λ r is. is.lost) (all_true plan commands scope acts runs)
+pub lost_true : (plan : Plan) (commands : List Task) (scope : Scope) (acts : List Act) → Runs plan commands (opening plan scope) acts
+    → AllByRecursion (IsTrulyLost plan commands scope acts) (stood plan commands scope acts).records
+lost_true plan commands scope acts runs = all_on (IsTrue plan commands scope acts) (IsTrulyLost plan commands scope acts)
+    (stood plan commands scope acts).records (λ r is. is.lost) (all_true plan commands scope acts runs)

@@ -1,5 +1,5 @@
 -- The turns of a station's parts: what they leave unanswered, and that each part begins before its client takes a step.
-use Rattle.std.proofs.Common.{◌≡◌, ◌⊎◌, inl, inr, ℕ, ◌||◌, ◌&&◌, Bool, true, false, not, List, [], ◌∷◌, ◌++◌, drop, map, if◌then◌else◌, refl, sym, ◌∙◌, ap, subst}
+use Rattle.std.proofs.Common.{◌≡◌, inl, inr, ℕ, ◌||◌, ◌&&◌, Bool, true, false, not, List, [], ◌∷◌, ◌++◌, drop, map, if◌then◌else◌, refl, sym, ◌∙◌, ap, subst}
 use Rattle.gc_client.specs.Beginning.{the_word, left_by}
 use Rattle.gc_client.specs.Rule.{heard}
 use Rattle.gc_links.specs.declared.link.Moment.{Moment}
@@ -7,15 +7,15 @@ use Rattle.gc_links.specs.Acts.{Act, Told, Put, Cut, Gave}
 use Rattle.gc_texts.specs.declared.tasks.Task.{Task}
 use Rattle.gc_station.specs.declared.mark.Mark.{Mark}
 use Rattle.gc_station.specs.declared.plan.Plan.{Plan}
-use Rattle.gc_station.specs.declared.progress.Order.{Order}
-use Rattle.gc_station.specs.declared.progress.Order.TheVariants as order
+use Rattle.gc_station.specs.declared.progress.Action.{Action}
+use Rattle.gc_station.specs.declared.progress.Action.TheVariants as action
 use Rattle.gc_station.specs.Beginnings.{heard_at, left_behind}
 use Rattle.gc_station.specs.Begun.{AreBegun, heard_in}
 use Rattle.gc_station.specs.Deciding.{has_begun, is_none_left}
 use Rattle.gc_station.specs.Parts as part
 use Rattle.gc_station.specs.Parts.{Part, acting, beginning, doing, ends_part, in_front, joined, nothing, parts_of}
-use Rattle.gc_station.specs.Progressing.{is_over, loses_all, turned}
-use Rattle.gc_station.specs.Standing.{Obeys, Runs, Standing, after, is_heard, lines_behind, losing, mark_next, moved, order_at, place_next, waiting_of, with_progress}
+use Rattle.gc_station.specs.Progressing.{is_over, loses_all}
+use Rattle.gc_station.specs.Model.{Performs, Runs, Model, after, is_heard, lines_behind, mark_next, action_at, place_next}
 use Rattle.gc_station.proofs.Beginnings.{word_after as word_left, word_anew}
 use Rattle.gc_station.proofs.Turns.{over_stays}
 use Rattle.gc_station.proofs.Words.{left_none}
@@ -47,36 +47,37 @@ module _ (plan : Plan) (commands : List Task) where
   heard_piece false lines = refl
 
   -- what it hears are the lines that it brings
-  heard_by : (s : Standing) (o : Order) (act : Act) → Obeys commands s o act → heard_in (beginning s o act).turns ≡ heard_at s act
-  heard_by s order.Ask (Put bytes) obeys = refl
-  heard_by s order.Ask (Cut bytes count) obeys = refl
-  heard_by s (order.Read until) (Gave piece m) obeys = heard_piece (is_heard s.progress.phase) (lines_behind s.rest piece)
-  heard_by s order.ReadClock (Gave piece m) obeys = absurd obeys
-  heard_by s order.Renew (Gave piece m) obeys = absurd obeys
-  heard_by s order.Begin (Gave piece m) obeys = absurd obeys
-  heard_by s order.Open (Gave piece m) obeys = absurd obeys
-  heard_by s order.Clear (Gave piece m) obeys = absurd obeys
-  heard_by s order.Ask (Gave piece m) obeys = absurd obeys
-  heard_by s order.Send (Gave piece m) obeys = absurd obeys
-  heard_by s order.Skip (Gave piece m) obeys = absurd obeys
-  heard_by s order.Flush (Gave piece m) obeys = absurd obeys
-  heard_by s (order.Close why) (Gave piece m) obeys = cc
-  heard_by s (order.Stop why) (Gave piece m) obeys = absurd obeys
+  heard_by : (s : Model) (o : Action) (act : Act) → Performs commands s o act → heard_in (beginning s o act).turns ≡ heard_at s act
+  heard_by s action.Ask (Put bytes) obeys = refl
+  heard_by s action.Ask (Cut bytes count) obeys = refl
+  heard_by s (action.Read until) (Gave piece m) obeys = heard_piece (is_heard s.progress.phase) (lines_behind s.rest piece)
+  heard_by s action.ReadClock (Gave piece m) obeys = absurd obeys
+  heard_by s action.Renew (Gave piece m) obeys = absurd obeys
+  heard_by s action.Begin (Gave piece m) obeys = absurd obeys
+  heard_by s action.Open (Gave piece m) obeys = absurd obeys
+  heard_by s action.Clear (Gave piece m) obeys = absurd obeys
+  heard_by s action.Ask (Gave piece m) obeys = absurd obeys
+  heard_by s action.Send (Gave piece m) obeys = absurd obeys
+  heard_by s action.Skip (Gave piece m) obeys = absurd obeys
+  heard_by s action.Flush (Gave piece m) obeys = absurd obeys
+  heard_by s (action.Close why) (Gave piece m) obeys = cc
+  heard_by s (action.Stop why) (Gave piece m) obeys = absurd obeys
   heard_by s o act obeys = refl
 
-  pub turns_gave : (s : Standing) (o : Order) (piece : List ℕ) (m : Moment) → Obeys commands s o (Gave piece m) → (beginning s o (Gave piece m)).turns ≡ (if is_heard s.progress.phase then map part.Hears (lines_behind s.rest piece) else [])
-  turns_gave s (order.Read until) piece m obeys = refl
-  turns_gave s order.ReadClock piece m obeys = absurd obeys
-  turns_gave s order.Renew piece m obeys = absurd obeys
-  turns_gave s order.Begin piece m obeys = absurd obeys
-  turns_gave s order.Open piece m obeys = absurd obeys
-  turns_gave s order.Clear piece m obeys = absurd obeys
-  turns_gave s order.Ask piece m obeys = absurd obeys
-  turns_gave s order.Send piece m obeys = absurd obeys
-  turns_gave s order.Skip piece m obeys = absurd obeys
-  turns_gave s order.Flush piece m obeys = absurd obeys
-  turns_gave s (order.Close why) piece m obeys = cc
-  turns_gave s (order.Stop why) piece m obeys = absurd obeys
+  pub turns_gave : (s : Model) (o : Action) (piece : List ℕ) (m : Moment) → Performs commands s o (Gave piece m)
+      → (beginning s o (Gave piece m)).turns ≡ (if is_heard s.progress.phase then map part.Hears (lines_behind s.rest piece) else [])
+  turns_gave s (action.Read until) piece m obeys = refl
+  turns_gave s action.ReadClock piece m obeys = absurd obeys
+  turns_gave s action.Renew piece m obeys = absurd obeys
+  turns_gave s action.Begin piece m obeys = absurd obeys
+  turns_gave s action.Open piece m obeys = absurd obeys
+  turns_gave s action.Clear piece m obeys = absurd obeys
+  turns_gave s action.Ask piece m obeys = absurd obeys
+  turns_gave s action.Send piece m obeys = absurd obeys
+  turns_gave s action.Skip piece m obeys = absurd obeys
+  turns_gave s action.Flush piece m obeys = absurd obeys
+  turns_gave s (action.Close why) piece m obeys = cc
+  turns_gave s (action.Stop why) piece m obeys = absurd obeys
 
   -- an act that puts no bytes, and brings none
   abbrev pub IsPlain : Act → Type 0
@@ -85,29 +86,29 @@ module _ (plan : Plan) (commands : List Task) where
   IsPlain (Gave piece m) = ⊥
   IsPlain act = Unit {0}
 
-  pub turns_plain : (s : Standing) (o : Order) (act : Act) → IsPlain act → (beginning s o act).turns ≡ []
-  turns_plain s order.Ask (Put bytes) h = absurd h
-  turns_plain s order.Ask (Cut bytes count) h = absurd h
-  turns_plain s (order.Read until) (Gave piece m) h = absurd h
+  pub turns_plain : (s : Model) (o : Action) (act : Act) → IsPlain act → (beginning s o act).turns ≡ []
+  turns_plain s action.Ask (Put bytes) h = absurd h
+  turns_plain s action.Ask (Cut bytes count) h = absurd h
+  turns_plain s (action.Read until) (Gave piece m) h = absurd h
   turns_plain s o act h = refl
 
   -- the next null procedure is asked for where the one before it is answered
-  pub word_after : (s : Standing) (act : Act) → Obeys commands s (order_at plan s) act → has_begun s.progress ≡ false
-      → (after plan commands s act).progress.word ≡ left_behind s.progress.word (heard_in (beginning s (order_at plan s) act).turns)
-  word_after s act obeys begins = word_left plan commands s act obeys begins ∙ ap (λ l. left_behind s.progress.word l) (sym (heard_by s (order_at plan s) act obeys))
+  pub word_after : (s : Model) (act : Act) → Performs commands s (action_at plan s) act → has_begun s.progress ≡ false
+      → (after plan commands s act).progress.word ≡ left_behind s.progress.word (heard_in (beginning s (action_at plan s) act).turns)
+  word_after s act obeys begins = word_left plan commands s act obeys begins ∙ ap (λ l. left_behind s.progress.word l) (sym (heard_by s (action_at plan s) act obeys))
 
   -- Each part begins first.
 
-  pub steps_none : (s : Standing) (o : Order) (act : Act) → (beginning s o act).steps ≡ []
-  steps_none s order.Ask (Put bytes) = refl
-  steps_none s order.Ask (Cut bytes count) = refl
-  steps_none s (order.Read until) (Gave piece m) = refl
+  pub steps_none : (s : Model) (o : Action) (act : Act) → (beginning s o act).steps ≡ []
+  steps_none s action.Ask (Put bytes) = refl
+  steps_none s action.Ask (Cut bytes count) = refl
+  steps_none s (action.Read until) (Gave piece m) = refl
   steps_none s o act = refl
 
-  pub marks_none : (s : Standing) (o : Order) (act : Act) → (beginning s o act).marks ≡ []
-  marks_none s order.Ask (Put bytes) = refl
-  marks_none s order.Ask (Cut bytes count) = refl
-  marks_none s (order.Read until) (Gave piece m) = refl
+  pub marks_none : (s : Model) (o : Action) (act : Act) → (beginning s o act).marks ≡ []
+  marks_none s action.Ask (Put bytes) = refl
+  marks_none s action.Ask (Cut bytes count) = refl
+  marks_none s (action.Read until) (Gave piece m) = refl
   marks_none s o act = refl
 
 pub nil_both : {A : Type 0} (xs ys : List A) → xs ≡ [] → ys ≡ [] → xs ++ ys ≡ []
@@ -139,14 +140,15 @@ begun_out p [] h = inr (left_none (heard_in p.turns))
 begun_out p (q ∷ ps) h = (left_none (heard_in p.turns), h)
 
 module _ (plan : Plan) (commands : List Task) where
-  pub goes_begun : (t : Standing) → loses_all t.progress ≡ false → has_begun t.progress ≡ true
+  pub goes_begun : (t : Model) → loses_all t.progress ≡ false → has_begun t.progress ≡ true
   goes_begun t e = still (has_begun t.progress) (is_over t.progress) e where
     still : (b over : Bool) → (not b || over) ≡ false → b ≡ true
     still true over e = refl
     still false over e = cc
 
   -- the next part begins with all eight, or there is none
-  next_begun : (t : Standing) (acts : List Act) → loses_all t.progress ≡ true → (has_begun t.progress ≡ false → t.progress.word ≡ the_word) → Runs plan commands t acts → AreBegun t.progress.word (parts_of plan commands t acts)
+  next_begun : (t : Model) (acts : List Act) → loses_all t.progress ≡ true → (has_begun t.progress ≡ false → t.progress.word ≡ the_word)
+      → Runs plan commands t acts → AreBegun t.progress.word (parts_of plan commands t acts)
       → AreBegun the_word (parts_of plan commands t acts)
   next_begun t acts loses anew runs h = by_case (has_begun t.progress) refl loses where
     none_over : (acts : List Act) → is_over t.progress ≡ true → Runs plan commands t acts → AreBegun the_word (parts_of plan commands t acts)
@@ -157,26 +159,28 @@ module _ (plan : Plan) (commands : List Task) where
     by_case true e over = none_over acts over runs
     by_case false e over = subst (λ w. AreBegun w (parts_of plan commands t acts)) (anew e) h
 
-  parts_begun_with : (s : Standing) (act : Act) (acts : List Act) (begun lost : Bool) → has_begun s.progress ≡ begun → loses_all (after plan commands s act).progress ≡ lost
-      → Obeys commands s (order_at plan s) act → Runs plan commands (after plan commands s act) acts → AreBegun (after plan commands s act).progress.word (parts_of plan commands (after plan commands s act) acts)
-      → AreBegun s.progress.word (in_front (if begun then doing plan commands s (order_at plan s) act else beginning s (order_at plan s) act) (begun && lost) (parts_of plan commands (after plan commands s act) acts))
+  parts_begun_with : (s : Model) (act : Act) (acts : List Act) (begun lost : Bool) → has_begun s.progress ≡ begun → loses_all (after plan commands s act).progress ≡ lost
+      → Performs commands s (action_at plan s) act → Runs plan commands (after plan commands s act) acts
+      → AreBegun (after plan commands s act).progress.word (parts_of plan commands (after plan commands s act) acts)
+      → AreBegun s.progress.word (in_front (if begun then doing plan commands s (action_at plan s) act else beginning s (action_at plan s) act)
+      (begun && lost) (parts_of plan commands (after plan commands s act) acts))
   parts_begun_with s act acts false lost e f obeys runs h =
       let t = after plan commands s act in
-      begun_on s.progress.word (beginning s (order_at plan s) act) (parts_of plan commands t acts) (steps_none plan commands s (order_at plan s) act)
+      begun_on s.progress.word (beginning s (action_at plan s) act) (parts_of plan commands t acts) (steps_none plan commands s (action_at plan s) act)
       (subst (λ w. AreBegun w (parts_of plan commands t acts)) (word_after plan commands s act obeys e) h)
   parts_begun_with s act acts true false e f obeys runs h =
       let t = after plan commands s act in
-      let p = doing plan commands s (order_at plan s) act in
+      let p = doing plan commands s (action_at plan s) act in
       let goes : has_begun t.progress ≡ true = goes_begun t f in
       subst (λ w. AreBegun w (in_front p false (parts_of plan commands t acts))) (sym (word_of s.progress.word e))
       (begun_in p (parts_of plan commands t acts) (subst (λ w. AreBegun w (parts_of plan commands t acts)) (word_of t.progress.word goes) h))
   parts_begun_with s act acts true true e f obeys runs h =
       let t = after plan commands s act in
-      let p = doing plan commands s (order_at plan s) act in
+      let p = doing plan commands s (action_at plan s) act in
       subst (λ w. AreBegun w (p ∷ parts_of plan commands t acts)) (sym (word_of s.progress.word e))
       (begun_out p (parts_of plan commands t acts) (next_begun t acts f (λ begins. word_anew plan commands s act obeys e begins) runs h))
 
-  pub parts_begun : (s : Standing) (acts : List Act) → Runs plan commands s acts → AreBegun s.progress.word (parts_of plan commands s acts)
+  pub parts_begun : (s : Model) (acts : List Act) → Runs plan commands s acts → AreBegun s.progress.word (parts_of plan commands s acts)
   parts_begun s [] runs = inl refl
   parts_begun s (act ∷ acts) runs =
       parts_begun_with s act acts (has_begun s.progress) (loses_all (after plan commands s act).progress) refl refl runs.0 runs.1 (parts_begun (after plan commands s act) acts runs.1)
@@ -192,22 +196,22 @@ module _ (plan : Plan) (commands : List Task) where
   none_asking now mark [] = refl
   none_asking now mark (task ∷ others) = refl
 
-  none_putting : (s : Standing) (o : Order) → (part.putting plan commands s o).turns ≡ []
-  none_putting s order.Flush = refl
-  none_putting s order.Send = none_asking s.progress.moment.elapsed (mark_next plan commands s.progress) (drop (place_next commands s.progress) commands)
+  none_putting : (s : Model) (o : Action) → (part.putting plan commands s o).turns ≡ []
+  none_putting s action.Flush = refl
+  none_putting s action.Send = none_asking s.progress.moment.elapsed (mark_next plan commands s.progress) (drop (place_next commands s.progress) commands)
   none_putting s o = refl
 
-  pub none_doing : (s : Standing) (o : Order) (act : Act) → (doing plan commands s o act).turns ≡ []
+  pub none_doing : (s : Model) (o : Action) (act : Act) → (doing plan commands s o act).turns ≡ []
   none_doing s o (Put bytes) = none_putting s o
   none_doing s o (Cut bytes count) = none_putting s o
   none_doing s o (Told m) = refl
   none_doing s o (Gave piece m) = refl
   none_doing s o act = refl
 
-  pub no_turns : (s : Standing) (acts : List Act) → has_begun s.progress ≡ true → FirstHasNone (parts_of plan commands s acts)
+  pub no_turns : (s : Model) (acts : List Act) → has_begun s.progress ≡ true → FirstHasNone (parts_of plan commands s acts)
   no_turns s [] e = refl
   no_turns s (act ∷ acts) e =
       let t = after plan commands s act in
-      let o = order_at plan s in
+      let o = action_at plan s in
       subst (λ b. FirstHasNone (in_front (if b then doing plan commands s o act else beginning s o act) (b && loses_all t.progress) (parts_of plan commands t acts))) (sym e)
       (none_in_front (doing plan commands s o act) (loses_all t.progress) (parts_of plan commands t acts) (none_doing s o act) (λ f. no_turns t acts (goes_begun t f)))

@@ -4,12 +4,12 @@ use Rattle.std.specs.List.{filter_map}
 use Rattle.std.proofs.lemmas.Bool.{eqb-true}
 use Rattle.std.proofs.lemmas.List.{nil_from_length}
 use Rattle.std.proofs.lemmas.List.Elements.{filter_map-append}
-use Rattle.gc_client.specs.Beginning.{IsSubsequence, the_word, left_by, next_if}
+use Rattle.gc_client.specs.Beginning.{IsSubsequence, the_word, left_by, left_by_one}
 use Rattle.gc_client.specs.Rule.{ById, heard}
 use Rattle.gc_texts.specs.declared.tasks.Task.{Task}
 use Rattle.gc_station.specs.declared.plan.Plan.{Plan}
-use Rattle.gc_station.specs.declared.progress.Order.{Order}
-use Rattle.gc_station.specs.declared.progress.Order.TheVariants as orders
+use Rattle.gc_station.specs.declared.progress.Action.{Action}
+use Rattle.gc_station.specs.declared.progress.Action.TheVariants as actions
 use Rattle.gc_station.specs.declared.progress.Progress.{Progress}
 use Rattle.gc_links.specs.Acts.{Act}
 use Rattle.gc_station.specs.Beginnings.{heard_at, heard_behind, left_behind, NoneBeforeTheLastAnswer, IsOfBeginning, IsAnew, BeginsSo}
@@ -19,12 +19,12 @@ use Rattle.gc_station.specs.Quiet.{IsAsking}
 use Rattle.gc_station.specs.Reasons.{IsFor}
 use Rattle.gc_station.specs.Runs.{stood}
 use Rattle.gc_station.specs.Scopes.{Scope}
-use Rattle.gc_station.specs.Standing.{Standing, opening, order_at, waiting_of, with_progress, Obeys, moved, after, after_all, Runs}
+use Rattle.gc_station.specs.Model.{Model, opening, action_at, waiting_of, with_progress, Performs, moved, after, after_all, Runs}
 use Rattle.gc_station.proofs.Always.{progress_behind}
 use Rattle.gc_station.proofs.Closings.{runs_split}
 use Rattle.gc_station.proofs.Counts.{ended_progress}
 use Rattle.gc_station.proofs.EachRun.{fine_stood}
-use Rattle.gc_station.proofs.Facts.{order_for}
+use Rattle.gc_station.proofs.Facts.{action_for}
 use Rattle.gc_station.proofs.Going.{after_all-append, runs_behind}
 use Rattle.gc_station.proofs.Midway.{clash}
 use Rattle.gc_station.proofs.Quiets.{asks_only}
@@ -32,10 +32,11 @@ use Rattle.gc_station.proofs.Words.{word_moved, renews_only, renews_needs}
 
 -- Where a line leaves what a subsequence of later ids answers, its id stands before them.
 
-left_answered : (word : List ℕ) (line : List ℕ) (others : List (List ℕ)) (ids : List ℕ) → IsSubsequence (left_by word (heard line)) (filter_map heard others ++ ids) → IsSubsequence word (filter_map heard (line ∷ others) ++ ids)
+left_answered : (word : List ℕ) (line : List ℕ) (others : List (List ℕ)) (ids : List ℕ)
+    → IsSubsequence (left_by word (heard line)) (filter_map heard others ++ ids) → IsSubsequence word (filter_map heard (line ∷ others) ++ ids)
 left_answered [] line others ids h = tt
 left_answered (asked ∷ rest) line others ids h = by_id (heard line) refl h where
-  by_test : (id : ℕ) (b : Bool) → nat_eq id asked ≡ b → IsSubsequence (next_if b asked rest) (filter_map heard others ++ ids) → IsSubsequence (asked ∷ rest) (id ∷ (filter_map heard others ++ ids))
+  by_test : (id : ℕ) (b : Bool) → nat_eq id asked ≡ b → IsSubsequence (left_by_one b asked rest) (filter_map heard others ++ ids) → IsSubsequence (asked ∷ rest) (id ∷ (filter_map heard others ++ ids))
   by_test id true e h = inl (sym (eqb-true id asked e), h)
   by_test id false e h = inr h
 
@@ -49,33 +50,38 @@ lines_answered word (line ∷ others) ids h = left_answered word line others ids
 
 module _ (plan : Plan) (commands : List Task) where
   -- while it begins the station doesn't begin anew
-  begins_not : (s : Standing) (o : Order) → IsFor plan s.progress (waiting_of s) o → has_begun s.progress ≡ false → o ≡ orders.Renew → ⊥
-  begins_not s o needs begins is = let it = subst (λ (x : Order). IsFor plan s.progress (waiting_of s) x) is needs in clash (has_begun s.progress) it.1 begins
+  begins_not : (s : Model) (o : Action) → IsFor plan s.progress (waiting_of s) o → has_begun s.progress ≡ false → o ≡ actions.Renew → ⊥
+  begins_not s o needs begins is = let it = subst (λ (x : Action). IsFor plan s.progress (waiting_of s) x) is needs in clash (has_begun s.progress) it.1 begins
 
   -- what an act leaves while it begins
-  pub word_after : (s : Standing) (act : Act) → Obeys commands s (order_at plan s) act → has_begun s.progress ≡ false → (after plan commands s act).progress.word ≡ left_behind s.progress.word (heard_at s act)
+  pub word_after : (s : Model) (act : Act) → Performs commands s (action_at plan s) act → has_begun s.progress ≡ false
+      → (after plan commands s act).progress.word ≡ left_behind s.progress.word (heard_at s act)
   word_after s act obeys begins =
-      ap (λ (p : Progress). p.word) (ended_progress (moved plan commands (order_at plan s) (with_progress turned s) act))
-      ∙ word_moved plan commands s (order_at plan s) act obeys (begins_not s (order_at plan s) (order_for plan s.progress (waiting_of s)) begins)
+      ap (λ (p : Progress). p.word) (ended_progress (moved plan commands (action_at plan s) (with_progress turned s) act))
+      ∙ word_moved plan commands s (action_at plan s) act obeys (begins_not s (action_at plan s) (action_for plan s.progress (waiting_of s)) begins)
 
   -- where it begins anew, it is the whole word
-  pub word_anew : (s : Standing) (act : Act) → Obeys commands s (order_at plan s) act → has_begun s.progress ≡ true → has_begun (after plan commands s act).progress ≡ false → (after plan commands s act).progress.word ≡ the_word
+  pub word_anew : (s : Model) (act : Act) → Performs commands s (action_at plan s) act → has_begun s.progress ≡ true
+      → has_begun (after plan commands s act).progress ≡ false → (after plan commands s act).progress.word ≡ the_word
   word_anew s act obeys begun begins =
-      let o = order_at plan s in
+      let o = action_at plan s in
       let far = ended_progress (moved plan commands o (with_progress turned s) act) in
       let it = renews_only plan commands s o act obeys begun (ap has_begun (sym far) ∙ begins) in
-      ap (λ (p : Progress). p.word) far ∙ ap (λ (x : Order). (moved plan commands x (with_progress turned s) act).progress.word) it.0 ∙ ap (λ (x : Act). (moved plan commands orders.Renew (with_progress turned s) x).progress.word) it.2
+      ap (λ (p : Progress). p.word) far ∙ ap (λ (x : Action). (moved plan commands x (with_progress turned s) act).progress.word) it.0
+      ∙ ap (λ (x : Act). (moved plan commands actions.Renew (with_progress turned s) x).progress.word) it.2
 
   none_left : (word ids : List ℕ) → is_none_left word ≡ true → IsSubsequence word ids
   none_left [] ids e = tt
   none_left (asked ∷ others) ids e = cc
 
-  one_before : (s : Standing) (act : Act) (ids : List ℕ) (begun : Bool) → has_begun s.progress ≡ begun → Obeys commands s (order_at plan s) act → IsSubsequence (after plan commands s act).progress.word ids
+  one_before : (s : Model) (act : Act) (ids : List ℕ) (begun : Bool) → has_begun s.progress ≡ begun → Performs commands s (action_at plan s) act
+      → IsSubsequence (after plan commands s act).progress.word ids
       → IsSubsequence s.progress.word (filter_map heard (heard_at s act) ++ ids)
   one_before s act ids true begun obeys h = none_left s.progress.word _ begun
   one_before s act ids false begins obeys h = lines_answered s.progress.word (heard_at s act) ids (subst (λ (w : List ℕ). IsSubsequence w ids) (word_after s act obeys begins) h)
 
-  none_before : (s : Standing) (acts : List Act) → Runs plan commands s acts → has_begun (after_all plan commands s acts).progress ≡ true → IsSubsequence s.progress.word (filter_map heard (heard_behind plan commands s acts))
+  none_before : (s : Model) (acts : List Act) → Runs plan commands s acts → has_begun (after_all plan commands s acts).progress ≡ true
+      → IsSubsequence s.progress.word (filter_map heard (heard_behind plan commands s acts))
   none_before s [] runs begun = none_left s.progress.word [] begun
   none_before s (act ∷ acts) runs begun =
       let u = after plan commands s act in
@@ -83,52 +89,52 @@ module _ (plan : Plan) (commands : List Task) where
       subst (λ (all : List ℕ). IsSubsequence s.progress.word all) (sym (filter_map-append heard (heard_at s act) (heard_behind plan commands u acts)))
       (one_before s act ids (has_begun s.progress) refl runs.0 (none_before u acts runs.1 begun))
 
-asking_begun : (plan : Plan) (s : Standing) (o : Order) → IsAsking o → IsFor plan s.progress (waiting_of s) o → has_begun s.progress ≡ true
-asking_begun plan s orders.Send asks needs = needs.1
-asking_begun plan s orders.Flush asks needs = needs.1
+asking_begun : (plan : Plan) (s : Model) (o : Action) → IsAsking o → IsFor plan s.progress (waiting_of s) o → has_begun s.progress ≡ true
+asking_begun plan s actions.Send asks needs = needs.1
+asking_begun plan s actions.Flush asks needs = needs.1
 asking_begun plan s o asks needs = absurd asks
 
 pub none_before_the_last : NoneBeforeTheLastAnswer
 none_before_the_last plan commands scope earlier between runs asks =
     let t = stood plan commands scope (earlier ++ between) in
-    let begun = asking_begun plan t (order_at plan t) asks (order_for plan t.progress (waiting_of t)) in
+    let begun = asking_begun plan t (action_at plan t) asks (action_for plan t.progress (waiting_of t)) in
     none_before plan commands (stood plan commands scope earlier) between (runs_behind plan commands (opening plan scope) earlier between runs)
-    (ap (λ (x : Standing). has_begun x.progress) (sym (after_all-append plan commands (opening plan scope) earlier between)) ∙ begun)
+    (ap (λ (x : Model). has_begun x.progress) (sym (after_all-append plan commands (opening plan scope) earlier between)) ∙ begun)
 
 -- Each act while it begins, and where it begins anew.
 
 module _ (plan : Plan) (commands : List Task) (scope : Scope) (acts : List Act) (act : Act) where
-  abbrev here : Standing
+  abbrev here : Model
   here = stood plan commands scope acts
 
-  abbrev there : Standing
+  abbrev there : Model
   there = stood plan commands scope (acts ++ act ∷ [])
 
-  of_beginning : Obeys commands here (order_at plan here) act → has_begun here.progress ≡ false → IsOfBeginning plan commands scope acts act
+  of_beginning : Performs commands here (action_at plan here) act → has_begun here.progress ≡ false → IsOfBeginning plan commands scope acts act
   of_beginning obeys begins =
       let fine = fine_stood plan commands scope acts in
       let new = fine.begins begins in
-      let needs = order_for plan here.progress (waiting_of here) in
+      let needs = action_for plan here.progress (waiting_of here) in
       record {
         client = new;
         marks = nil_from_length here.marks (fine.paired ∙ ap (λ (c : ById). length c.waiting) new);
-        asks = λ asks. subst (λ (o : Order). Obeys commands here o act) (asks_only plan commands (order_at plan here) here act obeys asks needs begins) obeys;
-        left = ap (λ (x : Standing). x.progress.word) (after_all-append plan commands (opening plan scope) acts (act ∷ [])) ∙ word_after plan commands here act obeys begins;
+        asks = λ asks. subst (λ (o : Action). Performs commands here o act) (asks_only plan commands (action_at plan here) here act obeys asks needs begins) obeys;
+        left = ap (λ (x : Model). x.progress.word) (after_all-append plan commands (opening plan scope) acts (act ∷ [])) ∙ word_after plan commands here act obeys begins;
       }
 
-  is_anew : Obeys commands here (order_at plan here) act → has_begun here.progress ≡ true → has_begun there.progress ≡ false → IsAnew plan commands scope acts act
+  is_anew : Performs commands here (action_at plan here) act → has_begun here.progress ≡ true → has_begun there.progress ≡ false → IsAnew plan commands scope acts act
   is_anew obeys begun begins =
       let far = progress_behind plan commands scope acts act in
       let on = after_all-append plan commands (opening plan scope) acts (act ∷ []) in
-      let it = renews_only plan commands here (order_at plan here) act obeys begun (ap has_begun (sym far) ∙ begins) in
-      let full = renews_needs plan commands here (order_at plan here) (fine_stood plan commands scope acts) it.0 (order_for plan here.progress (waiting_of here)) in
+      let it = renews_only plan commands here (action_at plan here) act obeys begun (ap has_begun (sym far) ∙ begins) in
+      let full = renews_needs plan commands here (action_at plan here) (fine_stood plan commands scope acts) it.0 (action_for plan here.progress (waiting_of here)) in
       record {
         renews = it.0;
         moment = it.1;
         told = it.2;
         seven = full.0;
         given_up = full.1;
-        word = ap (λ (x : Standing). x.progress.word) on ∙ word_anew plan commands here act obeys begun (ap (λ (x : Standing). has_begun x.progress) (sym on) ∙ begins);
+        word = ap (λ (x : Model). x.progress.word) on ∙ word_anew plan commands here act obeys begun (ap (λ (x : Model). has_begun x.progress) (sym on) ∙ begins);
         client = (fine_stood plan commands scope (acts ++ act ∷ [])).begins begins;
       }
 

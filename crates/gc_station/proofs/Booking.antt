@@ -14,7 +14,7 @@ use Rattle.gc_texts.specs.declared.tasks.Task.{Task}
 use Rattle.gc_station.specs.declared.mark.Mark.{Mark}
 use Rattle.gc_station.specs.Marks.{answer_as, end_of, record_of, records_of}
 use Rattle.gc_station.specs.Records.{Record}
-use Rattle.gc_station.specs.Standing.{client_sent}
+use Rattle.gc_station.specs.Model.{client_sent}
 use Rattle.gc_station.specs.Parts.{Turn, Part, only_turns, only, nothing, joined, asking, IsOf, AreOf, went_out, sent_with, sent_of, timeless}
 
 -- Steps.
@@ -63,7 +63,8 @@ sent_parts x target call None = (sym (append-nil x.settlements), sym (append-nil
 sent_parts x target call (Some s) = (sym (append-nil x.settlements), refl, refl)
 
 goes_parts : (x : Course) (s : Step)
-    → ((goes 7 x s).settlements ≡ x.settlements ++ (goes 7 (course_at x.client) s).settlements) × ((goes 7 x s).sent ≡ x.sent ++ (goes 7 (course_at x.client) s).sent) × ((goes 7 x s).client ≡ stepped x.client s)
+    → ((goes 7 x s).settlements ≡ x.settlements ++ (goes 7 (course_at x.client) s).settlements)
+    × ((goes 7 x s).sent ≡ x.sent ++ (goes 7 (course_at x.client) s).sent) × ((goes 7 x s).client ≡ stepped x.client s)
 goes_parts x (Send target call deadline) = sent_parts x target call (sends 7 x.client target call deadline)
 goes_parts x (Hear line) = (refl, sym (append-nil x.sent), refl)
 goes_parts x (Expire now) = (sym (append-nil x.settlements), sym (append-nil x.sent), refl)
@@ -116,7 +117,8 @@ records_timeless reads utc (m ∷ ms) [] = refl
 records_timeless reads utc (None ∷ ms) (s ∷ ss) = records_timeless reads utc ms ss
 records_timeless reads utc (Some mark ∷ ms) (s ∷ ss) = ap (λ rs. record_of reads 0 mark s ∷ rs) (records_timeless reads utc ms ss)
 
-records_append : (reads : Call → List ℕ → Reading) (ms : List (Option Mark)) (ss ts : List Settlement) → records_of reads 0 ms (ss ++ ts) ≡ records_of reads 0 ms ss ++ records_of reads 0 (drop (length ss) ms) ts
+records_append : (reads : Call → List ℕ → Reading) (ms : List (Option Mark)) (ss ts : List Settlement)
+    → records_of reads 0 ms (ss ++ ts) ≡ records_of reads 0 ms ss ++ records_of reads 0 (drop (length ss) ms) ts
 records_append reads [] [] ts = refl
 records_append reads [] (s ∷ ss) ts = refl
 records_append reads (m ∷ ms) [] ts = refl
@@ -159,7 +161,8 @@ pub sent_both : (xs ys : List Record) → sent_of (xs ++ ys) ≡ sent_of xs ++ s
 sent_both [] ys = refl
 sent_both (r ∷ xs) ys = ap (sent_with (went_out r.end) r) (sent_both xs ys) ∙ sent_more (went_out r.end) r (sent_of xs) (sent_of ys)
 
-pub sent_records : (reads : Call → List ℕ → Reading) (rs : List Record) (utc : ℕ) (ms : List (Option Mark)) (ss : List Settlement) → sent_of (rs ++ records_of reads utc ms ss) ≡ sent_of rs ++ records_of reads utc ms ss
+pub sent_records : (reads : Call → List ℕ → Reading) (rs : List Record) (utc : ℕ) (ms : List (Option Mark)) (ss : List Settlement)
+    → sent_of (rs ++ records_of reads utc ms ss) ≡ sent_of rs ++ records_of reads utc ms ss
 sent_records reads rs utc ms ss = sent_both rs (records_of reads utc ms ss) ∙ ap (λ xs. sent_of rs ++ xs) (records_sent reads utc ms ss)
 
 pub of_append : (commands : List Task) (ms ns : List (Option Mark)) (xs ys : List Asked) → AreOf commands ms xs → AreOf commands ns ys → AreOf commands (ms ++ ns) (xs ++ ys)
@@ -174,7 +177,8 @@ of_length commands [] (x ∷ xs) h = absurd h
 of_length commands (m ∷ ms) [] h = absurd h
 of_length commands (m ∷ ms) (x ∷ xs) h = ap suc (of_length commands ms xs h.1)
 
-pub of_at : (commands : List Task) (ms : List (Option Mark)) (xs : List Asked) (n : ℕ) (mark : Option Mark) → AreOf commands ms xs → slice_get ms n ≡ Some mark → (a : Asked) × (slice_get xs n ≡ Some a) × IsOf commands mark a
+pub of_at : (commands : List Task) (ms : List (Option Mark)) (xs : List Asked) (n : ℕ) (mark : Option Mark) → AreOf commands ms xs
+    → slice_get ms n ≡ Some mark → (a : Asked) × (slice_get xs n ≡ Some a) × IsOf commands mark a
 of_at commands [] [] n mark h e = cc
 of_at commands [] (x ∷ xs) n mark h e = absurd h
 of_at commands (m ∷ ms) [] n mark h e = absurd h
@@ -194,7 +198,8 @@ all_records reads P (Some mark ∷ ms) (s ∷ ss) f = (f 0 mark s refl refl, all
 -- What is written down.
 
 -- of these requests that wait, and then these that go out, these are settled: so many marks are left, and these records
-pub record Wrote (reads : Call → List ℕ → Reading) (commands : List Task) (ms : List (Option Mark)) (rs : List Record) (more : List (Option Mark)) (ss : List Settlement) (asks : List Asked) (ms' : List (Option Mark)) (rs' : List Record) : Type 0 where
+pub record Wrote (reads : Call → List ℕ → Reading) (commands : List Task) (ms : List (Option Mark)) (rs : List Record) (more : List (Option Mark))
+    (ss : List Settlement) (asks : List Asked) (ms' : List (Option Mark)) (rs' : List Record) : Type 0 where
   pub marks : ms' ≡ drop (length ss) (ms ++ more)
   pub count : length ss ≤ length (ms ++ more)
   pub records : map timeless rs' ≡ map timeless rs ++ records_of reads 0 (ms ++ more) ss
@@ -229,7 +234,8 @@ wrote_both reads commands ms ms1 ms2 more1 more2 rs rs1 rs2 ss1 ss2 asks1 asks2 
       drop_length (suc n) (x ∷ xs) le = let more = drop_length n xs (omega (arith, le)) in omega (arith, more)
 
 -- a client took these steps, and went on to this one; and what was written down
-pub record Books (reads : Call → List ℕ → Reading) (commands : List Task) (c : ById) (ms : List (Option Mark)) (rs : List Record) (p : Part) (c' : ById) (ms' : List (Option Mark)) (rs' : List Record) : Type 0 where
+pub record Books (reads : Call → List ℕ → Reading) (commands : List Task) (c : ById) (ms : List (Option Mark)) (rs : List Record) (p : Part) (c' : ById)
+    (ms' : List (Option Mark)) (rs' : List Record) : Type 0 where
   pub client : client_after c p.steps ≡ c'
   pub wrote : Wrote reads commands ms rs p.marks (settled_by c p.steps) (sent_by c p.steps) ms' rs'
 
@@ -262,14 +268,17 @@ pub books_nothing : (reads : Call → List ℕ → Reading) (commands : List Tas
 books_nothing reads commands c ms rs = record { client = refl; wrote = wrote_none reads commands ms rs }
 
 -- while it begins no step is taken
-pub books_turns : (reads : Call → List ℕ → Reading) (commands : List Task) (c : ById) (ms : List (Option Mark)) (rs : List Record) (turns : List Turn) → Books reads commands c ms rs (only_turns turns) c ms rs
+pub books_turns : (reads : Call → List ℕ → Reading) (commands : List Task) (c : ById) (ms : List (Option Mark)) (rs : List Record) (turns : List Turn)
+    → Books reads commands c ms rs (only_turns turns) c ms rs
 books_turns reads commands c ms rs turns = record { client = refl; wrote = wrote_none reads commands ms rs }
 
-pub books_moment : (reads : Call → List ℕ → Reading) (commands : List Task) (c : ById) (ms : List (Option Mark)) (rs : List Record) (now : ℕ) → Books reads commands c ms rs (only (Expire now ∷ [])) (expires c now) ms rs
+pub books_moment : (reads : Call → List ℕ → Reading) (commands : List Task) (c : ById) (ms : List (Option Mark)) (rs : List Record) (now : ℕ)
+    → Books reads commands c ms rs (only (Expire now ∷ [])) (expires c now) ms rs
 books_moment reads commands c ms rs now = record { client = refl; wrote = wrote_none reads commands ms rs }
 
 -- these are settled
-wrote_settled : (reads : Call → List ℕ → Reading) (commands : List Task) (ms : List (Option Mark)) (rs : List Record) (utc : ℕ) (ss ts : List Settlement) → ts ≡ ss → length ss ≤ length ms → Wrote reads commands ms rs [] ts [] (drop (length ss) ms) (rs ++ records_of reads utc ms ss)
+wrote_settled : (reads : Call → List ℕ → Reading) (commands : List Task) (ms : List (Option Mark)) (rs : List Record) (utc : ℕ) (ss ts : List Settlement)
+    → ts ≡ ss → length ss ≤ length ms → Wrote reads commands ms rs [] ts [] (drop (length ss) ms) (rs ++ records_of reads utc ms ss)
 wrote_settled reads commands ms rs utc ss ts same few =
     let whole : ms ++ [] ≡ ms = append-nil ms in
     subst (λ xs. Wrote reads commands ms rs [] xs [] (drop (length ss) ms) (rs ++ records_of reads utc ms ss)) (sym same) (record {
@@ -280,7 +289,8 @@ wrote_settled reads commands ms rs utc ss ts same few =
     })
 
 -- no more are settled than wait
-few_settled : (ms : List (Option Mark)) (c d : ById) (ss : List Settlement) → length ms ≡ length c.waiting → map of_settled ss ++ map of_pending d.waiting ≡ map of_pending c.waiting → length ss ≤ length ms
+few_settled : (ms : List (Option Mark)) (c d : ById) (ss : List Settlement) → length ms ≡ length c.waiting
+    → map of_settled ss ++ map of_pending d.waiting ≡ map of_pending c.waiting → length ss ≤ length ms
 few_settled ms c d ss paired parts =
     let ended : length (map of_settled ss) ≡ length ss = length-map ss of_settled in
     let count : length (map of_settled ss) + length (map of_pending d.waiting) ≡ length c.waiting =
@@ -291,7 +301,11 @@ pub books_line : (reads : Call → List ℕ → Reading) (commands : List Task) 
     → (let x = hears c line (heard line) in Books reads commands c ms rs (only (Hear line ∷ [])) x.client (drop (length x.settlements) ms) (rs ++ records_of reads utc ms x.settlements))
 books_line reads commands c ms rs utc line paired =
     let x = hears c line (heard line) in
-    record { client = refl; wrote = wrote_settled reads commands ms rs utc x.settlements (x.settlements ++ []) (append-nil x.settlements) (few_settled ms c x.client x.settlements paired (heard_parts c line (heard line))) }
+    record {
+      client = refl;
+      wrote = wrote_settled reads commands ms rs utc x.settlements (x.settlements ++ []) (append-nil x.settlements)
+          (few_settled ms c x.client x.settlements paired (heard_parts c line (heard line)));
+    }
 
 abbrev pub restarting : Part
 restarting = only (Restart ∷ [])
@@ -314,7 +328,8 @@ SentAt reads commands c ms rs target call mark o =
     ((sent_on (course_at c) target call o).client ≡ client_sent c o)
     × Wrote reads commands ms rs (mark ∷ []) ((sent_on (course_at c) target call o).settlements ++ []) ((sent_on (course_at c) target call o).sent ++ []) (ms ++ mark ∷ []) rs
 
-sent_some : (reads : Call → List ℕ → Reading) (commands : List Task) (c : ById) (ms : List (Option Mark)) (rs : List Record) (target : ℕ) (call : Call) (mark : Option Mark) (x : Sending ById) → IsOf commands mark (record { target = target; call = call })
+sent_some : (reads : Call → List ℕ → Reading) (commands : List Task) (c : ById) (ms : List (Option Mark)) (rs : List Record) (target : ℕ) (call : Call)
+    (mark : Option Mark) (x : Sending ById) → IsOf commands mark (record { target = target; call = call })
     → SentAt reads commands c ms rs target call mark (Some x)
 sent_some reads commands c ms rs target call mark x is = (
   refl,
@@ -326,9 +341,11 @@ sent_some reads commands c ms rs target call mark x is = (
   },
 )
 
-pub books_send : (reads : Call → List ℕ → Reading) (commands : List Task) (c : ById) (ms : List (Option Mark)) (rs : List Record) (target : ℕ) (call : Call) (deadline : ℕ) (mark : Option Mark) → length c.waiting < 7 → IsOf commands mark (record { target = target; call = call })
+pub books_send : (reads : Call → List ℕ → Reading) (commands : List Task) (c : ById) (ms : List (Option Mark)) (rs : List Record) (target : ℕ) (call : Call)
+    (deadline : ℕ) (mark : Option Mark) → length c.waiting < 7 → IsOf commands mark (record { target = target; call = call })
     → Books reads commands c ms rs (asking target call deadline mark) (client_sent c (sends 7 c target call deadline)) (ms ++ mark ∷ []) rs
 books_send reads commands c ms rs target call deadline mark room is =
     let h : SentAt reads commands c ms rs target call mark (sends 7 c target call deadline) =
-    subst (SentAt reads commands c ms rs target call mark) (sym (sends_with_room c target call deadline room)) (sent_some reads commands c ms rs target call mark (sending_of c target call deadline) is) in
+    subst (SentAt reads commands c ms rs target call mark) (sym (sends_with_room c target call deadline room))
+    (sent_some reads commands c ms rs target call mark (sending_of c target call deadline) is) in
     record { client = h.0; wrote = h.1 }

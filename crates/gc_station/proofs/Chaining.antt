@@ -10,11 +10,11 @@ use Rattle.gc_texts.specs.Endings.{End, Answered}
 use Rattle.gc_station.specs.declared.cause.Cause.{Cause}
 use Rattle.gc_station.specs.declared.cause.Cause.TheVariants as cause
 use Rattle.gc_station.specs.declared.plan.Plan.{Plan}
-use Rattle.gc_station.specs.declared.progress.Order.{Order}
-use Rattle.gc_station.specs.declared.progress.Order.TheVariants.{Begin, Renew, Open, Send, Skip, Read, Close, Stop}
+use Rattle.gc_station.specs.declared.progress.Action.{Action}
+use Rattle.gc_station.specs.declared.progress.Action.TheVariants.{Begin, Renew, Open, Send, Skip, Read, Close, Stop}
 use Rattle.gc_station.specs.declared.progress.Progress.{Progress}
 use Rattle.gc_station.specs.declared.progress.Waiting.{Waiting}
-use Rattle.gc_links.specs.Acts.{Act, Told, Cut, Closed, Opened}
+use Rattle.gc_links.specs.Acts.{Act, Told, Cut, Opened}
 use Rattle.gc_station.specs.Answers.{IsTrueRecord, answer_of}
 use Rattle.gc_station.specs.Chains.{IsChained, IsLinked}
 use Rattle.gc_station.specs.Deciding.{has_begun}
@@ -26,13 +26,13 @@ use Rattle.gc_station.specs.Reasons.{IsFor, MayGo}
 use Rattle.gc_station.specs.Records.{Record}
 use Rattle.gc_station.specs.Runs.{stood}
 use Rattle.gc_station.specs.Scopes.{Scope}
-use Rattle.gc_station.specs.Standing.{Standing, requests_out, Obeys, Puts, Runs, opening, order_at, waiting_of, place_next, cycles_begun, is_chained, bound_next, with_progress, with_rest, moved, after, after_all}
+use Rattle.gc_station.specs.Model.{Model, requests_out, Performs, Runs, opening, action_at, waiting_of, place_next, cycles_begun, is_chained, is_chained_behind_next, with_progress, with_rest, moved, after, after_all}
 use Rattle.gc_station.proofs.Answers.{answers_true}
 use Rattle.gc_station.proofs.Counts.{ended_progress}
 use Rattle.gc_station.proofs.Each.{each_settled, sent_next}
 use Rattle.gc_station.proofs.EachRun.{fine_stood}
-use Rattle.gc_station.proofs.Facts.{or_true, order_for}
-use Rattle.gc_station.proofs.Fine.{Fine}
+use Rattle.gc_station.proofs.Facts.{or_true, action_for}
+use Rattle.gc_station.proofs.Invariant.{Invariant}
 use Rattle.gc_station.proofs.Going.{after_all-append}
 use Rattle.gc_station.proofs.Lists.{all_append}
 use Rattle.gc_station.proofs.Midway.{clash}
@@ -47,72 +47,85 @@ record Still (p q : Progress) : Type 0 where
   left : q.left ≡ p.left
   unsent : q.unsent ≡ p.unsent
   missed : q.missed ≡ p.missed
-  bound : q.bound ≡ p.bound
-  whole : q.whole ≡ true → p.whole ≡ true
+  next_is_chained : q.next_is_chained ≡ p.next_is_chained
+  chain_unbroken : q.chain_unbroken ≡ true → p.chain_unbroken ≡ true
 
 -- it goes on to the next command, which is bound so
-record Next (bound : Bool) (p q : Progress) : Type 0 where
+record Next (next_is_chained : Bool) (p q : Progress) : Type 0 where
   left : q.left ≡ p.left
   unsent : q.unsent ≡ p.unsent - 1
   missed : q.missed ≡ p.missed
-  is_bound : q.bound ≡ bound
+  is_bound : q.next_is_chained ≡ next_is_chained
 
 -- a cycle of so many commands begins
 record Anew (count : ℕ) (q : Progress) : Type 0 where
   unsent : q.unsent ≡ count
-  whole : q.whole ≡ false
+  chain_unbroken : q.chain_unbroken ≡ false
 
-abbrev Steps : ℕ → Bool → Order → Progress → Progress → Type 0
-Steps count bound Begin p q = Still p q ⊎ Anew count q
-Steps count bound Renew p q = Still p q ⊎ (Still p q × (q.whole ≡ false))
-Steps count bound Send p q = Next bound p q
-Steps count bound Skip p q = Still p q ⊎ (Next bound p q × (q.whole ≡ false))
-Steps count bound (Close why) p q = Still p q × (q.whole ≡ false)
-Steps count bound _ p q = Still p q
+abbrev Steps : ℕ → Bool → Action → Progress → Progress → Type 0
+Steps count next_is_chained Begin p q = Still p q ⊎ Anew count q
+Steps count next_is_chained Renew p q = Still p q ⊎ (Still p q × (q.chain_unbroken ≡ false))
+Steps count next_is_chained Send p q = Next next_is_chained p q
+Steps count next_is_chained Skip p q = Still p q ⊎ (Next next_is_chained p q × (q.chain_unbroken ≡ false))
+Steps count next_is_chained (Close why) p q = Still p q × (q.chain_unbroken ≡ false)
+Steps count next_is_chained _ p q = Still p q
 
-still : (p q : Progress) → q.left ≡ p.left → q.unsent ≡ p.unsent → q.missed ≡ p.missed → q.bound ≡ p.bound → q.whole ≡ p.whole → Still p q
-still p q left unsent missed bound whole = record { left = left; unsent = unsent; missed = missed; bound = bound; whole = λ e. sym whole ∙ e }
+still : (p q : Progress) → q.left ≡ p.left → q.unsent ≡ p.unsent → q.missed ≡ p.missed → q.next_is_chained ≡ p.next_is_chained → q.chain_unbroken ≡ p.chain_unbroken → Still p q
+still p q left unsent missed next_is_chained chain_unbroken = record { left = left; unsent = unsent; missed = missed; next_is_chained = next_is_chained; chain_unbroken = λ e. sym chain_unbroken ∙ e }
 
 -- and is broken
-broken : (p q : Progress) → q.left ≡ p.left → q.unsent ≡ p.unsent → q.missed ≡ p.missed → q.bound ≡ p.bound → q.whole ≡ false → Still p q × (q.whole ≡ false)
-broken p q left unsent missed bound whole = (record { left = left; unsent = unsent; missed = missed; bound = bound; whole = λ e. let both : true ≡ false = sym e ∙ whole in cc }, whole)
+broken : (p q : Progress) → q.left ≡ p.left → q.unsent ≡ p.unsent → q.missed ≡ p.missed → q.next_is_chained ≡ p.next_is_chained → q.chain_unbroken ≡ false → Still p q × (q.chain_unbroken ≡ false)
+broken p q left unsent missed next_is_chained chain_unbroken = (
+  record {
+    left = left;
+    unsent = unsent;
+    missed = missed;
+    next_is_chained = next_is_chained;
+    chain_unbroken =
+        λ e. let both : true ≡ false = sym e ∙ chain_unbroken in cc;
+  },
+  chain_unbroken,
+)
 
-moved_steps : (plan : Plan) (commands : List Task) (order : Order) (s : Standing) (act : Act) → Steps (length commands) (bound_next commands s.progress) order s.progress (moved plan commands order s act).progress
-moved_steps plan commands Begin s (Told m) = inr (record { unsent = refl; whole = refl })
+moved_steps : (plan : Plan) (commands : List Task) (action : Action) (s : Model) (act : Act)
+    → Steps (length commands) (is_chained_behind_next commands s.progress) action s.progress (moved plan commands action s act).progress
+moved_steps plan commands Begin s (Told m) = inr (record { unsent = refl; chain_unbroken = refl })
 moved_steps plan commands Begin s act = inl (still s.progress _ refl refl refl refl refl)
 moved_steps plan commands Renew s (Told m) = inr (broken s.progress _ refl refl refl refl refl)
 moved_steps plan commands Renew s act = inl (still s.progress _ refl refl refl refl refl)
 moved_steps plan commands Open s Opened = still s.progress _ refl refl refl refl refl
 moved_steps plan commands Open s act = (broken s.progress _ refl refl refl refl refl).0
 moved_steps plan commands Send s (Cut bytes n) =
-    subst (λ (x : Standing). Next (bound_next commands s.progress) s.progress (failing (cause.Write (requests_out plan commands s.progress) n) x.progress)) (is_sent plan commands s)
+    subst (λ (x : Model). Next (is_chained_behind_next commands s.progress) s.progress (failing (cause.Write (requests_out plan commands s.progress) n) x.progress)) (is_sent plan commands s)
     (record { left = refl; unsent = refl; missed = refl; is_bound = refl })
 moved_steps plan commands Send s act =
-    subst (λ (x : Standing). Next (bound_next commands s.progress) s.progress x.progress) (is_sent plan commands s) (record { left = refl; unsent = refl; missed = refl; is_bound = refl })
+    subst (λ (x : Model). Next (is_chained_behind_next commands s.progress) s.progress x.progress) (is_sent plan commands s) (record { left = refl; unsent = refl; missed = refl; is_bound = refl })
 moved_steps plan commands Skip s (Told m) = inr (record { left = refl; unsent = refl; missed = refl; is_bound = refl }, refl)
 moved_steps plan commands Skip s act = inl (still s.progress _ refl refl refl refl refl)
 moved_steps plan commands (Close why) s act =
-    closed_along (λ (q : Progress). Still s.progress q × (q.whole ≡ false)) plan (waiting_of (with_rest [] s)) why s.progress
+    closed_along (λ (q : Progress). Still s.progress q × (q.chain_unbroken ≡ false)) plan (waiting_of (with_rest [] s)) why s.progress
     (broken s.progress _ refl refl refl refl refl) (broken s.progress _ refl refl refl refl refl)
-moved_steps plan commands order s act =
-    let is = moved_changed plan commands order s act in
-    still s.progress _ (ap (λ (x : Standing). x.progress.left) is) (ap (λ (x : Standing). x.progress.unsent) is) (ap (λ (x : Standing). x.progress.missed) is) (ap (λ (x : Standing). x.progress.bound) is)
-    (ap (λ (x : Standing). x.progress.whole) is)
+moved_steps plan commands action s act =
+    let is = moved_changed plan commands action s act in
+    still s.progress _ (ap (λ (x : Model). x.progress.left) is) (ap (λ (x : Model). x.progress.unsent) is) (ap (λ (x : Model). x.progress.missed) is)
+    (ap (λ (x : Model). x.progress.next_is_chained) is)
+    (ap (λ (x : Model). x.progress.chain_unbroken) is)
 
-stays_open : (plan : Plan) (commands : List Task) (next : Order) (s : Standing) (act : Act) → Obeys commands s next act → ((why : Cause) → next ≡ Close why → ⊥) → KeepsOpen act
-stays_open plan commands (Read until) s act o other = walk plan commands (λ a (t : Standing). KeepsOpen a) (Read until) s act o (λ bytes m. tt, λ m. tt, tt, tt, tt)
+stays_open : (plan : Plan) (commands : List Task) (next : Action) (s : Model) (act : Act) → Performs commands s next act → ((why : Cause) → next ≡ Close why → ⊥) → KeepsOpen act
+stays_open plan commands (Read until) s act o other = walk plan commands (λ a (t : Model). KeepsOpen a) (Read until) s act o (λ bytes m. tt, λ m. tt, tt, tt, tt)
 stays_open plan commands (Close why) s act o other = absurd (other why refl)
 stays_open plan commands (Stop why) s act o other = absurd o
-stays_open plan commands next s act o other = walk plan commands (λ a (t : Standing). KeepsOpen a) next s act o (λ m. tt, λ n. tt)
+stays_open plan commands next s act o other = walk plan commands (λ a (t : Model). KeepsOpen a) next s act o (λ m. tt, λ n. tt)
 
 -- What every run keeps of the chain where it stands.
 
 -- behind each of these acts it has begun
-abbrev pub StaysBegun : Plan → List Task → Standing → List Act → Type 0
+abbrev pub StaysBegun : Plan → List Task → Model → List Act → Type 0
 StaysBegun plan commands s [] = Unit {0}
 StaysBegun plan commands s (act ∷ acts) = (has_begun (after plan commands s act).progress ≡ true) × StaysBegun plan commands (after plan commands s act) acts
 
-stays_more : (plan : Plan) (commands : List Task) (s : Standing) (acts : List Act) (act : Act) → StaysBegun plan commands s acts → has_begun (after_all plan commands s (acts ++ act ∷ [])).progress ≡ true → StaysBegun plan commands s (acts ++ act ∷ [])
+stays_more : (plan : Plan) (commands : List Task) (s : Model) (acts : List Act) (act : Act) → StaysBegun plan commands s acts
+    → has_begun (after_all plan commands s (acts ++ act ∷ [])).progress ≡ true → StaysBegun plan commands s (acts ++ act ∷ [])
 stays_more plan commands s [] act h e = (e, tt)
 stays_more plan commands s (x ∷ acts) act h e = (h.0, stays_more plan commands (after plan commands s x) acts act h.1 e)
 
@@ -122,7 +135,7 @@ record Whole (plan : Plan) (commands : List Task) (scope : Scope) (acts : List A
   request : Act
   between : List Act
   order : acts ≡ before ++ request ∷ between
-  sends : order_at plan (stood plan commands scope before) ≡ Send
+  sends : action_at plan (stood plan commands scope before) ≡ Send
   cycle : cycles_begun plan p ≡ cycles_begun plan (stood plan commands scope before).progress
   place : place_next commands p ≡ place_next commands (stood plan commands scope before).progress + 1
   stays : AllByRecursion KeepsOpen between
@@ -130,25 +143,27 @@ record Whole (plan : Plan) (commands : List Task) (scope : Scope) (acts : List A
   keeps : StaysBegun plan commands (stood plan commands scope before) (request ∷ between)
 
 -- where it stands behind one act more
-begun_there : (plan : Plan) (commands : List Task) (scope : Scope) (before behind all : List Act) (q : Progress) → all ≡ before ++ behind → (stood plan commands scope all).progress ≡ q → has_begun q ≡ true
+begun_there : (plan : Plan) (commands : List Task) (scope : Scope) (before behind all : List Act) (q : Progress) → all ≡ before ++ behind
+    → (stood plan commands scope all).progress ≡ q → has_begun q ≡ true
     → has_begun (after_all plan commands (stood plan commands scope before) behind).progress ≡ true
-begun_there plan commands scope before behind all q order there begun =
-    ap (λ (x : Standing). has_begun x.progress) (sym (ap (stood plan commands scope) order ∙ after_all-append plan commands (opening plan scope) before behind)) ∙ ap has_begun there ∙ begun
+begun_there plan commands scope before behind all q action there begun =
+    ap (λ (x : Model). has_begun x.progress) (sym (ap (stood plan commands scope) action ∙ after_all-append plan commands (opening plan scope) before behind)) ∙ ap has_begun there ∙ begun
 
 record Chain (plan : Plan) (commands : List Task) (scope : Scope) (acts : List Act) (p : Progress) : Type 0 where
-  bound : 0 < place_next commands p → p.bound ≡ (p.missed || is_chained (drop (place_next commands p) commands))
-  whole : p.whole ≡ true → Whole plan commands scope acts p
+  next_is_chained : 0 < place_next commands p → p.next_is_chained ≡ (p.missed || is_chained (drop (place_next commands p) commands))
+  chain_unbroken : p.chain_unbroken ≡ true → Whole plan commands scope acts p
 
-chain_still : (plan : Plan) (commands : List Task) (scope : Scope) (acts : List Act) (act : Act) (p q : Progress) → (stood plan commands scope (acts ++ act ∷ [])).progress ≡ q → Still p q → (has_begun p ≡ true → q.whole ≡ true → has_begun q ≡ true)
+chain_still : (plan : Plan) (commands : List Task) (scope : Scope) (acts : List Act) (act : Act) (p q : Progress)
+    → (stood plan commands scope (acts ++ act ∷ [])).progress ≡ q → Still p q → (has_begun p ≡ true → q.chain_unbroken ≡ true → has_begun q ≡ true)
     → KeepsOpen act → Chain plan commands scope acts p → Chain plan commands scope (acts ++ act ∷ []) q
 chain_still plan commands scope acts act p q there k begins stays h =
     let place_is : place_next commands q ≡ place_next commands p = ap (λ (n : ℕ). length commands - n) k.unsent in
     record {
-      bound = λ above.
-          k.bound ∙ h.bound (subst (λ (n : ℕ). 0 < n) place_is above) ∙ ap (λ (b : Bool). b || is_chained (drop (place_next commands p) commands)) (sym k.missed)
+      next_is_chained = λ above.
+          k.next_is_chained ∙ h.next_is_chained (subst (λ (n : ℕ). 0 < n) place_is above) ∙ ap (λ (b : Bool). b || is_chained (drop (place_next commands p) commands)) (sym k.missed)
           ∙ ap (λ (n : ℕ). q.missed || is_chained (drop n commands)) (sym place_is);
-      whole = λ e.
-          let w = h.whole (k.whole e) in
+      chain_unbroken = λ e.
+          let w = h.chain_unbroken (k.chain_unbroken e) in
           let order = ap (λ xs. xs ++ act ∷ []) w.order ∙ append_assoc w.before (w.request ∷ w.between) (act ∷ []) in
           let begun = begins w.begun e in
           record {
@@ -168,43 +183,47 @@ chain_still plan commands scope acts act p q there k begins stays h =
     }
 
 -- a connection was closed, or it began anew
-chain_closed : (plan : Plan) (commands : List Task) (scope : Scope) (acts all : List Act) (p q : Progress) → Still p q → q.whole ≡ false → Chain plan commands scope acts p → Chain plan commands scope all q
+chain_closed : (plan : Plan) (commands : List Task) (scope : Scope) (acts all : List Act) (p q : Progress) → Still p q → q.chain_unbroken ≡ false
+    → Chain plan commands scope acts p → Chain plan commands scope all q
 chain_closed plan commands scope acts all p q k broken h =
     let place_is : place_next commands q ≡ place_next commands p = ap (λ (n : ℕ). length commands - n) k.unsent in
     record {
-      bound = λ above.
-          k.bound ∙ h.bound (subst (λ (n : ℕ). 0 < n) place_is above) ∙ ap (λ (b : Bool). b || is_chained (drop (place_next commands p) commands)) (sym k.missed)
+      next_is_chained = λ above.
+          k.next_is_chained ∙ h.next_is_chained (subst (λ (n : ℕ). 0 < n) place_is above) ∙ ap (λ (b : Bool). b || is_chained (drop (place_next commands p) commands)) (sym k.missed)
           ∙ ap (λ (n : ℕ). q.missed || is_chained (drop n commands)) (sym place_is);
-      whole = λ e. absurd (clash q.whole e broken);
+      chain_unbroken = λ e. absurd (clash q.chain_unbroken e broken);
     }
 
 -- a cycle begins
 chain_anew : (plan : Plan) (commands : List Task) (scope : Scope) (acts : List Act) (q : Progress) → Anew (length commands) q → Chain plan commands scope acts q
 chain_anew plan commands scope acts q a =
     let none : place_next commands q ≡ 0 = omega (arith, a.unsent) in
-    record { bound = λ above. absurd (omega (arith, none, above)); whole = λ e. absurd (clash q.whole e a.whole) }
+    record { next_is_chained = λ above. absurd (omega (arith, none, above)); chain_unbroken = λ e. absurd (clash q.chain_unbroken e a.chain_unbroken) }
 
 -- the next command
 next_place : (commands : List Task) (p q : Progress) → q.unsent ≡ p.unsent - 1 → 0 < p.unsent → p.unsent ≤ length commands → place_next commands q ≡ place_next commands p + 1
 next_place commands p q less some within = omega (arith, less, some, within)
 
-next_bound : (commands : List Task) (p q : Progress) → Next (bound_next commands p) p q → place_next commands q ≡ place_next commands p + 1 → q.bound ≡ (q.missed || is_chained (drop (place_next commands q) commands))
+next_bound : (commands : List Task) (p q : Progress) → Next (is_chained_behind_next commands p) p q → place_next commands q ≡ place_next commands p + 1
+    → q.next_is_chained ≡ (q.missed || is_chained (drop (place_next commands q) commands))
 next_bound commands p q n at =
     n.is_bound ∙ ap (λ (b : Bool). b || is_chained (drop (place_next commands p + 1) commands)) (sym n.missed) ∙ ap (λ (k : ℕ). q.missed || is_chained (drop k commands)) (sym at)
 
-chain_skipped : (plan : Plan) (commands : List Task) (scope : Scope) (acts : List Act) (p q : Progress) → Next (bound_next commands p) p q → q.whole ≡ false → 0 < p.unsent → p.unsent ≤ length commands → Chain plan commands scope acts q
+chain_skipped : (plan : Plan) (commands : List Task) (scope : Scope) (acts : List Act) (p q : Progress) → Next (is_chained_behind_next commands p) p q
+    → q.chain_unbroken ≡ false → 0 < p.unsent → p.unsent ≤ length commands → Chain plan commands scope acts q
 chain_skipped plan commands scope acts p q n broken some within =
     let at = next_place commands p q n.unsent some within in
-    record { bound = λ above. next_bound commands p q n at; whole = λ e. absurd (clash q.whole e broken) }
+    record { next_is_chained = λ above. next_bound commands p q n at; chain_unbroken = λ e. absurd (clash q.chain_unbroken e broken) }
 
-chain_sent : (plan : Plan) (commands : List Task) (scope : Scope) (acts : List Act) (act : Act) (p q : Progress) → p ≡ turned (stood plan commands scope acts).progress → (stood plan commands scope (acts ++ act ∷ [])).progress ≡ q
-    → order_at plan (stood plan commands scope acts) ≡ Send → (q.whole ≡ true → has_begun q ≡ true)
-    → Next (bound_next commands p) p q → 0 < p.unsent → p.unsent ≤ length commands → Chain plan commands scope (acts ++ act ∷ []) q
+chain_sent : (plan : Plan) (commands : List Task) (scope : Scope) (acts : List Act) (act : Act) (p q : Progress)
+    → p ≡ turned (stood plan commands scope acts).progress → (stood plan commands scope (acts ++ act ∷ [])).progress ≡ q
+    → action_at plan (stood plan commands scope acts) ≡ Send → (q.chain_unbroken ≡ true → has_begun q ≡ true)
+    → Next (is_chained_behind_next commands p) p q → 0 < p.unsent → p.unsent ≤ length commands → Chain plan commands scope (acts ++ act ∷ []) q
 chain_sent plan commands scope acts act p q here there is begins n some within =
     let at = next_place commands p q n.unsent some within in
     record {
-      bound = λ above. next_bound commands p q n at;
-      whole = λ e. record {
+      next_is_chained = λ above. next_bound commands p q n at;
+      chain_unbroken = λ e. record {
         before = acts;
         request = act;
         between = [];
@@ -218,11 +237,12 @@ chain_sent plan commands scope acts act p q here there is begins n some within =
       };
     }
 
--- an act of an order
-chain_moved : (plan : Plan) (commands : List Task) (scope : Scope) (acts : List Act) (act : Act) (order : Order) (w : Waiting) (q : Progress) → Fine plan commands (stood plan commands scope acts)
-    → order_at plan (stood plan commands scope acts) ≡ order → IsFor plan (stood plan commands scope acts).progress w order → Obeys commands (stood plan commands scope acts) order act
-    → (stood plan commands scope (acts ++ act ∷ [])).progress ≡ q → (has_begun (stood plan commands scope acts).progress ≡ true → q.whole ≡ true → has_begun q ≡ true)
-    → Steps (length commands) (bound_next commands (turned (stood plan commands scope acts).progress)) order (turned (stood plan commands scope acts).progress) q
+-- an act of an action
+chain_moved : (plan : Plan) (commands : List Task) (scope : Scope) (acts : List Act) (act : Act) (action : Action) (w : Waiting) (q : Progress)
+    → Invariant plan commands (stood plan commands scope acts)
+    → action_at plan (stood plan commands scope acts) ≡ action → IsFor plan (stood plan commands scope acts).progress w action → Performs commands (stood plan commands scope acts) action act
+    → (stood plan commands scope (acts ++ act ∷ [])).progress ≡ q → (has_begun (stood plan commands scope acts).progress ≡ true → q.chain_unbroken ≡ true → has_begun q ≡ true)
+    → Steps (length commands) (is_chained_behind_next commands (turned (stood plan commands scope acts).progress)) action (turned (stood plan commands scope acts).progress) q
     → Chain plan commands scope acts (turned (stood plan commands scope acts).progress) → Chain plan commands scope (acts ++ act ∷ []) q
 chain_moved plan commands scope acts act Begin w q fine is needs o at begins (inl k) h =
     chain_still plan commands scope acts act _ q at k begins (stays_open plan commands Begin (stood plan commands scope acts) act o (λ why e. cc)) h
@@ -234,14 +254,16 @@ chain_moved plan commands scope acts act Send w q fine is needs o at begins n h 
     chain_sent plan commands scope acts act (turned (stood plan commands scope acts).progress) q refl at is (begins needs.1) n needs.2 fine.unsent
 chain_moved plan commands scope acts act Skip w q fine is needs o at begins (inl k) h =
     chain_still plan commands scope acts act _ q at k begins (stays_open plan commands Skip (stood plan commands scope acts) act o (λ why e. cc)) h
-chain_moved plan commands scope acts act Skip w q fine is needs o at begins (inr n) h = chain_skipped plan commands scope (acts ++ act ∷ []) (turned (stood plan commands scope acts).progress) q n.0 n.1 needs.2 fine.unsent
+chain_moved plan commands scope acts act Skip w q fine is needs o at begins (inr n) h =
+    chain_skipped plan commands scope (acts ++ act ∷ []) (turned (stood plan commands scope acts).progress) q n.0 n.1 needs.2 fine.unsent
 chain_moved plan commands scope acts act (Close why) w q fine is needs o at begins k h = chain_closed plan commands scope acts (acts ++ act ∷ []) _ q k.0 k.1 h
 chain_moved plan commands scope acts act (Stop why) w q fine is needs o at begins k h = absurd o
 chain_moved plan commands scope acts act next w q fine is needs o at begins k h =
     chain_still plan commands scope acts act _ q at k begins (stays_open plan commands next (stood plan commands scope acts) act o (λ why e. cc)) h
 
 -- and so each run
-chain_along : (plan : Plan) (commands : List Task) (scope : Scope) (done acts : List Act) → Runs plan commands (stood plan commands scope done) acts → Chain plan commands scope done (stood plan commands scope done).progress
+chain_along : (plan : Plan) (commands : List Task) (scope : Scope) (done acts : List Act) → Runs plan commands (stood plan commands scope done) acts
+    → Chain plan commands scope done (stood plan commands scope done).progress
     → Chain plan commands scope (done ++ acts) (stood plan commands scope (done ++ acts)).progress
 chain_along plan commands scope done [] runs h = subst (λ (xs : List Act). Chain plan commands scope xs (stood plan commands scope xs).progress) (sym (all_of done)) h where
   all_of : (xs : List Act) → xs ++ [] ≡ xs
@@ -249,19 +271,32 @@ chain_along plan commands scope done [] runs h = subst (λ (xs : List Act). Chai
   all_of (x ∷ xs) = ap (λ ys. x ∷ ys) (all_of xs)
 chain_along plan commands scope done (act ∷ acts) runs h =
     let s = stood plan commands scope done in
-    let t = moved plan commands (order_at plan s) (with_progress turned s) act in
+    let t = moved plan commands (action_at plan s) (with_progress turned s) act in
     let next = after_all-append plan commands (opening plan scope) done (act ∷ []) in
-    let far : (stood plan commands scope (done ++ act ∷ [])).progress ≡ t.progress = ap (λ (x : Standing). x.progress) next ∙ ended_progress t in
+    let far : (stood plan commands scope (done ++ act ∷ [])).progress ≡ t.progress = ap (λ (x : Model). x.progress) next ∙ ended_progress t in
     let at_turn : Chain plan commands scope done (turned s.progress) = record {
-      bound = h.bound;
-      whole = λ e.
-          let w = h.whole e in record { before = w.before; request = w.request; between = w.between; order = w.order; sends = w.sends; cycle = w.cycle; place = w.place; stays = w.stays; begun = w.begun; keeps = w.keeps };
+      next_is_chained = h.next_is_chained;
+      chain_unbroken = λ e.
+          let w = h.chain_unbroken e in record {
+            before = w.before;
+            request = w.request;
+            between = w.between;
+            order = w.order;
+            sends = w.sends;
+            cycle =
+                w.cycle;
+            place = w.place;
+            stays = w.stays;
+            begun = w.begun;
+            keeps = w.keeps;
+          };
     } in
-    let one = chain_moved plan commands scope done act (order_at plan s) (waiting_of s) t.progress (fine_stood plan commands scope done) refl (order_for plan s.progress (waiting_of s)) runs.0 far
-    (begun_kept plan commands s (order_at plan s) act runs.0) (moved_steps plan commands (order_at plan s) (with_progress turned s) act) at_turn in
+    let one = chain_moved plan commands scope done act (action_at plan s) (waiting_of s) t.progress (fine_stood plan commands scope done) refl (action_for plan s.progress (waiting_of s)) runs.0 far
+    (begun_kept plan commands s (action_at plan s) act runs.0) (moved_steps plan commands (action_at plan s) (with_progress turned s) act) at_turn in
     let here = subst (λ (p : Progress). Chain plan commands scope (done ++ act ∷ []) p) (sym far) one in
-    let goes_on = subst (λ (x : Standing). Runs plan commands x acts) (sym next) runs.1 in
-    subst (λ (xs : List Act). Chain plan commands scope xs (stood plan commands scope xs).progress) (append_assoc done (act ∷ []) acts) (chain_along plan commands scope (done ++ act ∷ []) acts goes_on here)
+    let goes_on = subst (λ (x : Model). Runs plan commands x acts) (sym next) runs.1 in
+    subst (λ (xs : List Act). Chain plan commands scope xs (stood plan commands scope xs).progress) (append_assoc done (act ∷ []) acts)
+    (chain_along plan commands scope (done ++ act ∷ []) acts goes_on here)
 
 none_behind : (commands : List Task) → drop (length commands - 0) commands ≡ []
 none_behind commands = let at : length commands - 0 ≡ length commands = omega arith in ap (λ (n : ℕ). drop n commands) at ∙ all_dropped commands where
@@ -269,8 +304,9 @@ none_behind commands = let at : length commands - 0 ≡ length commands = omega 
   all_dropped [] = refl
   all_dropped (task ∷ others) = all_dropped others
 
-chain_stood : (plan : Plan) (commands : List Task) (scope : Scope) (acts : List Act) → Runs plan commands (opening plan scope) acts → Chain plan commands scope acts (stood plan commands scope acts).progress
-chain_stood plan commands scope acts runs = chain_along plan commands scope [] acts runs (record { bound = λ above. sym (ap is_chained (none_behind commands)); whole = λ e. cc })
+chain_stood : (plan : Plan) (commands : List Task) (scope : Scope) (acts : List Act) → Runs plan commands (opening plan scope) acts
+    → Chain plan commands scope acts (stood plan commands scope acts).progress
+chain_stood plan commands scope acts runs = chain_along plan commands scope [] acts runs (record { next_is_chained = λ above. sym (ap is_chained (none_behind commands)); chain_unbroken = λ e. cc })
 
 -- What the last record says.
 
@@ -283,7 +319,8 @@ record Last (reads : Call → List ℕ → Reading) (records : List Record) : Ty
   answered : answer.end ≡ Answered said line
   well : is_value (reads answer.command.call line) ≡ true
 
-well_end : (reads : Call → List ℕ → Reading) (call : Call) (end : End) → is_well reads call end ≡ true → (said : Option Answer) × (line : List ℕ) × (end ≡ Answered said line) × (is_value (reads call line) ≡ true)
+well_end : (reads : Call → List ℕ → Reading) (call : Call) (end : End) → is_well reads call end ≡ true
+    → (said : Option Answer) × (line : List ℕ) × (end ≡ Answered said line) × (is_value (reads call line) ≡ true)
 well_end reads call (Answered said line) e = (said, line, refl, e)
 well_end reads call end e = cc
 
@@ -314,34 +351,36 @@ all_last P [] x all = all.0
 all_last P (y ∷ xs) x all = all_last P xs x all.1
 
 -- the last of the commands that were sent
-last_sent : (commands : List Task) (begun place : ℕ) (left : List Task) → drop place commands ≡ left → 0 < length left → 0 < begun → (task : Task) × (sent_by commands begun place ++ requests begun place (of_task task ∷ []) ≡ sent_by commands begun (place + 1))
+last_sent : (commands : List Task) (begun place : ℕ) (left : List Task) → drop place commands ≡ left → 0 < length left → 0 < begun
+    → (task : Task) × (sent_by commands begun place ++ requests begun place (of_task task ∷ []) ≡ sent_by commands begun (place + 1))
 last_sent commands begun place [] at some many = absurd (omega (arith, some))
 last_sent commands begun place (task ∷ others) at some many = (task, sent_next commands begun place task others at many)
 
 pub chain_whole : (plan : Plan) (commands : List Task) (scope : Scope) (acts : List Act) → Runs plan commands (opening plan scope) acts
-    → order_at plan (stood plan commands scope acts) ≡ Send → IsChained commands (stood plan commands scope acts)
+    → action_at plan (stood plan commands scope acts) ≡ Send → IsChained commands (stood plan commands scope acts)
     → (l : IsLinked plan commands scope acts) × StaysBegun plan commands (stood plan commands scope l.before) (l.request ∷ l.between)
 chain_whole plan commands scope acts runs is chained = of_may needs.4 where
-  s : Standing
+  s : Model
   s = stood plan commands scope acts
 
   h : Chain plan commands scope acts s.progress
   h = chain_stood plan commands scope acts runs
 
-  fine : Fine plan commands s
+  fine : Invariant plan commands s
   fine = fine_stood plan commands scope acts
 
   needs : IsFor plan s.progress (waiting_of s) Send
-  needs = subst (λ (o : Order). IsFor plan s.progress (waiting_of s) o) is (order_for plan s.progress (waiting_of s))
+  needs = subst (λ (o : Action). IsFor plan s.progress (waiting_of s) o) is (action_for plan s.progress (waiting_of s))
 
-  bound : s.progress.bound ≡ true
-  bound = h.bound chained.0 ∙ ap (λ (b : Bool). s.progress.missed || b) chained.1 ∙ or_true s.progress.missed
+  next_is_chained : s.progress.next_is_chained ≡ true
+  next_is_chained = h.next_is_chained chained.0 ∙ ap (λ (b : Bool). s.progress.missed || b) chained.1 ∙ or_true s.progress.missed
 
-  of_last : commands_in s.marks ≡ 0 → Last scope.reads s.records → Whole plan commands scope acts s.progress → (l : IsLinked plan commands scope acts) × StaysBegun plan commands (stood plan commands scope l.before) (l.request ∷ l.between)
+  of_last : commands_in s.marks ≡ 0 → Last scope.reads s.records → Whole plan commands scope acts s.progress
+      → (l : IsLinked plan commands scope acts) × StaysBegun plan commands (stood plan commands scope l.before) (l.request ∷ l.between)
   of_last settled l w =
       let b = stood plan commands scope w.before in
       let before = fine_stood plan commands scope w.before in
-      let asked = subst (λ (o : Order). IsFor plan b.progress (waiting_of b) o) w.sends (order_for plan b.progress (waiting_of b)) in
+      let asked = subst (λ (o : Action). IsFor plan b.progress (waiting_of b) o) w.sends (action_for plan b.progress (waiting_of b)) in
       let some = asked.2 in
       let below = before.begun some in
       let many : 0 < cycles_begun plan b.progress = omega (arith, below) in
@@ -355,7 +394,8 @@ chain_whole plan commands scope acts runs is chained = of_may needs.4 where
       let ends : map of_record l.earlier ++ of_record l.answer ∷ [] ≡ sent_by commands cycle place ++ requests cycle place (of_task sent.0 ∷ []) =
       sym (map-append of_record l.earlier (l.answer ∷ [])) ∙ ap (map of_record) (sym l.last) ∙ all ∙ there ∙ sym sent.1 in
       let own = end_same (map of_record l.earlier) (sent_by commands cycle place) (of_record l.answer) (record { cycle = cycle; place = place; asked = of_task sent.0 }) ends in
-      let true_one = all_last (IsTrueRecord plan commands scope acts) l.earlier l.answer (subst (λ (rs : List Record). AllByRecursion (IsTrueRecord plan commands scope acts) rs) l.last (answers_true plan commands scope acts runs)) in
+      let true_one = all_last (IsTrueRecord plan commands scope acts) l.earlier l.answer
+      (subst (λ (rs : List Record). AllByRecursion (IsTrueRecord plan commands scope acts) rs) l.last (answers_true plan commands scope acts runs)) in
       let linked : IsLinked plan commands scope acts = record {
         before = w.before;
         request = w.request;
@@ -379,9 +419,10 @@ chain_whole plan commands scope acts runs is chained = of_may needs.4 where
       (linked, w.keeps)
 
   of_may : MayGo s.progress (waiting_of s) → (l : IsLinked plan commands scope acts) × StaysBegun plan commands (stood plan commands scope l.before) (l.request ∷ l.between)
-  of_may (inl free) = absurd (clash s.progress.bound bound free)
-  of_may (inr it) = of_last it.0 (last_of scope.reads s.records (ap (λ (reads : Call → List ℕ → Reading). last_well reads false s.records) (sym (stood_reads plan commands scope acts)) ∙ it.1)) (h.whole it.2)
+  of_may (inl free) = absurd (clash s.progress.next_is_chained next_is_chained free)
+  of_may (inr it) = of_last it.0 (last_of scope.reads s.records (ap (λ (reads : Call → List ℕ → Reading). last_well reads false s.records)
+      (sym (stood_reads plan commands scope acts)) ∙ it.1)) (h.chain_unbroken it.2)
 
 pub chain_kept : (plan : Plan) (commands : List Task) (scope : Scope) (acts : List Act) → Runs plan commands (opening plan scope) acts
-    → order_at plan (stood plan commands scope acts) ≡ Send → IsChained commands (stood plan commands scope acts) → IsLinked plan commands scope acts
+    → action_at plan (stood plan commands scope acts) ≡ Send → IsChained commands (stood plan commands scope acts) → IsLinked plan commands scope acts
 chain_kept plan commands scope acts runs is chained = (chain_whole plan commands scope acts runs is chained).0

@@ -10,22 +10,22 @@ use Rattle.gc_station.specs.declared.cause.Cause.{Cause}
 use Rattle.gc_station.specs.declared.cause.Cause.TheVariants as cause
 use Rattle.gc_station.specs.declared.progress.Phase.{Phase}
 use Rattle.gc_station.specs.declared.progress.Phase.TheVariants.{Pausing, Draining, Ready, Closing, Over, Down}
-use Rattle.gc_station.specs.declared.progress.Order.{Order}
-use Rattle.gc_station.specs.declared.progress.Order.TheVariants as order
+use Rattle.gc_station.specs.declared.progress.Action.{Action}
+use Rattle.gc_station.specs.declared.progress.Action.TheVariants as action
 use Rattle.gc_station.specs.declared.progress.Progress.{Progress}
 use Rattle.gc_station.specs.declared.progress.Waiting.{Waiting}
 use Rattle.gc_links.specs.Acts.{Act, Untold, Cut, Ended, Broke, Closed}
-use Rattle.gc_station.specs.Deciding.{has_begun, is_up, is_past, order_in}
+use Rattle.gc_station.specs.Deciding.{has_begun, is_up, is_past, action_in}
 use Rattle.gc_station.specs.Marks.{commands_in}
 use Rattle.gc_station.specs.Progressing.{turned, told, failing, quieted, time_passed, is_finished, is_idle, cleared, closed, is_spared}
 use Rattle.gc_station.specs.Closing.{IsAlone, IsReasoned, Shows, ClosesForACause, EndsDone, EndsBehind, EndsGone, Ends, StopsForACause}
 use Rattle.gc_station.specs.Reasons.{IsFor, IsAtItsEnd}
 use Rattle.gc_station.specs.Runs.{stood}
-use Rattle.gc_station.specs.Standing.{Standing, requests_out, request_text, null_text, first_text, waiting_of, opening, order_at, place_next, with_progress, with_moment, is_heard, lines_behind, came, Obeys, moved, after, after_all, Runs}
+use Rattle.gc_station.specs.Model.{Model, requests_out, request_text, null_text, first_text, waiting_of, opening, action_at, place_next, with_progress, with_moment, is_heard, lines_behind, came, Performs, moved, after, after_all, Runs}
 use Rattle.gc_station.proofs.Counts.{ended_progress}
 use Rattle.gc_station.proofs.EachRun.{fine_stood}
-use Rattle.gc_station.proofs.Facts.{order_for}
-use Rattle.gc_station.proofs.Fine.{Fine, says_done}
+use Rattle.gc_station.proofs.Facts.{action_for}
+use Rattle.gc_station.proofs.Invariant.{Invariant, says_done}
 use Rattle.gc_station.proofs.Going.{after_all-append}
 use Rattle.gc_station.proofs.Walk.{asked_along, came_along, quieted_along, walk}
 use Rattle.gc_station.proofs.Turns.{again_down, closed_down}
@@ -46,12 +46,14 @@ abbrev Decides : Type 0 → Phase → Phase → Cause → Act → Type 0
 Decides Other before behind why act = Failed before behind why act ⊎ (Other ⊎ (behind ≡ before))
 
 -- a call failed
-fail_decides : {Other : Type 0} (before at : Phase) (up : Bool) (why c : Cause) (act : Act) → is_up at ≡ up → Shows why act → (is_up at ≡ false → is_up before ≡ false) → end_of (if up then Closing why else Over why) ≡ Some c
+fail_decides : {Other : Type 0} (before at : Phase) (up : Bool) (why c : Cause) (act : Act) → is_up at ≡ up → Shows why act
+    → (is_up at ≡ false → is_up before ≡ false) → end_of (if up then Closing why else Over why) ≡ Some c
     → Decides Other before (if up then Closing why else Over why) c act
 fail_decides before at true why c act is shows down e = let same : why ≡ c = cc in inl (λ d. cc, subst (λ (x : Cause). Shows x act) same shows)
 fail_decides before at false why c act is shows down e = let same : why ≡ c = cc in inl (λ d. down is, subst (λ (x : Cause). Shows x act) same shows)
 
-failed : {Other : Type 0} (s : Standing) (why c : Cause) (act : Act) → Shows why act → end_of (with_progress (failing why) s).progress.phase ≡ Some c → Decides Other s.progress.phase (with_progress (failing why) s).progress.phase c act
+failed : {Other : Type 0} (s : Model) (why c : Cause) (act : Act) → Shows why act → end_of (with_progress (failing why) s).progress.phase ≡ Some c
+    → Decides Other s.progress.phase (with_progress (failing why) s).progress.phase c act
 failed s why c act shows e = fail_decides s.progress.phase s.progress.phase (is_up s.progress.phase) why c act refl shows (λ d. d) e
 
 paused_same : (at : Phase) (b : Bool) (c : Cause) → end_of (if b then Down else at) ≡ Some c → (if b then Down else at) ≡ at
@@ -64,9 +66,10 @@ quiet_same plan phase p c =
     (λ e. paused_same p.phase (is_past p.pause p && not (is_idle plan p)) c e) (λ e. cc) (λ e. refl)
 
 -- no line changes the phase
-pub came_phase : (heard : Bool) (word piece : List ℕ) (s : Standing) → (came heard word piece s).progress.phase ≡ s.progress.phase
+pub came_phase : (heard : Bool) (word piece : List ℕ) (s : Model) → (came heard word piece s).progress.phase ≡ s.progress.phase
 came_phase heard word piece s =
-    came_along (λ (t : Standing). t.progress.phase ≡ s.progress.phase) (λ t line e. e) heard word piece s refl (asked_along (λ (q : Progress). q.phase ≡ s.progress.phase) (λ q line e. e) s.progress (lines_behind s.rest piece) refl) refl
+    came_along (λ (t : Model). t.progress.phase ≡ s.progress.phase) (λ t line e. e) heard word piece s refl
+    (asked_along (λ (q : Progress). q.phase ≡ s.progress.phase) (λ q line e. e) s.progress (lines_behind s.rest piece) refl) refl
 
 none_left : (a b n : ℕ) → nat_eq a 0 && nat_eq b 0 && nat_eq n 0 ≡ true → (a ≡ 0) × (b ≡ 0) × (n ≡ 0)
 none_left a b n e = grind (arith, nat_tests, e)
@@ -90,7 +93,8 @@ again_ends plan other c n p false false finished tries e = let none = no_try (is
 abbrev NoneLeft : Progress → ℕ → Type 0
 NoneLeft p n = (p.left ≡ 0) × (p.unsent ≡ 0) × (n ≡ 0)
 
-closed_ends : (plan : Plan) (w : Waiting) (other c : Cause) (p : Progress) → (other ≡ cause.Done → NoneLeft p w.commands) → end_of (closed plan w other (turned p)).phase ≡ Some c → EndsBehind plan p w.commands other c
+closed_ends : (plan : Plan) (w : Waiting) (other c : Cause) (p : Progress) → (other ≡ cause.Done → NoneLeft p w.commands)
+    → end_of (closed plan w other (turned p)).phase ≡ Some c → EndsBehind plan p w.commands other c
 closed_ends plan w cause.Done c p done e = let none = done refl in (cc, none.0, none.1, none.2)
 closed_ends plan w cause.Clock c p done e = cc
 closed_ends plan w cause.Turns c p done e = cc
@@ -98,10 +102,10 @@ closed_ends plan w cause.Open c p done e = again_ends plan cause.Open c w.comman
 closed_ends plan w other c p done e = again_ends plan other c w.commands p (is_finished w.commands p) (is_idle plan p || nat_lt 0 p.tries) refl refl e
 
 -- there is no connection behind an act that closed it, or made none, and no other is made
-abbrev pub Gone : Plan → Standing → Order → Phase → Cause → Act → Type 0
+abbrev pub Gone : Plan → Model → Action → Phase → Cause → Act → Type 0
 Gone plan s next behind c act = (is_up behind ≡ false) × EndsGone plan s.progress (waiting_of s) next c act
 
-abbrev DecidesSo : Plan → Standing → Order → Cause → Act → Standing → Type 0
+abbrev DecidesSo : Plan → Model → Action → Cause → Act → Model → Type 0
 DecidesSo plan s next c act t = end_of t.progress.phase ≡ Some c → Decides (Gone plan s next t.progress.phase c act) s.progress.phase t.progress.phase c act
 
 cleared_none : (begun : Bool) (c : Cause) → end_of (if begun then Draining else Ready) ≡ Some c → ⊥
@@ -112,96 +116,104 @@ cleared_up : (begun : Bool) → is_up (if begun then Draining else Ready) ≡ fa
 cleared_up true e = cc
 cleared_up false e = cc
 
-moved_decides : (plan : Plan) (commands : List Task) (next : Order) (s : Standing) (act : Act) (c : Cause) → Obeys commands s next act → (next ≡ order.Close cause.Done → NoneLeft s.progress (commands_in s.marks))
+moved_decides : (plan : Plan) (commands : List Task) (next : Action) (s : Model) (act : Act) (c : Cause) → Performs commands s next act
+    → (next ≡ action.Close cause.Done → NoneLeft s.progress (commands_in s.marks))
     → end_of (moved plan commands next (with_progress turned s) act).progress.phase ≡ Some c
-    → Decides (Gone plan s next (moved plan commands next (with_progress turned s) act).progress.phase c act) s.progress.phase (moved plan commands next (with_progress turned s) act).progress.phase c act
-moved_decides plan commands order.Open s act c o done e =
+    → Decides (Gone plan s next (moved plan commands next (with_progress turned s) act).progress.phase c act) s.progress.phase
+    (moved plan commands next (with_progress turned s) act).progress.phase c act
+moved_decides plan commands action.Open s act c o done e =
     let n = commands_in s.marks in
     let p = s.progress in
-    walk plan commands (DecidesSo plan s order.Open c) order.Open (with_progress turned s) act o
+    walk plan commands (DecidesSo plan s action.Open c) action.Open (with_progress turned s) act o
     (λ m g. cc, λ k g. inr (inl (again_down plan n cause.Open p, inr (refl, again_ends plan cause.Open c n p (is_finished n p) (nat_lt 0 p.tries) refl refl g)))) e
-moved_decides plan commands order.Clear s act c o done e =
+moved_decides plan commands action.Clear s act c o done e =
     let at = (cleared (turned s.progress)).phase in
-    walk plan commands (DecidesSo plan s order.Clear c) order.Clear (with_progress turned s) act o (
+    walk plan commands (DecidesSo plan s action.Clear c) action.Clear (with_progress turned s) act o (
       λ m g. absurd (cleared_none (has_begun s.progress) c g),
       λ n g. fail_decides s.progress.phase at (is_up at) (cause.Write (requests_out plan commands (turned s.progress)) n) c (Cut (10 ∷ []) n) refl (10 ∷ [], refl)
           (λ d. absurd (cleared_up (has_begun s.progress) d)) g,
     ) e
-moved_decides plan commands order.Ask s act c o done e =
+moved_decides plan commands action.Ask s act c o done e =
     let text = null_text s.progress.word in
     let at = s.progress.phase in
-    walk plan commands (DecidesSo plan s order.Ask c) order.Ask (with_progress turned s) act o
+    walk plan commands (DecidesSo plan s action.Ask c) action.Ask (with_progress turned s) act o
     (λ m g. inr (inr refl), λ n g. fail_decides at at (is_up at) (cause.Write (requests_out plan commands (turned s.progress)) n) c (Cut text n) refl (text, refl) (λ d. d) g) e
-moved_decides plan commands order.Send s act c o done e =
+moved_decides plan commands action.Send s act c o done e =
     let text = first_text s.client (drop (place_next commands s.progress) commands) in
     let at = s.progress.phase in
-    walk plan commands (DecidesSo plan s order.Send c) order.Send (with_progress turned s) act o
+    walk plan commands (DecidesSo plan s action.Send c) action.Send (with_progress turned s) act o
     (λ m g. inr (inr refl), λ n g. fail_decides at at (is_up at) (cause.Write (requests_out plan commands (turned s.progress)) n) c (Cut text n) refl (text, refl) (λ d. d) g) e
-moved_decides plan commands order.Flush s act c o done e =
+moved_decides plan commands action.Flush s act c o done e =
     let text = request_text s.client NullProc in
     let at = s.progress.phase in
-    walk plan commands (DecidesSo plan s order.Flush c) order.Flush (with_progress turned s) act o
+    walk plan commands (DecidesSo plan s action.Flush c) action.Flush (with_progress turned s) act o
     (λ m g. inr (inr refl), λ n g. fail_decides at at (is_up at) (cause.Write (requests_out plan commands (turned s.progress)) n) c (Cut text n) refl (text, refl) (λ d. d) g) e
-moved_decides plan commands (order.Read until) s act c o done e =
+moved_decides plan commands (action.Read until) s act c o done e =
     let t = with_progress turned s in
-    walk plan commands (DecidesSo plan s (order.Read until) c) (order.Read until) t act o (
+    walk plan commands (DecidesSo plan s (action.Read until) c) (action.Read until) t act o (
       λ bytes m g. inr (inr (came_phase (is_heard s.progress.phase) s.progress.word bytes (with_moment m (with_progress (told m) t)))),
       λ m g. inr (inr (quiet_same plan s.progress.phase (time_passed until m t.progress) c g)),
       λ g. failed t cause.End c Ended refl g,
       λ g. failed t cause.Read c Broke refl g,
       λ g. failed t cause.Clock c Untold refl g,
     ) e
-moved_decides plan commands (order.Close why) s act c o done e =
-    inr (inl (closed_down plan (waiting_of s) why (turned s.progress), inl (why, o, refl, closed_ends plan (waiting_of s) why c s.progress (λ is. done (ap order.Close is)) e)))
-moved_decides plan commands (order.Stop why) s act c o done e = absurd o
+moved_decides plan commands (action.Close why) s act c o done e =
+    inr (inl (closed_down plan (waiting_of s) why (turned s.progress), inl (why, o, refl, closed_ends plan (waiting_of s) why c s.progress (λ is. done (ap action.Close is)) e)))
+moved_decides plan commands (action.Stop why) s act c o done e = absurd o
 moved_decides plan commands next s act c o done e =
     walk plan commands (DecidesSo plan s next c) next (with_progress turned s) act o (λ m g. inr (inr refl), λ n g. failed (with_progress turned s) cause.Clock c Untold refl g) e
 
 -- where the end is decided, no act leaves the phase: a connection is closed, and without one no act is made
-not_twice : (plan : Plan) (commands : List Task) (s : Standing) (act : Act) (c : Cause) (phase : Phase) → s.progress.phase ≡ phase → end_of phase ≡ Some c → Obeys commands s (order_in phase plan s.progress (waiting_of s)) act
-    → (moved plan commands (order_in phase plan s.progress (waiting_of s)) (with_progress turned s) act).progress.phase ≡ phase → ⊥
+not_twice : (plan : Plan) (commands : List Task) (s : Model) (act : Act) (c : Cause) (phase : Phase) → s.progress.phase ≡ phase → end_of phase ≡ Some c
+    → Performs commands s (action_in phase plan s.progress (waiting_of s)) act
+    → (moved plan commands (action_in phase plan s.progress (waiting_of s)) (with_progress turned s) act).progress.phase ≡ phase → ⊥
 not_twice plan commands s act c (Closing why) is e o same = let down : true ≡ false = sym (ap is_up same) ∙ closed_down plan (waiting_of s) why (turned s.progress) in cc
 not_twice plan commands s act c (Over why) is e o same = absurd o
 not_twice plan commands s act c phase is e o same = cc
 
 -- what an act by which the end was decided shows
-abbrev pub Decided : Plan → Standing → Phase → Cause → Act → Type 0
-Decided plan s behind c act = Failed s.progress.phase behind c act ⊎ Gone plan s (order_at plan s) behind c act
+abbrev pub Decided : Plan → Model → Phase → Cause → Act → Type 0
+Decided plan s behind c act = Failed s.progress.phase behind c act ⊎ Gone plan s (action_at plan s) behind c act
 
-moved_decided : (plan : Plan) (commands : List Task) (s : Standing) (act : Act) (c : Cause) → Obeys commands s (order_at plan s) act → (order_at plan s ≡ order.Close cause.Done → NoneLeft s.progress (commands_in s.marks))
-    → end_of (moved plan commands (order_at plan s) (with_progress turned s) act).progress.phase ≡ Some c → Decided plan s (moved plan commands (order_at plan s) (with_progress turned s) act).progress.phase c act
-moved_decided plan commands s act c o done e = pick (moved_decides plan commands (order_at plan s) s act c o done e) where
-  pick : Decides (Gone plan s (order_at plan s) (moved plan commands (order_at plan s) (with_progress turned s) act).progress.phase c act) s.progress.phase (moved plan commands (order_at plan s) (with_progress turned s) act).progress.phase c act
-      → Decided plan s (moved plan commands (order_at plan s) (with_progress turned s) act).progress.phase c act
+moved_decided : (plan : Plan) (commands : List Task) (s : Model) (act : Act) (c : Cause) → Performs commands s (action_at plan s) act
+    → (action_at plan s ≡ action.Close cause.Done → NoneLeft s.progress (commands_in s.marks))
+    → end_of (moved plan commands (action_at plan s) (with_progress turned s) act).progress.phase ≡ Some c
+    → Decided plan s (moved plan commands (action_at plan s) (with_progress turned s) act).progress.phase c act
+moved_decided plan commands s act c o done e = pick (moved_decides plan commands (action_at plan s) s act c o done e) where
+  pick : Decides (Gone plan s (action_at plan s) (moved plan commands (action_at plan s) (with_progress turned s) act).progress.phase c act) s.progress.phase
+      (moved plan commands (action_at plan s) (with_progress turned s) act).progress.phase c act
+      → Decided plan s (moved plan commands (action_at plan s) (with_progress turned s) act).progress.phase c act
   pick (inl shows) = inl shows
   pick (inr (inl gone)) = inr gone
   pick (inr (inr same)) = absurd (not_twice plan commands s act c s.progress.phase refl (ap end_of (sym same) ∙ e) o same)
 
-pub after_decided : (plan : Plan) (commands : List Task) (s : Standing) (act : Act) (c : Cause) → Obeys commands s (order_at plan s) act → (order_at plan s ≡ order.Close cause.Done → NoneLeft s.progress (commands_in s.marks))
+pub after_decided : (plan : Plan) (commands : List Task) (s : Model) (act : Act) (c : Cause) → Performs commands s (action_at plan s) act
+    → (action_at plan s ≡ action.Close cause.Done → NoneLeft s.progress (commands_in s.marks))
     → end_of (after plan commands s act).progress.phase ≡ Some c → Decided plan s (after plan commands s act).progress.phase c act
 after_decided plan commands s act c o done e =
-    let same : (after plan commands s act).progress.phase ≡ (moved plan commands (order_at plan s) (with_progress turned s) act).progress.phase =
-    ap (λ (p : Progress). p.phase) (ended_progress (moved plan commands (order_at plan s) (with_progress turned s) act)) in
+    let same : (after plan commands s act).progress.phase ≡ (moved plan commands (action_at plan s) (with_progress turned s) act).progress.phase =
+    ap (λ (p : Progress). p.phase) (ended_progress (moved plan commands (action_at plan s) (with_progress turned s) act)) in
     subst (λ (behind : Phase). Decided plan s behind c act) (sym same) (moved_decided plan commands s act c o done (sym (ap end_of same) ∙ e))
 
-pub runs_split : (plan : Plan) (commands : List Task) (s : Standing) (earlier later : List Act) (act : Act) → Runs plan commands s (earlier ++ act ∷ later)
-    → Runs plan commands s earlier × Obeys commands (after_all plan commands s earlier) (order_at plan (after_all plan commands s earlier)) act
+pub runs_split : (plan : Plan) (commands : List Task) (s : Model) (earlier later : List Act) (act : Act) → Runs plan commands s (earlier ++ act ∷ later)
+    → Runs plan commands s earlier × Performs commands (after_all plan commands s earlier) (action_at plan (after_all plan commands s earlier)) act
 runs_split plan commands s [] later act runs = (tt, runs.0)
 runs_split plan commands s (x ∷ xs) later act runs = let r = runs_split plan commands (after plan commands s x) xs later act runs.1 in ((runs.0, r.0), r.1)
 
 -- the null procedures of a beginning go out where nothing waits
-goes_alone : (plan : Plan) (commands : List Task) (s : Standing) (next : Order) → Fine plan commands s → IsFor plan s.progress (waiting_of s) next → IsAlone next s
-goes_alone plan commands s order.Ask fine needs = let new = fine.begins needs.1 in (new, nil_from_length s.marks (fine.paired ∙ ap (λ (c : ById). length c.waiting) new))
+goes_alone : (plan : Plan) (commands : List Task) (s : Model) (next : Action) → Invariant plan commands s → IsFor plan s.progress (waiting_of s) next → IsAlone next s
+goes_alone plan commands s action.Ask fine needs = let new = fine.begins needs.1 in (new, nil_from_length s.marks (fine.paired ∙ ap (λ (c : ById). length c.waiting) new))
 goes_alone plan commands s next fine needs = tt
 
-pub act_reasoned : (plan : Plan) (commands : List Task) (scope : Scope) (earlier later : List Act) (act : Act) → Runs plan commands (opening plan scope) (earlier ++ act ∷ later) → IsReasoned plan commands (stood plan commands scope earlier) act
+pub act_reasoned : (plan : Plan) (commands : List Task) (scope : Scope) (earlier later : List Act) (act : Act)
+    → Runs plan commands (opening plan scope) (earlier ++ act ∷ later) → IsReasoned plan commands (stood plan commands scope earlier) act
 act_reasoned plan commands scope earlier later act runs =
     let s = stood plan commands scope earlier in
-    let needs = order_for plan s.progress (waiting_of s) in
+    let needs = action_for plan s.progress (waiting_of s) in
     record {
       obeys = (runs_split plan commands (opening plan scope) earlier later act runs).1;
       needs = needs;
-      alone = goes_alone plan commands s (order_at plan s) (fine_stood plan commands scope earlier) needs;
+      alone = goes_alone plan commands s (action_at plan s) (fine_stood plan commands scope earlier) needs;
     }
 
 -- the last of some acts
@@ -212,28 +224,32 @@ last_of (x ∷ xs) = on (last_of xs) where
   on (inl none) = inr ([], x, ap (λ ys. x ∷ ys) none)
   on (inr some) = inr (x ∷ some.0, some.1, ap (λ ys. x ∷ ys) some.2)
 
-pub closes_only : (commands : List Task) (s : Standing) (next : Order) → Obeys commands s next Closed → (why : Cause) × (next ≡ order.Close why)
-closes_only commands s (order.Close why) o = (why, refl)
+pub closes_only : (commands : List Task) (s : Model) (next : Action) → Performs commands s next Closed → (why : Cause) × (next ≡ action.Close why)
+closes_only commands s (action.Close why) o = (why, refl)
 closes_only commands s next o = absurd o
 
--- what an order that is next needs
-pub needs_of : (plan : Plan) (s : Standing) (next : Order) → order_at plan s ≡ next → IsFor plan s.progress (waiting_of s) next
-needs_of plan s next is = subst (λ (o : Order). IsFor plan s.progress (waiting_of s) o) is (order_for plan s.progress (waiting_of s))
+-- what an action that is next needs
+pub needs_of : (plan : Plan) (s : Model) (next : Action) → action_at plan s ≡ next → IsFor plan s.progress (waiting_of s) next
+needs_of plan s next is = subst (λ (o : Action). IsFor plan s.progress (waiting_of s) o) is (action_for plan s.progress (waiting_of s))
 
 -- a connection is closed for being done where nothing is left to be sent, and no command waits
-pub done_sent : (plan : Plan) (commands : List Task) (scope : Scope) (acts : List Act) → order_at plan (stood plan commands scope acts) ≡ order.Close cause.Done
+pub done_sent : (plan : Plan) (commands : List Task) (scope : Scope) (acts : List Act) → action_at plan (stood plan commands scope acts) ≡ action.Close cause.Done
     → NoneLeft (stood plan commands scope acts).progress (commands_in (stood plan commands scope acts).marks)
-done_sent plan commands scope acts is = by_needs (needs_of plan (stood plan commands scope acts) (order.Close cause.Done) is).1 where
-  by_needs : (((stood plan commands scope acts).progress.phase ≡ Closing cause.Done) ⊎ IsAtItsEnd plan (stood plan commands scope acts).progress (waiting_of (stood plan commands scope acts)) cause.Done)
+done_sent plan commands scope acts is = by_needs (needs_of plan (stood plan commands scope acts) (action.Close cause.Done) is).1 where
+  by_needs : (((stood plan commands scope acts).progress.phase ≡ Closing cause.Done)
+      ⊎ IsAtItsEnd plan (stood plan commands scope acts).progress (waiting_of (stood plan commands scope acts)) cause.Done)
       → NoneLeft (stood plan commands scope acts).progress (commands_in (stood plan commands scope acts).marks)
   by_needs (inl phase) = (fine_stood plan commands scope acts).finished (ap says_done phase)
   by_needs (inr end) = end
 
 -- the last act of a run whose end is decided shows by what
-decided_last : (plan : Plan) (commands : List Task) (scope : Scope) (acts : List Act) (c : Cause) → Runs plan commands (opening plan scope) acts → end_of (stood plan commands scope acts).progress.phase ≡ Some c
+decided_last : (plan : Plan) (commands : List Task) (scope : Scope) (acts : List Act) (c : Cause) → Runs plan commands (opening plan scope) acts
+    → end_of (stood plan commands scope acts).progress.phase ≡ Some c
     → (earlier : List Act) × (last : Act) × (acts ≡ earlier ++ last ∷ []) × Decided plan (stood plan commands scope earlier) (stood plan commands scope acts).progress.phase c last
 decided_last plan commands scope acts c runs e = by_last (last_of acts) where
-  by_last : ((acts ≡ []) ⊎ ((earlier : List Act) × (last : Act) × (acts ≡ earlier ++ last ∷ []))) → (earlier : List Act) × (last : Act) × (acts ≡ earlier ++ last ∷ []) × Decided plan (stood plan commands scope earlier) (stood plan commands scope acts).progress.phase c last
+  by_last : ((acts ≡ []) ⊎ ((earlier : List Act) × (last : Act) × (acts ≡ earlier ++ last ∷ [])))
+      → (earlier : List Act) × (last : Act) × (acts ≡ earlier ++ last ∷ [])
+      × Decided plan (stood plan commands scope earlier) (stood plan commands scope acts).progress.phase c last
   by_last (inl none) = let down : None ≡ Some c = sym (ap (λ (xs : List Act). end_of (stood plan commands scope xs).progress.phase) none) ∙ e in cc
   by_last (inr some) =
       let earlier = some.0 in
@@ -241,7 +257,7 @@ decided_last plan commands scope acts c runs e = by_last (last_of acts) where
       let s = stood plan commands scope earlier in
       let split = runs_split plan commands (opening plan scope) earlier [] last (subst (λ (xs : List Act). Runs plan commands (opening plan scope) xs) some.2 runs) in
       let behind : (stood plan commands scope acts).progress.phase ≡ (after plan commands s last).progress.phase =
-      ap (λ (xs : List Act). (stood plan commands scope xs).progress.phase) some.2 ∙ ap (λ (x : Standing). x.progress.phase) (after_all-append plan commands (opening plan scope) earlier (last ∷ [])) in (
+      ap (λ (xs : List Act). (stood plan commands scope xs).progress.phase) some.2 ∙ ap (λ (x : Model). x.progress.phase) (after_all-append plan commands (opening plan scope) earlier (last ∷ [])) in (
         earlier,
         last,
         some.2,
@@ -250,38 +266,43 @@ decided_last plan commands scope acts c runs e = by_last (last_of acts) where
       )
 
 -- where a connection is to be closed for a call that failed, the last act shows it
-pub closing_shown : (plan : Plan) (commands : List Task) (scope : Scope) (acts : List Act) (why : Cause) → Runs plan commands (opening plan scope) acts → (stood plan commands scope acts).progress.phase ≡ Closing why
+pub closing_shown : (plan : Plan) (commands : List Task) (scope : Scope) (acts : List Act) (why : Cause) → Runs plan commands (opening plan scope) acts
+    → (stood plan commands scope acts).progress.phase ≡ Closing why
     → (earlier : List Act) × (last : Act) × (acts ≡ earlier ++ last ∷ []) × Shows why last
 closing_shown plan commands scope acts why runs phase =
     let d = decided_last plan commands scope acts why runs (ap end_of phase) in (d.0, d.1, d.2, shows (stood plan commands scope d.0) d.1 d.3) where
-      shows : (before : Standing) (last : Act) → Decided plan before (stood plan commands scope acts).progress.phase why last → Shows why last
+      shows : (before : Model) (last : Act) → Decided plan before (stood plan commands scope acts).progress.phase why last → Shows why last
       shows before last (inl failed) = failed.1
       shows before last (inr gone) = let up : true ≡ false = sym (ap is_up phase) ∙ gone.0 in cc
 
-pub closed_for : (plan : Plan) (commands : List Task) (scope : Scope) (acts : List Act) → Runs plan commands (opening plan scope) acts → Obeys commands (stood plan commands scope acts) (order_at plan (stood plan commands scope acts)) Closed
+pub closed_for : (plan : Plan) (commands : List Task) (scope : Scope) (acts : List Act) → Runs plan commands (opening plan scope) acts
+    → Performs commands (stood plan commands scope acts) (action_at plan (stood plan commands scope acts)) Closed
     → ClosesForACause plan commands scope acts
 closed_for plan commands scope acts runs o =
     let s = stood plan commands scope acts in
-    let it = closes_only commands s (order_at plan s) o in
+    let it = closes_only commands s (action_at plan s) o in
     record {
       why = it.0;
       closes = it.1;
-      shown = by_needs it.0 (needs_of plan s (order.Close it.0) it.1).1;
+      shown = by_needs it.0 (needs_of plan s (action.Close it.0) it.1).1;
     } where
-      by_needs : (why : Cause) → (((stood plan commands scope acts).progress.phase ≡ Closing why) ⊎ IsAtItsEnd plan (stood plan commands scope acts).progress (waiting_of (stood plan commands scope acts)) why)
+      by_needs : (why : Cause) → (((stood plan commands scope acts).progress.phase ≡ Closing why)
+          ⊎ IsAtItsEnd plan (stood plan commands scope acts).progress (waiting_of (stood plan commands scope acts)) why)
           → IsAtItsEnd plan (stood plan commands scope acts).progress (waiting_of (stood plan commands scope acts)) why
           ⊎ ((earlier : List Act) × (last : Act) × (acts ≡ earlier ++ last ∷ []) × Shows why last)
       by_needs why (inl phase) = inr (closing_shown plan commands scope acts why runs phase)
       by_needs why (inr end) = inl end
 
-pub stopped_for : (plan : Plan) (commands : List Task) (scope : Scope) (acts : List Act) (why : Cause) → Runs plan commands (opening plan scope) acts → order_at plan (stood plan commands scope acts) ≡ order.Stop why → StopsForACause plan commands scope acts why
+pub stopped_for : (plan : Plan) (commands : List Task) (scope : Scope) (acts : List Act) (why : Cause) → Runs plan commands (opening plan scope) acts
+    → action_at plan (stood plan commands scope acts) ≡ action.Stop why → StopsForACause plan commands scope acts why
 stopped_for plan commands scope acts why runs stop =
-    let needs = needs_of plan (stood plan commands scope acts) (order.Stop why) stop in
+    let needs = needs_of plan (stood plan commands scope acts) (action.Stop why) stop in
     record {
       down = needs.0;
       shown = by_needs needs.1;
     } where
-      ends : (before : Standing) (last : Act) → (stood plan commands scope acts).progress.phase ≡ Over why → Decided plan before (stood plan commands scope acts).progress.phase why last → Ends plan before why last
+      ends : (before : Model) (last : Act) → (stood plan commands scope acts).progress.phase ≡ Over why
+          → Decided plan before (stood plan commands scope acts).progress.phase why last → Ends plan before why last
       ends before last phase (inl failed) = inl (failed.0 (ap is_up phase), failed.1)
       ends before last phase (inr gone) = inr gone.1
 

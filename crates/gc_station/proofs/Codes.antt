@@ -19,7 +19,8 @@ well_as reads call line said = is_well reads call (answer_as said line)
 says : (reads : Call → List ℕ → Reading) (call : Call) (line : List ℕ) (r : ReplyFields) (said : Reading) → AreReadings reads → IsReply line r → IsReading call r said → reads call line ≡ said
 says reads call line r said are is reading = are call line said (record { reply = r; is_reply = is; is_reading = reading })
 
-well_of : (reads : Call → List ℕ → Reading) (call : Call) (line : List ℕ) (said : Reading) → reads call line ≡ said → is_well reads call (end_of reads call (Answered line)) ≡ well_as reads call line said
+well_of : (reads : Call → List ℕ → Reading) (call : Call) (line : List ℕ) (said : Reading) → reads call line ≡ said
+    → is_well reads call (end_of reads call (Answered line)) ≡ well_as reads call line said
 well_of reads call line said is = ap (λ x. well_as reads call line x) is
 
 refused_unwell : (reads : Call → List ℕ → Reading) (call : Call) (line : List ℕ) (code : ℕ) → reads call line ≡ reading.Refused code → well_as reads call line (reading.Refused code) ≡ false
@@ -34,7 +35,8 @@ value_well reads call line said is = rw is refl
 apart : (b : Bool) → b ≡ true → b ≡ false → ⊥
 apart b e f = let both : true ≡ false = sym e ∙ f in cc
 
-com_zero : (reads : Call → List ℕ → Reading) (call : Call) (line : List ℕ) (r : ReplyFields) → AreReadings reads → IsReply line r → is_well reads call (end_of reads call (Answered line)) ≡ true → r.rc_com ≡ 0
+com_zero : (reads : Call → List ℕ → Reading) (call : Call) (line : List ℕ) (r : ReplyFields) → AreReadings reads → IsReply line r
+    → is_well reads call (end_of reads call (Answered line)) ≡ true → r.rc_com ≡ 0
 com_zero reads call line r are is well = elim (eqb_tells r.rc_com 0) as (λ _. r.rc_com ≡ 0) [
   | inl same ↦ same.1
   | inr other ↦
@@ -42,7 +44,8 @@ com_zero reads call line r are is well = elim (eqb_tells r.rc_com 0) as (λ _. r
       absurd (apart _ well (well_of reads call line (reading.ComFault r.rc_com) said ∙ fault_unwell reads call line r.rc_com said))
 ]
 
-rc_zero : (reads : Call → List ℕ → Reading) (call : Call) (line : List ℕ) (r : ReplyFields) → AreReadings reads → IsReply line r → r.rc_com ≡ 0 → is_well reads call (end_of reads call (Answered line)) ≡ true → r.rc ≡ 0
+rc_zero : (reads : Call → List ℕ → Reading) (call : Call) (line : List ℕ) (r : ReplyFields) → AreReadings reads → IsReply line r → r.rc_com ≡ 0
+    → is_well reads call (end_of reads call (Answered line)) ≡ true → r.rc ≡ 0
 rc_zero reads call line r are is zero well = elim (eqb_tells r.rc 0) as (λ _. r.rc ≡ 0) [
   | inl same ↦ same.1
   | inr other ↦
@@ -50,7 +53,8 @@ rc_zero reads call line r are is zero well = elim (eqb_tells r.rc 0) as (λ _. r
       absurd (apart _ well (well_of reads call line (reading.Refused r.rc) said ∙ refused_unwell reads call line r.rc said))
 ]
 
-unread : (reads : Call → List ℕ → Reading) (call : Call) (line : List ℕ) (said : Reading) → reads call line ≡ said → ((answer : Answer) → said ≡ reading.Value answer → ⊥) → well_as reads call line said ≡ false
+unread : (reads : Call → List ℕ → Reading) (call : Call) (line : List ℕ) (said : Reading) → reads call line ≡ said
+    → ((answer : Answer) → said ≡ reading.Value answer → ⊥) → well_as reads call line said ≡ false
 unread reads call line (reading.Value answer) is none = absurd (none answer refl)
 unread reads call line (reading.Refused code) is none = refused_unwell reads call line code is
 unread reads call line (reading.ComFault code) is none = fault_unwell reads call line code is

@@ -9,15 +9,15 @@ use Rattle.gc_station.specs.declared.cause.Cause.{Cause}
 use Rattle.gc_station.specs.declared.cause.Cause.TheVariants as cause
 use Rattle.gc_station.specs.declared.progress.Phase.{Phase}
 use Rattle.gc_station.specs.declared.progress.Phase.TheVariants as phase
-use Rattle.gc_station.specs.declared.progress.Order.{Order}
-use Rattle.gc_station.specs.declared.progress.Order.TheVariants as orders
+use Rattle.gc_station.specs.declared.progress.Action.{Action}
+use Rattle.gc_station.specs.declared.progress.Action.TheVariants as actions
 use Rattle.gc_station.specs.declared.progress.Progress.{Progress}
 use Rattle.gc_station.specs.declared.progress.Until.{Until}
 use Rattle.gc_links.specs.Acts.{Act, Told, Put, Gave, Silent, Opened}
 use Rattle.gc_station.specs.Deciding.{is_up, is_past, is_quiet}
 use Rattle.gc_station.specs.Marks.{commands_in}
 use Rattle.gc_station.specs.Progressing.{turned, told, begun, skipped, opened, cleared, asking, null_sent, renewed, sent, reckoned_early, time_passed, quieted, is_idle, drained}
-use Rattle.gc_station.specs.Standing.{Standing, requests_out, request_text, null_text, first_text, place_next, bound_next, waiting_of, piece_at, with_progress, Obeys, moved}
+use Rattle.gc_station.specs.Model.{Model, requests_out, request_text, null_text, first_text, place_next, is_chained_behind_next, waiting_of, piece_at, with_progress, Performs, moved}
 use Rattle.gc_station.proofs.Turns.{again_down, closed_down}
 use Rattle.gc_station.proofs.Walk.{walk}
 
@@ -42,35 +42,37 @@ paused_unused : (b : Bool) (at : Phase) → at ≡ phase.Pausing → is_in_use (
 paused_unused true at is = refl
 paused_unused false at is = ap is_in_use is
 
--- What has to hold behind an act of an order where no call fails. A moment is given also where no clock is read, so that one row serves
--- many orders. Behind a read that gave nothing it goes on, or a drain that was long enough ends.
+-- What has to hold behind an act of an action where no call fails. A moment is given also where no clock is read, so that one row serves
+-- many actions. Behind a read that gave nothing it goes on, or a drain that was long enough ends.
 
 abbrev pub Silenced : Plan → (Progress → List Act → Type 0) → Until → Moment → Progress → List Act → Type 0
 Silenced plan F until m p acts =
     F (time_passed until m p) (acts ++ Silent m ∷ [])
     × (p.phase ≡ phase.Draining → is_quiet plan (time_passed until m p) ≡ true → F (drained (time_passed until m p)) (acts ++ Silent m ∷ []))
 
-abbrev pub OnLine : Plan → List Task → (Progress → List Act → Type 0) → Order → Standing → List Act → Type 0
-OnLine plan commands F orders.ReadClock s acts = (m : Moment) → F (reckoned_early plan (commands_in s.marks) (told m s.progress)) (acts ++ Told m ∷ [])
-OnLine plan commands F orders.Renew s acts = (m : Moment) → F (reckoned_early plan 0 (renewed plan m s.progress)) (acts ++ Told m ∷ [])
-OnLine plan commands F orders.Begin s acts = (m : Moment) → F (begun plan (length commands) m s.progress) (acts ++ Told m ∷ [])
-OnLine plan commands F orders.Open s acts = (m : Moment) → F (opened s.progress) (acts ++ Opened ∷ [])
-OnLine plan commands F orders.Clear s acts = (m : Moment) → F (cleared s.progress) (acts ++ Put (10 ∷ []) ∷ [])
-OnLine plan commands F orders.Ask s acts = (m : Moment) → F (null_sent plan s.progress) (acts ++ Put (null_text s.progress.word) ∷ [])
-OnLine plan commands F orders.Send s acts = (m : Moment) → F (sent (bound_next commands s.progress) s.progress) (acts ++ Put (first_text s.client (drop (place_next commands s.progress) commands)) ∷ [])
-OnLine plan commands F orders.Skip s acts = (m : Moment) → F (reckoned_early plan (commands_in s.marks) (skipped (bound_next commands s.progress) m s.progress)) (acts ++ Told m ∷ [])
-OnLine plan commands F orders.Flush s acts = (m : Moment) → F (asking s.progress) (acts ++ Put (request_text s.client NullProc) ∷ [])
-OnLine plan commands F (orders.Read until) s acts =
+abbrev pub OnLine : Plan → List Task → (Progress → List Act → Type 0) → Action → Model → List Act → Type 0
+OnLine plan commands F actions.ReadClock s acts = (m : Moment) → F (reckoned_early plan (commands_in s.marks) (told m s.progress)) (acts ++ Told m ∷ [])
+OnLine plan commands F actions.Renew s acts = (m : Moment) → F (reckoned_early plan 0 (renewed plan m s.progress)) (acts ++ Told m ∷ [])
+OnLine plan commands F actions.Begin s acts = (m : Moment) → F (begun plan (length commands) m s.progress) (acts ++ Told m ∷ [])
+OnLine plan commands F actions.Open s acts = (m : Moment) → F (opened s.progress) (acts ++ Opened ∷ [])
+OnLine plan commands F actions.Clear s acts = (m : Moment) → F (cleared s.progress) (acts ++ Put (10 ∷ []) ∷ [])
+OnLine plan commands F actions.Ask s acts = (m : Moment) → F (null_sent plan s.progress) (acts ++ Put (null_text s.progress.word) ∷ [])
+OnLine plan commands F actions.Send s acts = (m : Moment) → F (sent (is_chained_behind_next commands s.progress) s.progress)
+    (acts ++ Put (first_text s.client (drop (place_next commands s.progress) commands)) ∷ [])
+OnLine plan commands F actions.Skip s acts = (m : Moment) → F (reckoned_early plan (commands_in s.marks) (skipped (is_chained_behind_next commands s.progress) m s.progress)) (acts ++ Told m ∷ [])
+OnLine plan commands F actions.Flush s acts = (m : Moment) → F (asking s.progress) (acts ++ Put (request_text s.client NullProc) ∷ [])
+OnLine plan commands F (actions.Read until) s acts =
     ((bytes : List ℕ) (m : Moment) → F (piece_at plan until bytes m s).progress (acts ++ Gave bytes m ∷ []))
     × ((m : Moment) → Silenced plan F until m s.progress acts)
-OnLine plan commands F (orders.Close why) s acts = Unit {0}
-OnLine plan commands F (orders.Stop why) s acts = Unit {0}
+OnLine plan commands F (actions.Close why) s acts = Unit {0}
+OnLine plan commands F (actions.Stop why) s acts = Unit {0}
 
 module _ (plan : Plan) (commands : List Task) (F : Progress → List Act → Type 0) (unused : (p : Progress) (acts : List Act) → is_in_use p.phase ≡ false → F p acts) where
-  abbrev FactBehind : List Act → Act → Standing → Type 0
+  abbrev FactBehind : List Act → Act → Model → Type 0
   FactBehind acts act t = F t.progress (acts ++ act ∷ [])
 
-  silent_on : (until : Until) (m : Moment) (p : Progress) (at : Phase) (acts : List Act) → p.phase ≡ at → Silenced plan F until m p acts → F (quieted plan at (time_passed until m p)) (acts ++ Silent m ∷ [])
+  silent_on : (until : Until) (m : Moment) (p : Progress) (at : Phase) (acts : List Act) → p.phase ≡ at → Silenced plan F until m p acts
+      → F (quieted plan at (time_passed until m p)) (acts ++ Silent m ∷ [])
   silent_on until m p phase.Pausing acts is h = unused _ (acts ++ Silent m ∷ []) (paused_unused (is_past p.pause (time_passed until m p) && not (is_idle plan (time_passed until m p))) p.phase is)
   silent_on until m p phase.Draining acts is h = by_test (is_quiet plan (time_passed until m p)) refl where
     by_test : (b : Bool) → is_quiet plan (time_passed until m p) ≡ b → F (if b then drained (time_passed until m p) else time_passed until m p) (acts ++ Silent m ∷ [])
@@ -79,22 +81,27 @@ module _ (plan : Plan) (commands : List Task) (F : Progress → List Act → Typ
   silent_on until m p at acts is h = h.0
 
   -- with a turn
-  pub on_line : (next : Order) (s : Standing) (act : Act) (acts : List Act) → Obeys commands s next act → OnLine plan commands F next (with_progress turned s) acts
+  pub on_line : (next : Action) (s : Model) (act : Act) (acts : List Act) → Performs commands s next act → OnLine plan commands F next (with_progress turned s) acts
       → F (moved plan commands next (with_progress turned s) act).progress (acts ++ act ∷ [])
-  on_line orders.Open s act acts o h = walk plan commands (FactBehind acts) orders.Open (with_progress turned s) act o (h, λ n. unused _ _ (down_unused _ (again_down plan (commands_in s.marks) cause.Open (turned s.progress))))
-  on_line orders.Clear s act acts o h = walk plan commands (FactBehind acts) orders.Clear (with_progress turned s) act o (h, λ n. unused _ _ (failed_unused (is_up (cleared (turned s.progress)).phase) (cause.Write (requests_out plan commands (turned s.progress)) n)))
-  on_line orders.Ask s act acts o h = walk plan commands (FactBehind acts) orders.Ask (with_progress turned s) act o (h, λ n. unused _ _ (failed_unused (is_up s.progress.phase) (cause.Write (requests_out plan commands (turned s.progress)) n)))
-  on_line (orders.Read until) s act acts o h =
+  on_line actions.Open s act acts o h = walk plan commands (FactBehind acts) actions.Open (with_progress turned s) act o
+      (h, λ n. unused _ _ (down_unused _ (again_down plan (commands_in s.marks) cause.Open (turned s.progress))))
+  on_line actions.Clear s act acts o h = walk plan commands (FactBehind acts) actions.Clear (with_progress turned s) act o
+      (h, λ n. unused _ _ (failed_unused (is_up (cleared (turned s.progress)).phase) (cause.Write (requests_out plan commands (turned s.progress)) n)))
+  on_line actions.Ask s act acts o h = walk plan commands (FactBehind acts) actions.Ask (with_progress turned s) act o
+      (h, λ n. unused _ _ (failed_unused (is_up s.progress.phase) (cause.Write (requests_out plan commands (turned s.progress)) n)))
+  on_line (actions.Read until) s act acts o h =
       let up = is_up s.progress.phase in
-      walk plan commands (FactBehind acts) (orders.Read until) (with_progress turned s) act o (
+      walk plan commands (FactBehind acts) (actions.Read until) (with_progress turned s) act o (
         h.0,
         λ m. silent_on until m (turned s.progress) s.progress.phase acts refl (h.1 m),
         unused _ _ (failed_unused up cause.End),
         unused _ _ (failed_unused up cause.Read),
         unused _ _ (failed_unused up cause.Clock),
       )
-  on_line (orders.Close why) s act acts o h = unused _ _ (down_unused _ (closed_down plan (waiting_of s) why (turned s.progress)))
-  on_line (orders.Stop why) s act acts o h = absurd o
-  on_line orders.Send s act acts o h = walk plan commands (FactBehind acts) orders.Send (with_progress turned s) act o (h, λ n. unused _ _ (failed_unused (is_up s.progress.phase) (cause.Write (requests_out plan commands (turned s.progress)) n)))
-  on_line orders.Flush s act acts o h = walk plan commands (FactBehind acts) orders.Flush (with_progress turned s) act o (h, λ n. unused _ _ (failed_unused (is_up s.progress.phase) (cause.Write (requests_out plan commands (turned s.progress)) n)))
+  on_line (actions.Close why) s act acts o h = unused _ _ (down_unused _ (closed_down plan (waiting_of s) why (turned s.progress)))
+  on_line (actions.Stop why) s act acts o h = absurd o
+  on_line actions.Send s act acts o h = walk plan commands (FactBehind acts) actions.Send (with_progress turned s) act o
+      (h, λ n. unused _ _ (failed_unused (is_up s.progress.phase) (cause.Write (requests_out plan commands (turned s.progress)) n)))
+  on_line actions.Flush s act acts o h = walk plan commands (FactBehind acts) actions.Flush (with_progress turned s) act o
+      (h, λ n. unused _ _ (failed_unused (is_up s.progress.phase) (cause.Write (requests_out plan commands (turned s.progress)) n)))
   on_line next s act acts o h = walk plan commands (FactBehind acts) next (with_progress turned s) act o (h, λ n. unused _ _ (failed_unused (is_up s.progress.phase) cause.Clock))

@@ -3,12 +3,12 @@ use Rattle.std.proofs.Common.{◌≡◌, ℕ, ◌-◌, ◌≤◌, ◌⊎◌, inl
 use Rattle.gc_texts.specs.declared.tasks.Task.{Task}
 use Rattle.gc_station.specs.declared.plan.Plan.{Plan}
 use Rattle.gc_station.specs.declared.cause.Cause.TheVariants as cause
-use Rattle.gc_station.specs.declared.progress.Order.{Order}
-use Rattle.gc_station.specs.declared.progress.Order.TheVariants.{Begin, Send, Skip}
+use Rattle.gc_station.specs.declared.progress.Action.{Action}
+use Rattle.gc_station.specs.declared.progress.Action.TheVariants.{Begin, Send, Skip}
 use Rattle.gc_station.specs.declared.progress.Progress.{Progress}
 use Rattle.gc_links.specs.Acts.{Act, Told, Cut}
 use Rattle.gc_station.proofs.Walk.{moved_changed, is_sent}
-use Rattle.gc_station.specs.Standing.{Standing, requests_out, moved, losing, ended}
+use Rattle.gc_station.specs.Model.{Model, requests_out, moved, losing, ended}
 use Rattle.gc_station.specs.Progressing.{failing, skipped, loses_all}
 
 -- the counts are the same
@@ -27,43 +27,45 @@ counted_begun count p = record p { left = p.left - 1; unsent = count }
 abbrev pub counted_sent : Progress → Progress
 counted_sent p = record p { unsent = p.unsent - 1 }
 
--- what an act of an order does to the counts
-abbrev pub Counts : ℕ → Order → Progress → Progress → Type 0
+-- what an act of an action does to the counts
+abbrev pub Counts : ℕ → Action → Progress → Progress → Type 0
 Counts count Begin p q = Kept p q ⊎ Kept (counted_begun count p) q
 Counts count Send p q = Kept (counted_sent p) q
 Counts count Skip p q = Kept p q ⊎ Kept (counted_sent p) q
 Counts count _ p q = Kept p q
 
-pub moved_counts : (plan : Plan) (commands : List Task) (order : Order) (s : Standing) (act : Act) → Counts (length commands) order s.progress (moved plan commands order s act).progress
+pub moved_counts : (plan : Plan) (commands : List Task) (action : Action) (s : Model) (act : Act) → Counts (length commands) action s.progress (moved plan commands action s act).progress
 moved_counts plan commands Begin s (Told m) = inr (kept (counted_begun (length commands) s.progress) _ refl refl refl)
 moved_counts plan commands Begin s act = inl (kept s.progress _ refl refl refl)
 moved_counts plan commands Skip s (Told m) = inr (kept (counted_sent s.progress) _ refl refl refl)
 moved_counts plan commands Skip s act = inl (kept s.progress _ refl refl refl)
-moved_counts plan commands Send s (Cut bytes n) = subst (λ (x : Standing). Kept (counted_sent s.progress) (failing (cause.Write (requests_out plan commands s.progress) n) x.progress)) (is_sent plan commands s) (kept (counted_sent s.progress) _ refl refl refl)
-moved_counts plan commands Send s act = subst (λ (x : Standing). Kept (counted_sent s.progress) x.progress) (is_sent plan commands s) (kept (counted_sent s.progress) _ refl refl refl)
-moved_counts plan commands order s act =
-    let is = moved_changed plan commands order s act in
-    kept s.progress _ (ap (λ (x : Standing). x.progress.turns) is) (ap (λ (x : Standing). x.progress.left) is) (ap (λ (x : Standing). x.progress.unsent) is)
+moved_counts plan commands Send s (Cut bytes n) = subst (λ (x : Model). Kept (counted_sent s.progress)
+    (failing (cause.Write (requests_out plan commands s.progress) n) x.progress)) (is_sent plan commands s) (kept (counted_sent s.progress) _ refl refl refl)
+moved_counts plan commands Send s act = subst (λ (x : Model). Kept (counted_sent s.progress) x.progress) (is_sent plan commands s) (kept (counted_sent s.progress) _ refl refl refl)
+moved_counts plan commands action s act =
+    let is = moved_changed plan commands action s act in
+    kept s.progress _ (ap (λ (x : Model). x.progress.turns) is) (ap (λ (x : Model). x.progress.left) is) (ap (λ (x : Model). x.progress.unsent) is)
 
 -- that all are lost changes no progress
-pub losing_progress : (b : Bool) (s : Standing) → (losing b s).progress ≡ s.progress
+pub losing_progress : (b : Bool) (s : Model) → (losing b s).progress ≡ s.progress
 losing_progress true s = refl
 losing_progress false s = refl
 
-pub ended_progress : (s : Standing) → (ended s).progress ≡ s.progress
+pub ended_progress : (s : Model) → (ended s).progress ≡ s.progress
 ended_progress s = losing_progress (loses_all s.progress) s
 
 -- no turn is taken
-pub turns_kept : (plan : Plan) (commands : List Task) (order : Order) (s : Standing) (act : Act) → (moved plan commands order s act).progress.turns ≡ s.progress.turns
-turns_kept plan commands order s act = ap (λ (x : Standing). x.progress.turns) (moved_changed plan commands order s act)
+pub turns_kept : (plan : Plan) (commands : List Task) (action : Action) (s : Model) (act : Act) → (moved plan commands action s act).progress.turns ≡ s.progress.turns
+turns_kept plan commands action s act = ap (λ (x : Model). x.progress.turns) (moved_changed plan commands action s act)
 
 -- no more commands are to be sent than there are
-counts_within : (count : ℕ) (order : Order) (p q : Progress) → Counts count order p q → p.unsent ≤ count → q.unsent ≤ count
+counts_within : (count : ℕ) (action : Action) (p q : Progress) → Counts count action p q → p.unsent ≤ count → q.unsent ≤ count
 counts_within count Begin p q (inl same) h = omega (arith, same.unsent, h)
 counts_within count Begin p q (inr began) h = omega (arith, began.unsent)
 counts_within count Skip p q (inl same) h = omega (arith, same.unsent, h)
 counts_within count Skip p q (inr skipped) h = omega (arith, skipped.unsent, h)
-counts_within count order p q is h = omega (arith, is.unsent, h)
+counts_within count action p q is h = omega (arith, is.unsent, h)
 
-pub unsent_within : (plan : Plan) (commands : List Task) (order : Order) (s : Standing) (act : Act) → s.progress.unsent ≤ length commands → (moved plan commands order s act).progress.unsent ≤ length commands
-unsent_within plan commands order s act h = counts_within (length commands) order s.progress (moved plan commands order s act).progress (moved_counts plan commands order s act) h
+pub unsent_within : (plan : Plan) (commands : List Task) (action : Action) (s : Model) (act : Act) → s.progress.unsent ≤ length commands
+    → (moved plan commands action s act).progress.unsent ≤ length commands
+unsent_within plan commands action s act h = counts_within (length commands) action s.progress (moved plan commands action s act).progress (moved_counts plan commands action s act) h

@@ -47,7 +47,8 @@ marked_append (None ∷ ms) (x ∷ xs) ys = marked_append ms xs ys
 marked_append (Some mark ∷ ms) (x ∷ xs) ys = ap (λ rs. record { cycle = mark.cycle; place = mark.place; asked = x } ∷ rs) (marked_append ms xs ys)
 
 -- one more, with its mark
-marked_more : (ms : List (Option Mark)) (asks : List Asked) (m : Option Mark) (a : Asked) → length ms ≡ length asks → marked (ms ++ m ∷ []) (asks ++ a ∷ []) ≡ marked ms asks ++ marked (m ∷ []) (a ∷ [])
+marked_more : (ms : List (Option Mark)) (asks : List Asked) (m : Option Mark) (a : Asked) → length ms ≡ length asks
+    → marked (ms ++ m ∷ []) (asks ++ a ∷ []) ≡ marked ms asks ++ marked (m ∷ []) (a ∷ [])
 marked_more [] [] m a e = refl
 marked_more [] (x ∷ xs) m a e = absurd (omega (arith, e))
 marked_more (n ∷ ms) [] m a e = absurd (omega (arith, e))
@@ -88,7 +89,8 @@ each_empty ms ws rs sent none h =
       nothing (m ∷ ms) = refl
 
 -- some are settled
-pub each_settles : (reads : Call → List ℕ → Reading) (utc : ℕ) (ms : List (Option Mark)) (ws left : List Pending) (ss : List Settlement) (rs : List Record) (sent : List Request) → map of_settled ss ++ map of_pending left ≡ map of_pending ws
+pub each_settles : (reads : Call → List ℕ → Reading) (utc : ℕ) (ms : List (Option Mark)) (ws left : List Pending) (ss : List Settlement) (rs : List Record)
+    (sent : List Request) → map of_settled ss ++ map of_pending left ≡ map of_pending ws
     → EachIs ms ws rs sent → EachIs (drop (length ss) ms) left (rs ++ records_of reads utc ms ss) sent
 each_settles reads utc ms ws left ss rs sent parts h =
     let front = map of_record rs in
@@ -103,7 +105,8 @@ each_settles reads utc ms ws left ss rs sent parts h =
     ∙ h
 
 -- one more waits
-more_waiting : (ms : List (Option Mark)) (ws : List Pending) (m : Option Mark) (p : Pending) → length ms ≡ length ws → still_waiting (ms ++ m ∷ []) (ws ++ p ∷ []) ≡ still_waiting ms ws ++ marked (m ∷ []) (of_pending p ∷ [])
+more_waiting : (ms : List (Option Mark)) (ws : List Pending) (m : Option Mark) (p : Pending) → length ms ≡ length ws
+    → still_waiting (ms ++ m ∷ []) (ws ++ p ∷ []) ≡ still_waiting ms ws ++ marked (m ∷ []) (of_pending p ∷ [])
 more_waiting ms ws m p paired =
     let asked = map of_pending ws in
     let count : length ms ≡ length asked = paired ∙ sym (length-map ws of_pending) in
@@ -111,7 +114,8 @@ more_waiting ms ws m p paired =
     ∙ marked_more ms asked m (of_pending p) count ∙ ap (λ xs. xs ++ marked (m ∷ []) (of_pending p ∷ [])) (sym (waiting_marked ms ws))
 
 -- a null procedure is sent
-pub each_null : (ms : List (Option Mark)) (ws : List Pending) (p : Pending) (rs : List Record) (sent : List Request) → length ms ≡ length ws → EachIs ms ws rs sent → EachIs (ms ++ None ∷ []) (ws ++ p ∷ []) rs sent
+pub each_null : (ms : List (Option Mark)) (ws : List Pending) (p : Pending) (rs : List Record) (sent : List Request) → length ms ≡ length ws
+    → EachIs ms ws rs sent → EachIs (ms ++ None ∷ []) (ws ++ p ∷ []) rs sent
 each_null ms ws p rs sent paired h = ap (λ xs. map of_record rs ++ xs) (more_waiting ms ws None p paired ∙ append-nil (still_waiting ms ws)) ∙ h
 
 -- the commands before one place and the one at it

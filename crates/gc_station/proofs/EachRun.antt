@@ -1,4 +1,4 @@
--- Each order, and so each run, keeps them.
+-- Each action, and so each run, keeps them.
 use Rattle.std.proofs.Common.{◌≡◌, ℕ, ◌-◌, ◌<◌, ◌⊎◌, inl, inr, ◌||◌, ◌&&◌, Bool, true, false, not, List, [], ◌∷◌, length, drop, map, nat_eq, Option, refl, sym, ap, ◌∙◌, subst, arith, append-nil, if◌then◌else◌}
 use Rattle.std.proofs.lemmas.List.{length-drop}
 use Rattle.gc_catalogue.specs.declared.call.Call.TheVariants.{NullProc}
@@ -10,8 +10,8 @@ use Rattle.gc_station.specs.declared.cause.Cause.{Cause}
 use Rattle.gc_station.specs.declared.cause.Cause.TheVariants as cause
 use Rattle.gc_station.specs.declared.progress.Phase.{Phase}
 use Rattle.gc_station.specs.declared.progress.Phase.TheVariants.{Clearing, Draining, Ready, Over}
-use Rattle.gc_station.specs.declared.progress.Order.{Order}
-use Rattle.gc_station.specs.declared.progress.Order.TheVariants as order
+use Rattle.gc_station.specs.declared.progress.Action.{Action}
+use Rattle.gc_station.specs.declared.progress.Action.TheVariants as action
 use Rattle.gc_station.specs.declared.progress.Progress.{Progress}
 use Rattle.gc_station.specs.declared.progress.Waiting.{Waiting}
 use Rattle.gc_links.specs.Acts.{Act, Told}
@@ -23,16 +23,16 @@ use Rattle.gc_station.specs.Reasons.{IsFor}
 use Rattle.gc_station.specs.Records.{Record}
 use Rattle.gc_station.specs.Runs.{stood}
 use Rattle.gc_texts.specs.Endings.{Skipped, Missed}
-use Rattle.gc_station.specs.Standing.{Standing, opening, order_at, waiting_of, place_next, mark_next, with_progress, asks_null, asks_first, asks_next, bound_next, with_records, skips, skips_first, after_clock, moved, after, after_all}
+use Rattle.gc_station.specs.Model.{Model, opening, action_at, waiting_of, place_next, mark_next, with_progress, asks_null, asks_first, asks_next, is_chained_behind_next, with_records, skips, skips_first, after_clock, moved, after, after_all}
 use Rattle.gc_station.proofs.Acting.{mid_fail, mid_moment, mid_clock, mid_put, mid_open, mid_close, mid_read}
 use Rattle.gc_station.proofs.Each.{each_empty, sent_whole}
-use Rattle.gc_station.proofs.Facts.{order_for}
-use Rattle.gc_station.proofs.Fine.{Fine, is_bare, says_done}
+use Rattle.gc_station.proofs.Facts.{action_for}
+use Rattle.gc_station.proofs.Invariant.{Invariant, is_bare, says_done}
 use Rattle.gc_station.proofs.Midway.{Placed, Mid, mid_of, clash, sound_null, sound_sent, sound_skipped, sound_begun, fine_ended}
 use Rattle.gc_station.specs.Scopes.{Scope}
 
 -- nothing more is written down
-mid_nothing : (plan : Plan) (commands : List Task) (s : Standing) → Mid plan commands s → Mid plan commands (with_records [] s)
+mid_nothing : (plan : Plan) (commands : List Task) (s : Model) → Mid plan commands s → Mid plan commands (with_records [] s)
 mid_nothing plan commands s mid = subst (λ (rs : List Record). Mid plan commands (record s { records = rs })) (sym (append-nil s.records)) mid
 
 -- while requests go out
@@ -40,7 +40,7 @@ going_placed : (phase : Phase) (left unsent : ℕ) (rest : List ℕ) (marks : Li
 going_placed phase left unsent rest marks is = record { empty = λ e. absurd (clash (is_bare phase) e (ap is_bare is)); finished = λ e. absurd (clash (says_done phase) e (ap says_done is)) }
 
 -- the clock was read, and a cycle begins
-mid_begun : (plan : Plan) (commands : List Task) (s : Standing) (m : Moment) → s.progress.phase ≡ Ready → s.progress.unsent ≡ 0 → commands_in s.marks ≡ 0 → 0 < s.progress.left → Mid plan commands s
+mid_begun : (plan : Plan) (commands : List Task) (s : Model) (m : Moment) → s.progress.phase ≡ Ready → s.progress.unsent ≡ 0 → commands_in s.marks ≡ 0 → 0 < s.progress.left → Mid plan commands s
     → Mid plan commands (with_progress (begun plan (length commands) m) s)
 mid_begun plan commands s m is none settled some mid =
     let p = s.progress in (
@@ -49,14 +49,15 @@ mid_begun plan commands s m is none settled some mid =
     )
 
 -- the line feed went out
-mid_cleared : (plan : Plan) (commands : List Task) (s : Standing) → s.progress.phase ≡ Clearing → Mid plan commands s → Mid plan commands (with_progress cleared s)
+mid_cleared : (plan : Plan) (commands : List Task) (s : Model) → s.progress.phase ≡ Clearing → Mid plan commands s → Mid plan commands (with_progress cleared s)
 mid_cleared plan commands s is mid = (mid.0, by_word (has_begun s.progress)) where
   by_word : (begun : Bool) → Placed (if begun then Draining else Ready) s.progress.left s.progress.unsent s.rest s.marks
   by_word true = record { empty = λ e. mid.1.empty (ap is_bare is); finished = λ e. cc }
   by_word false = record { empty = λ e. cc; finished = λ e. cc }
 
 -- a null procedure is sent behind those that are given up
-mid_flushed : (plan : Plan) (commands : List Task) (s : Standing) → s.progress.phase ≡ Ready → length s.client.waiting < 7 → Mid plan commands s → Mid plan commands (with_progress asking (asks_null plan s))
+mid_flushed : (plan : Plan) (commands : List Task) (s : Model) → s.progress.phase ≡ Ready → length s.client.waiting < 7 → Mid plan commands s
+    → Mid plan commands (with_progress asking (asks_null plan s))
 mid_flushed plan commands s is room mid =
     let p = s.progress in (
       sound_null plan commands p.left p.unsent s.client s.marks s.records 0 NullProc (later p.moment.elapsed plan.deadline) room mid.0,
@@ -64,88 +65,93 @@ mid_flushed plan commands s is room mid =
     )
 
 -- the next command is sent
-mid_first : (plan : Plan) (commands : List Task) (bound : Bool) (s : Standing) (left : List Task) → drop (place_next commands s.progress) commands ≡ left
-    → s.progress.phase ≡ Ready → 0 < s.progress.unsent → length s.client.waiting < 7 → Mid plan commands s → Mid plan commands (with_progress (sent bound) (asks_first (mark_next plan commands s.progress) left s))
-mid_first plan commands bound s [] at is some room mid =
+mid_first : (plan : Plan) (commands : List Task) (next_is_chained : Bool) (s : Model) (left : List Task) → drop (place_next commands s.progress) commands ≡ left
+    → s.progress.phase ≡ Ready → 0 < s.progress.unsent → length s.client.waiting < 7 → Mid plan commands s
+    → Mid plan commands (with_progress (sent next_is_chained) (asks_first (mark_next plan commands s.progress) left s))
+mid_first plan commands next_is_chained s [] at is some room mid =
     let sound = mid.0 in
     let n : length commands - place_next commands s.progress ≡ 0 = sym (length-drop (place_next commands s.progress) commands) ∙ ap length at in
     absurd (omega (arith, n, some, sound.unsents))
-mid_first plan commands bound s (task ∷ others) at is some room mid =
+mid_first plan commands next_is_chained s (task ∷ others) at is some room mid =
     let p = s.progress in
     let t = asks_first (mark_next plan commands p) (task ∷ others) s in (
       sound_sent plan commands p.left p.unsent s.client s.marks s.records p.moment.utc (later p.moment.elapsed task.deadline) task others room some at mid.0,
       going_placed p.phase p.left (p.unsent - 1) s.rest t.marks is,
     )
 
-mid_sent : (plan : Plan) (commands : List Task) (bound : Bool) (s : Standing) → s.progress.phase ≡ Ready → 0 < s.progress.unsent → length s.client.waiting < 7 → Mid plan commands s → Mid plan commands (with_progress (sent bound) (asks_next plan commands s))
-mid_sent plan commands bound s is some room mid = mid_first plan commands bound s (drop (place_next commands s.progress) commands) refl is some room mid
+mid_sent : (plan : Plan) (commands : List Task) (next_is_chained : Bool) (s : Model) → s.progress.phase ≡ Ready → 0 < s.progress.unsent
+    → length s.client.waiting < 7 → Mid plan commands s → Mid plan commands (with_progress (sent next_is_chained) (asks_next plan commands s))
+mid_sent plan commands next_is_chained s is some room mid = mid_first plan commands next_is_chained s (drop (place_next commands s.progress) commands) refl is some room mid
 
 -- the next command isn't sent
-mid_skips : (plan : Plan) (commands : List Task) (bound : Bool) (s : Standing) (m : Moment) (left : List Task) → drop (place_next commands s.progress) commands ≡ left
+mid_skips : (plan : Plan) (commands : List Task) (next_is_chained : Bool) (s : Model) (m : Moment) (left : List Task) → drop (place_next commands s.progress) commands ≡ left
     → s.progress.phase ≡ Ready → 0 < s.progress.unsent → commands_in s.marks ≡ 0 → Mid plan commands s
-    → Mid plan commands (with_progress (λ p. reckoned_early plan (commands_in s.marks) (skipped bound m p)) (with_records (skips_first s.progress m (mark_next plan commands s.progress) left) s))
-mid_skips plan commands bound s m [] at is some none mid =
+    → Mid plan commands (with_progress (λ p. reckoned_early plan (commands_in s.marks) (skipped next_is_chained m p))
+    (with_records (skips_first s.progress m (mark_next plan commands s.progress) left) s))
+mid_skips plan commands next_is_chained s m [] at is some none mid =
     let sound = mid.0 in
     let n : length commands - place_next commands s.progress ≡ 0 = sym (length-drop (place_next commands s.progress) commands) ∙ ap length at in
     absurd (omega (arith, n, some, sound.unsents))
-mid_skips plan commands bound s m (task ∷ others) at is some none mid =
+mid_skips plan commands next_is_chained s m (task ∷ others) at is some none mid =
     let p = s.progress in (
       sound_skipped plan commands p.left p.unsent s.client s.marks s.records (skipped_at m p) (if p.missed then Missed else Skipped) task others none some at mid.0,
       going_placed p.phase p.left (p.unsent - 1) s.rest s.marks is,
     )
 
-mid_skip : (plan : Plan) (commands : List Task) (bound : Bool) (s : Standing) (act : Act) → s.progress.phase ≡ Ready → 0 < s.progress.unsent → commands_in s.marks ≡ 0 → Mid plan commands s
-    → Mid plan commands (after_clock (λ m p. reckoned_early plan (commands_in s.marks) (skipped bound m p)) (with_records (skips plan commands s.progress act) s) act)
-mid_skip plan commands bound s (Told m) is some none mid =
-    mid_moment plan commands (with_progress (λ p. reckoned_early plan (commands_in s.marks) (skipped bound m p)) (with_records (skips plan commands s.progress (Told m)) s)) m
-    (mid_skips plan commands bound s m (drop (place_next commands s.progress) commands) refl is some none mid)
-mid_skip plan commands bound s act is some none mid = mid_fail plan commands (with_records [] s) cause.Clock refl (mid_nothing plan commands s mid)
+mid_skip : (plan : Plan) (commands : List Task) (next_is_chained : Bool) (s : Model) (act : Act) → s.progress.phase ≡ Ready → 0 < s.progress.unsent → commands_in s.marks ≡ 0 → Mid plan commands s
+    → Mid plan commands (after_clock (λ m p. reckoned_early plan (commands_in s.marks) (skipped next_is_chained m p)) (with_records (skips plan commands s.progress act) s) act)
+mid_skip plan commands next_is_chained s (Told m) is some none mid =
+    mid_moment plan commands (with_progress (λ p. reckoned_early plan (commands_in s.marks) (skipped next_is_chained m p)) (with_records (skips plan commands s.progress (Told m)) s)) m
+    (mid_skips plan commands next_is_chained s m (drop (place_next commands s.progress) commands) refl is some none mid)
+mid_skip plan commands next_is_chained s act is some none mid = mid_fail plan commands (with_records [] s) cause.Clock refl (mid_nothing plan commands s mid)
 
 -- a close for being done
-close_done : (plan : Plan) (commands : List Task) (s : Standing) (w : Waiting) (why : Cause) → Fine plan commands s → IsFor plan s.progress w (order.Close why) → why ≡ cause.Done → (s.progress.left ≡ 0) × (s.progress.unsent ≡ 0)
+close_done : (plan : Plan) (commands : List Task) (s : Model) (w : Waiting) (why : Cause) → Invariant plan commands s
+    → IsFor plan s.progress w (action.Close why) → why ≡ cause.Done → (s.progress.left ≡ 0) × (s.progress.unsent ≡ 0)
 close_done plan commands s w cause.Done fine (up, inl phase) is = let it = fine.finished (ap says_done phase) in (it.0, it.1)
 close_done plan commands s w cause.Done fine (up, inr end) is = (end.0, end.1)
 close_done plan commands s w why fine for_it is = cc
 
--- what an act of an order leaves
-pub mid_moved : (plan : Plan) (commands : List Task) (s : Standing) (order : Order) (act : Act) → Fine plan commands s → IsFor plan s.progress (waiting_of s) order
-    → Mid plan commands (moved plan commands order (with_progress turned s) act)
-mid_moved plan commands s order.ReadClock act fine is =
+-- what an act of an action leaves
+pub mid_moved : (plan : Plan) (commands : List Task) (s : Model) (action : Action) (act : Act) → Invariant plan commands s → IsFor plan s.progress (waiting_of s) action
+    → Mid plan commands (moved plan commands action (with_progress turned s) act)
+mid_moved plan commands s action.ReadClock act fine is =
     let t = with_progress turned s in mid_clock plan commands (λ m p. reckoned_early plan (commands_in t.marks) (told m p)) t act (mid_of plan commands s fine) (λ m. mid_of plan commands s fine)
-mid_moved plan commands s order.Renew act fine is =
+mid_moved plan commands s action.Renew act fine is =
     let t = with_progress turned s in mid_clock plan commands (λ m p. reckoned_early plan 0 (renewed plan m p)) t act (mid_of plan commands s fine) (λ m. mid_of plan commands s fine)
-mid_moved plan commands s order.Begin act fine is =
+mid_moved plan commands s action.Begin act fine is =
     let t = with_progress turned s in
     let mid = mid_of plan commands s fine in
     mid_clock plan commands (begun plan (length commands)) t act mid (λ m. mid_begun plan commands t m is.0 is.2 is.3 is.4 mid)
-mid_moved plan commands s order.Open act fine is = mid_open plan commands (with_progress turned s) act is (mid_of plan commands s fine)
-mid_moved plan commands s order.Clear act fine is =
+mid_moved plan commands s action.Open act fine is = mid_open plan commands (with_progress turned s) act is (mid_of plan commands s fine)
+mid_moved plan commands s action.Clear act fine is =
     let t = with_progress turned s in mid_put plan commands _ (with_progress cleared) t act (mid_cleared plan commands t is (mid_of plan commands s fine))
-mid_moved plan commands s order.Ask act fine is = let t = with_progress turned s in mid_put plan commands _ (with_progress (null_sent plan)) t act (let mid = mid_of plan commands s fine in (mid.0, mid.1))
-mid_moved plan commands s order.Send act fine is =
+mid_moved plan commands s action.Ask act fine is = let t = with_progress turned s in
+    mid_put plan commands _ (with_progress (null_sent plan)) t act (let mid = mid_of plan commands s fine in (mid.0, mid.1))
+mid_moved plan commands s action.Send act fine is =
     let t = with_progress turned s in
-    mid_put plan commands _ (λ (x : Standing). with_progress (sent (bound_next commands x.progress)) (asks_next plan commands x)) t act
-    (mid_sent plan commands (bound_next commands t.progress) t is.0 is.2 is.3.1 (mid_of plan commands s fine))
-mid_moved plan commands s order.Skip act fine is =
+    mid_put plan commands _ (λ (x : Model). with_progress (sent (is_chained_behind_next commands x.progress)) (asks_next plan commands x)) t act
+    (mid_sent plan commands (is_chained_behind_next commands t.progress) t is.0 is.2 is.3.1 (mid_of plan commands s fine))
+mid_moved plan commands s action.Skip act fine is =
     let t = with_progress turned s in
-    let bound = bound_next commands t.progress in
-    mid_skip plan commands bound t act is.0 is.2 is.3 (mid_of plan commands s fine)
-mid_moved plan commands s order.Flush act fine is =
+    let next_is_chained = is_chained_behind_next commands t.progress in
+    mid_skip plan commands next_is_chained t act is.0 is.2 is.3 (mid_of plan commands s fine)
+mid_moved plan commands s action.Flush act fine is =
     let t = with_progress turned s in
-    mid_put plan commands _ (λ (x : Standing). with_progress asking (asks_null plan x)) t act (mid_flushed plan commands t is.0 is.5.1 (mid_of plan commands s fine))
-mid_moved plan commands s (order.Read until) act fine is = mid_read plan commands until (with_progress turned s) act (mid_of plan commands s fine)
-mid_moved plan commands s (order.Close why) act fine is = mid_close plan commands (with_progress turned s) why (close_done plan commands s (waiting_of s) why fine is) (mid_of plan commands s fine)
-mid_moved plan commands s (order.Stop why) act fine is = mid_of plan commands s fine
+    mid_put plan commands _ (λ (x : Model). with_progress asking (asks_null plan x)) t act (mid_flushed plan commands t is.0 is.5.1 (mid_of plan commands s fine))
+mid_moved plan commands s (action.Read until) act fine is = mid_read plan commands until (with_progress turned s) act (mid_of plan commands s fine)
+mid_moved plan commands s (action.Close why) act fine is = mid_close plan commands (with_progress turned s) why (close_done plan commands s (waiting_of s) why fine is) (mid_of plan commands s fine)
+mid_moved plan commands s (action.Stop why) act fine is = mid_of plan commands s fine
 
-pub fine_after : (plan : Plan) (commands : List Task) (s : Standing) (act : Act) → Fine plan commands s → Fine plan commands (after plan commands s act)
+pub fine_after : (plan : Plan) (commands : List Task) (s : Model) (act : Act) → Invariant plan commands s → Invariant plan commands (after plan commands s act)
 fine_after plan commands s act fine =
-    fine_ended plan commands (moved plan commands (order_at plan s) (with_progress turned s) act) (mid_moved plan commands s (order_at plan s) act fine (order_for plan s.progress (waiting_of s)))
+    fine_ended plan commands (moved plan commands (action_at plan s) (with_progress turned s) act) (mid_moved plan commands s (action_at plan s) act fine (action_for plan s.progress (waiting_of s)))
 
-fine_all : (plan : Plan) (commands : List Task) (s : Standing) (acts : List Act) → Fine plan commands s → Fine plan commands (after_all plan commands s acts)
+fine_all : (plan : Plan) (commands : List Task) (s : Model) (acts : List Act) → Invariant plan commands s → Invariant plan commands (after_all plan commands s acts)
 fine_all plan commands s [] fine = fine
 fine_all plan commands s (act ∷ acts) fine = fine_all plan commands (after plan commands s act) acts (fine_after plan commands s act fine)
 
-pub fine_opening : (plan : Plan) (commands : List Task) (scope : Scope) → Fine plan commands (opening plan scope)
+pub fine_opening : (plan : Plan) (commands : List Task) (scope : Scope) → Invariant plan commands (opening plan scope)
 fine_opening plan commands scope =
     let none : plan.cycles - plan.cycles ≡ 0 = omega arith in
     record {
@@ -163,11 +169,11 @@ fine_opening plan commands scope =
     }
 
 -- whatever the link tells
-pub fine_stood : (plan : Plan) (commands : List Task) (scope : Scope) (acts : List Act) → Fine plan commands (stood plan commands scope acts)
+pub fine_stood : (plan : Plan) (commands : List Task) (scope : Scope) (acts : List Act) → Invariant plan commands (stood plan commands scope acts)
 fine_stood plan commands scope acts = fine_all plan commands (opening plan scope) acts (fine_opening plan commands scope)
 
 -- where a run stopped no act follows
-pub stop_over : (plan : Plan) (p : Progress) (w : Waiting) (why : Cause) → IsFor plan p w (order.Stop why) → is_over p ≡ true
+pub stop_over : (plan : Plan) (p : Progress) (w : Waiting) (why : Cause) → IsFor plan p w (action.Stop why) → is_over p ≡ true
 stop_over plan p w why (down, inl over) = ap (λ (phase : Phase). is_over_in phase || (not (is_up phase) && nat_eq p.turns 0)) over
 stop_over plan p w why (down, inr turns) = either_way (is_over_in p.phase) (is_up p.phase) (nat_eq p.turns 0) down (ap (λ (n : ℕ). nat_eq n 0) turns.1) where
   either_way : (o up none : Bool) → up ≡ false → none ≡ true → (o || (not up && none)) ≡ true
@@ -176,12 +182,13 @@ stop_over plan p w why (down, inr turns) = either_way (is_over_in p.phase) (is_u
   either_way false false false d n = cc
   either_way false true none d n = cc
 
-pub stopped : (plan : Plan) (commands : List Task) (s : Standing) (why : Cause) → Fine plan commands s → order_at plan s ≡ order.Stop why
-    → (s.client.waiting ≡ []) × (map of_record s.records ≡ sent_by commands (plan.cycles - s.progress.left) (place_next commands s.progress)) × (why ≡ cause.Done → (s.progress.left ≡ 0) × (s.progress.unsent ≡ 0))
+pub stopped : (plan : Plan) (commands : List Task) (s : Model) (why : Cause) → Invariant plan commands s → action_at plan s ≡ action.Stop why
+    → (s.client.waiting ≡ []) × (map of_record s.records ≡ sent_by commands (plan.cycles - s.progress.left) (place_next commands s.progress))
+    × (why ≡ cause.Done → (s.progress.left ≡ 0) × (s.progress.unsent ≡ 0))
 stopped plan commands s why fine stop =
     let p = s.progress in
     let w = waiting_of s in
-    let is : IsFor plan p w (order.Stop why) = subst (λ (o : Order). IsFor plan p w o) stop (order_for plan p w) in
+    let is : IsFor plan p w (action.Stop why) = subst (λ (o : Action). IsFor plan p w o) stop (action_for plan p w) in
     let nothing = fine.over (stop_over plan p w why is) in (
       nothing,
       each_empty s.marks s.client.waiting s.records (sent_by commands (plan.cycles - p.left) (place_next commands p)) nothing fine.each,

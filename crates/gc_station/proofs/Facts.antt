@@ -1,4 +1,4 @@
--- What holds where an order is next: its reasons, whether the moment was told, and that a request has room. One walk over the decision.
+-- What holds where an action is next: its reasons, whether the moment was told, and that a request has room. One walk over the decision.
 use Rattle.std.proofs.Common.{◌≡◌, ℕ, ◌<◌, ◌≤◌, ◌⊎◌, ◌&&◌, ◌||◌, Bool, true, false, not, if◌then◌else◌, nat_lt, nat_le, nat_eq, refl, sym, ap, ◌∙◌, inl, inr, arith}
 use Rattle.std.proofs.lemmas.Bool.{ltb-true, ltb-false, leb-true, eqb-true}
 use Rattle.std.proofs.lemmas.Bool.Decides.{nat_tests}
@@ -8,13 +8,13 @@ use Rattle.gc_station.specs.declared.cause.Cause.{Cause}
 use Rattle.gc_station.specs.declared.cause.Cause.TheVariants as cause
 use Rattle.gc_station.specs.declared.progress.Phase.{Phase}
 use Rattle.gc_station.specs.declared.progress.Phase.TheVariants.{Down, Pausing, Clearing, Draining, Ready, Closing, Over}
-use Rattle.gc_station.specs.declared.progress.Order.{Order}
-use Rattle.gc_station.specs.declared.progress.Order.TheVariants as order
+use Rattle.gc_station.specs.declared.progress.Action.{Action}
+use Rattle.gc_station.specs.declared.progress.Action.TheVariants as action
 use Rattle.gc_station.specs.declared.progress.Progress.{Progress}
 use Rattle.gc_station.specs.declared.progress.Until.TheVariants.{Limit, Due}
 use Rattle.gc_station.specs.declared.progress.Waiting.{Waiting}
 use Rattle.gc_station.specs.Reasons.{IsFor, IsHeld, HasRoom, NothingMayGo}
-use Rattle.gc_station.specs.Deciding.{width_of, has_begun, is_up, is_dead, is_due, is_idle, is_finished, has_room, order_of, order_in, order_on, order_told, may_go, order_ready, order_begun, order_beginning, order_sent, order_settled, order_done, order_room, order_waiting, order_up}
+use Rattle.gc_station.specs.Deciding.{width_of, has_begun, is_up, is_dead, is_due, is_idle, is_finished, has_room, action_of, action_in, action_on, action_told, may_go, action_ready, action_begun, action_beginning, action_sent, action_settled, action_done, action_room, action_waiting, action_up}
 use Rattle.gc_station.specs.Stations.{IsFitting}
 
 -- what holds of both holds of the one that a test takes
@@ -59,10 +59,10 @@ no_room plan p w (inr e) = inr (inr (inl (ltb-false w.all WINDOW e)))
 abbrev pub Reads : Progress → Type 0
 Reads p = (p.stale ≡ false) × (p.phase ≡ Clearing → ⊥)
 
-abbrev pub Timely : Progress → Order → Type 0
-Timely p order.ReadClock = p.stale ≡ true
-Timely p order.Open = p.stale ≡ false
-Timely p (order.Read until) = Reads p
+abbrev pub Timely : Progress → Action → Type 0
+Timely p action.ReadClock = p.stale ≡ true
+Timely p action.Open = p.stale ≡ false
+Timely p (action.Read until) = Reads p
 Timely p _ = Unit {0}
 
 -- Requests go out, it begins anew, and a connection is closed for a dead line, only where requests may go, behind a moment that was told.
@@ -70,16 +70,16 @@ Timely p _ = Unit {0}
 abbrev pub Awake : Progress → Type 0
 Awake p = (p.stale ≡ false) × (p.phase ≡ Ready)
 
-abbrev pub Wakes : Progress → Order → Type 0
-Wakes p order.Renew = Awake p
-Wakes p order.Ask = Awake p
-Wakes p order.Send = Awake p
-Wakes p order.Flush = Awake p
-Wakes p (order.Close cause.Dead) = (p.phase ≡ Closing cause.Dead) ⊎ Awake p
+abbrev pub Wakes : Progress → Action → Type 0
+Wakes p action.Renew = Awake p
+Wakes p action.Ask = Awake p
+Wakes p action.Send = Awake p
+Wakes p action.Flush = Awake p
+Wakes p (action.Close cause.Dead) = (p.phase ≡ Closing cause.Dead) ⊎ Awake p
 Wakes p _ = Unit {0}
 
 -- all of it
-abbrev Holds : Plan → Progress → Waiting → Order → Type 0
+abbrev Holds : Plan → Progress → Waiting → Action → Type 0
 Holds plan p w next = IsFor plan p w next × Timely p next × Wakes p next
 
 awake_up : (p : Progress) → Awake p → is_up p.phase ≡ true
@@ -92,12 +92,13 @@ awake_reads p (now, is) = (now, λ c. let other : Ready ≡ Clearing = sym is �
 abbrev Full : Waiting → Type 0
 Full w = w.current ≡ 0 → WINDOW ≤ w.all
 
-waits : (plan : Plan) (p : Progress) (w : Waiting) → Awake p → has_begun p ≡ true → NothingMayGo plan p w → Full w → Holds plan p w (order_waiting plan p w)
+waits : (plan : Plan) (p : Progress) (w : Waiting) → Awake p → has_begun p ≡ true → NothingMayGo plan p w → Full w → Holds plan p w (action_waiting plan p w)
 waits plan p w awake begun nothing full =
     let P = Holds plan p w in
     let up = awake_up p awake in
-    either P (order.Close cause.Dead) _ (is_dead plan p w) (λ d. ((up, inr (nothing, d)), tt, inr awake))
-    (λ d. either P order.Renew (order.Read Limit) (nat_eq w.current 0) (λ e. let none = eqb-true w.current 0 e in ((awake.1, begun, none, full none), tt, awake)) (λ e. (tt, awake_reads p awake, tt)))
+    either P (action.Close cause.Dead) _ (is_dead plan p w) (λ d. ((up, inr (nothing, d)), tt, inr awake))
+    (λ d. either P action.Renew (action.Read Limit) (nat_eq w.current 0)
+    (λ e. let none = eqb-true w.current 0 e in ((awake.1, begun, none, full none), tt, awake)) (λ e. (tt, awake_reads p awake, tt)))
 
 some_wide : (plan : Plan) → 0 < width_of plan
 some_wide plan = omega arith
@@ -106,57 +107,59 @@ no_room_full : (plan : Plan) (w : Waiting) → (nat_lt w.current (width_of plan)
 no_room_full plan w (inl e) none = let few : width_of plan ≤ w.current = ltb-false w.current (width_of plan) e in absurd (omega (arith, none, few, some_wide plan))
 no_room_full plan w (inr e) none = ltb-false w.all WINDOW e
 
-room_for : (plan : Plan) (p : Progress) (w : Waiting) (o : Order) → Awake p → has_begun p ≡ true → (HasRoom plan w → Holds plan p w o) → Holds plan p w (order_room plan p w o)
+room_for : (plan : Plan) (p : Progress) (w : Waiting) (o : Action) → Awake p → has_begun p ≡ true → (HasRoom plan w → Holds plan p w o) → Holds plan p w (action_room plan p w o)
 room_for plan p w o awake begun step =
     either (Holds plan p w) o _ (has_room plan w) (λ e. step (room_there plan w e))
     (λ e. let none = one_false (nat_lt w.current (width_of plan)) (nat_lt w.all WINDOW) e in waits plan p w awake begun (no_room plan p w none) (no_room_full plan w none))
 
-done_for : (plan : Plan) (p : Progress) (w : Waiting) → Awake p → has_begun p ≡ true → p.unsent ≡ 0 → w.commands ≡ 0 → Holds plan p w (order_done plan p)
+done_for : (plan : Plan) (p : Progress) (w : Waiting) → Awake p → has_begun p ≡ true → p.unsent ≡ 0 → w.commands ≡ 0 → Holds plan p w (action_done plan p)
 done_for plan p w awake begun sent settled =
     let P = Holds plan p w in
-    either P (order.Close cause.Done) _ (nat_eq p.left 0) (λ e. ((awake_up p awake, inr (eqb-true p.left 0 e, sent, settled)), tt, tt))
-    (λ e. either P order.Begin (order.Read Due) (is_due plan p) (λ d. ((awake.1, begun, sent, settled, some_left p.left e), tt, tt)) (λ d. (tt, awake_reads p awake, tt)))
+    either P (action.Close cause.Done) _ (nat_eq p.left 0) (λ e. ((awake_up p awake, inr (eqb-true p.left 0 e, sent, settled)), tt, tt))
+    (λ e. either P action.Begin (action.Read Due) (is_due plan p) (λ d. ((awake.1, begun, sent, settled, some_left p.left e), tt, tt)) (λ d. (tt, awake_reads p awake, tt)))
 
 -- of what is held, what isn't the end of the cycle is of a chain
-chained : (p : Progress) → IsHeld p → nat_eq p.unsent 0 ≡ false → p.bound ≡ true
+chained : (p : Progress) → IsHeld p → nat_eq p.unsent 0 ≡ false → p.next_is_chained ≡ true
 chained p (inl none) e = let some : 0 < p.unsent = some_left p.unsent e in absurd (omega (arith, none, some))
-chained p (inr bound) e = bound
+chained p (inr next_is_chained) e = next_is_chained
 
-settled_for : (plan : Plan) (p : Progress) (w : Waiting) → Awake p → has_begun p ≡ true → IsHeld p → w.commands ≡ 0 → Holds plan p w (order_settled plan p w)
+settled_for : (plan : Plan) (p : Progress) (w : Waiting) → Awake p → has_begun p ≡ true → IsHeld p → w.commands ≡ 0 → Holds plan p w (action_settled plan p w)
 settled_for plan p w awake begun held settled =
     let P = Holds plan p w in
     either P _ _ (nat_eq p.unsent 0) (λ e. done_for plan p w awake begun (eqb-true p.unsent 0 e) settled)
-    (λ e. either P _ order.Skip (may_go p w)
-    (λ well. let it = both_true w.well p.whole well in room_for plan p w order.Send awake begun (λ room. ((awake.1, begun, some_left p.unsent e, room, inr (settled, it.0, it.1)), tt, awake)))
+    (λ e. either P _ action.Skip (may_go p w)
+    (λ well. let it = both_true w.well p.chain_unbroken well in room_for plan p w action.Send awake begun
+    (λ room. ((awake.1, begun, some_left p.unsent e, room, inr (settled, it.0, it.1)), tt, awake)))
     (λ broken. ((awake.1, begun, some_left p.unsent e, settled, chained p held e, broken), tt, tt)))
 
-sent_for : (plan : Plan) (p : Progress) (w : Waiting) → Awake p → has_begun p ≡ true → IsHeld p → Holds plan p w (order_sent plan p w)
+sent_for : (plan : Plan) (p : Progress) (w : Waiting) → Awake p → has_begun p ≡ true → IsHeld p → Holds plan p w (action_sent plan p w)
 sent_for plan p w awake begun held =
     let P = Holds plan p w in
     either P _ _ (nat_eq w.commands 0) (λ e. settled_for plan p w awake begun held (eqb-true w.commands 0 e))
     (λ e. either P _ _ (nat_eq w.current 0)
-    (λ given. room_for plan p w order.Flush awake begun (λ room. ((awake.1, begun, held, some_left w.commands e, eqb-true w.current 0 given, room), tt, awake)))
+    (λ given. room_for plan p w action.Flush awake begun (λ room. ((awake.1, begun, held, some_left w.commands e, eqb-true w.current 0 given, room), tt, awake)))
     (λ some. let many = some_left w.current some in waits plan p w awake begun (inr (inr (inr (held, some_left w.commands e, many)))) (λ none. absurd (omega (arith, none, many)))))
 
 -- what may not go at once is held
-held_so : (p : Progress) → (nat_lt 0 p.unsent && not p.bound) ≡ false → IsHeld p
-held_so p e = by_half (one_false (nat_lt 0 p.unsent) (not p.bound) e) where
+held_so : (p : Progress) → (nat_lt 0 p.unsent && not p.next_is_chained) ≡ false → IsHeld p
+held_so p e = by_half (one_false (nat_lt 0 p.unsent) (not p.next_is_chained) e) where
   negated : (b : Bool) → not b ≡ false → b ≡ true
   negated true e = refl
   negated false e = cc
 
-  by_half : ((nat_lt 0 p.unsent ≡ false) ⊎ (not p.bound ≡ false)) → IsHeld p
+  by_half : ((nat_lt 0 p.unsent ≡ false) ⊎ (not p.next_is_chained ≡ false)) → IsHeld p
   by_half (inl none) = inl (none_left p.unsent none)
-  by_half (inr bound) = inr (negated p.bound bound)
+  by_half (inr next_is_chained) = inr (negated p.next_is_chained next_is_chained)
 
 free_so : (b : Bool) → not b ≡ true → b ≡ false
 free_so true e = cc
 free_so false e = refl
 
-begun_for : (plan : Plan) (p : Progress) (w : Waiting) → Awake p → has_begun p ≡ true → Holds plan p w (order_begun plan p w)
+begun_for : (plan : Plan) (p : Progress) (w : Waiting) → Awake p → has_begun p ≡ true → Holds plan p w (action_begun plan p w)
 begun_for plan p w awake begun =
-    either (Holds plan p w) _ _ (nat_lt 0 p.unsent && not p.bound)
-    (λ some. let it = both_true (nat_lt 0 p.unsent) (not p.bound) some in room_for plan p w order.Send awake begun (λ room. ((awake.1, begun, ltb-true 0 p.unsent it.0, room, inl (free_so p.bound it.1)), tt, awake)))
+    either (Holds plan p w) _ _ (nat_lt 0 p.unsent && not p.next_is_chained)
+    (λ some. let it = both_true (nat_lt 0 p.unsent) (not p.next_is_chained) some in
+    room_for plan p w action.Send awake begun (λ room. ((awake.1, begun, ltb-true 0 p.unsent it.0, room, inl (free_so p.next_is_chained it.1)), tt, awake)))
     (λ none. sent_for plan p w awake begun (held_so p none))
 
 -- nothing is left to be sent, and none waits
@@ -166,22 +169,23 @@ finished_so commands p e =
     let sent = both_true (nat_eq p.left 0) (nat_eq p.unsent 0) it.0 in
     (eqb-true p.left 0 sent.0, eqb-true p.unsent 0 sent.1, eqb-true commands 0 it.1)
 
-beginning_for : (plan : Plan) (p : Progress) (w : Waiting) → Awake p → has_begun p ≡ false → Holds plan p w (order_beginning plan p w)
+beginning_for : (plan : Plan) (p : Progress) (w : Waiting) → Awake p → has_begun p ≡ false → Holds plan p w (action_beginning plan p w)
 beginning_for plan p w awake begun =
     let P = Holds plan p w in
-    either P (order.Close cause.Done) _ (is_finished w.commands p) (λ none. ((awake_up p awake, inr (finished_so w.commands p none)), tt, tt))
-    (λ more. either P (order.Read Due) _ (is_idle plan p) (λ idle. (tt, awake_reads p awake, tt))
-    (λ busy. either P (order.Close cause.Dead) _ (is_dead plan p w) (λ d. ((awake_up p awake, inr (inl begun, d)), tt, inr awake))
-    (λ d. either P order.Ask (order.Read Limit) (nat_le p.again p.moment.elapsed) (λ e. ((awake.1, begun, leb-true p.again p.moment.elapsed e, busy), tt, awake)) (λ e. (tt, awake_reads p awake, tt)))))
+    either P (action.Close cause.Done) _ (is_finished w.commands p) (λ none. ((awake_up p awake, inr (finished_so w.commands p none)), tt, tt))
+    (λ more. either P (action.Read Due) _ (is_idle plan p) (λ idle. (tt, awake_reads p awake, tt))
+    (λ busy. either P (action.Close cause.Dead) _ (is_dead plan p w) (λ d. ((awake_up p awake, inr (inl begun, d)), tt, inr awake))
+    (λ d. either P action.Ask (action.Read Limit) (nat_le p.again p.moment.elapsed)
+    (λ e. ((awake.1, begun, leb-true p.again p.moment.elapsed e, busy), tt, awake)) (λ e. (tt, awake_reads p awake, tt)))))
 
-ready : (plan : Plan) (p : Progress) (w : Waiting) → Awake p → Holds plan p w (order_ready plan p w)
+ready : (plan : Plan) (p : Progress) (w : Waiting) → Awake p → Holds plan p w (action_ready plan p w)
 ready plan p w awake = either (Holds plan p w) _ _ (has_begun p) (λ begun. begun_for plan p w awake begun) (λ begun. beginning_for plan p w awake begun)
 
-closing_wakes : (p : Progress) (why : Cause) → p.phase ≡ Closing why → Wakes p (order.Close why)
+closing_wakes : (p : Progress) (why : Cause) → p.phase ≡ Closing why → Wakes p (action.Close why)
 closing_wakes p cause.Dead is = inl is
 closing_wakes p why is = tt
 
-told_for : (plan : Plan) (phase : Phase) (p : Progress) (w : Waiting) → p.phase ≡ phase → p.stale ≡ false → Holds plan p w (order_told plan phase p w)
+told_for : (plan : Plan) (phase : Phase) (p : Progress) (w : Waiting) → p.phase ≡ phase → p.stale ≡ false → Holds plan p w (action_told plan phase p w)
 told_for plan Down p w is now = (is, now, tt)
 told_for plan Pausing p w is now = (tt, (now, λ c. let other : Pausing ≡ Clearing = sym is ∙ c in cc), tt)
 told_for plan Clearing p w is now = (is, tt, tt)
@@ -190,37 +194,38 @@ told_for plan Ready p w is now = ready plan p w (now, is)
 told_for plan (Closing why) p w is now = ((ap is_up is, inl is), tt, closing_wakes p why is)
 told_for plan (Over why) p w is now = ((ap is_up is, inl is), tt, tt)
 
-up_for : (plan : Plan) (p : Progress) (w : Waiting) (up : Bool) → is_up p.phase ≡ up → p.turns ≡ 0 → Holds plan p w (order_up up)
+up_for : (plan : Plan) (p : Progress) (w : Waiting) (up : Bool) → is_up p.phase ≡ up → p.turns ≡ 0 → Holds plan p w (action_up up)
 up_for plan p w true is none = ((is, inr none), tt, tt)
 up_for plan p w false is none = ((is, inr (refl, none)), tt, tt)
 
-on_for : (plan : Plan) (p : Progress) (w : Waiting) → Holds plan p w (order_on plan p w)
+on_for : (plan : Plan) (p : Progress) (w : Waiting) → Holds plan p w (action_on plan p w)
 on_for plan p w =
     let P = Holds plan p w in
-    either P _ _ (nat_eq p.turns 0) (λ e. up_for plan p w (is_up p.phase) refl (eqb-true p.turns 0 e)) (λ e. either P order.ReadClock _ p.stale (λ old. (tt, old, tt)) (λ now. told_for plan p.phase p w refl now))
+    either P _ _ (nat_eq p.turns 0) (λ e. up_for plan p w (is_up p.phase) refl (eqb-true p.turns 0 e))
+    (λ e. either P action.ReadClock _ p.stale (λ old. (tt, old, tt)) (λ now. told_for plan p.phase p w refl now))
 
-in_for : (plan : Plan) (phase : Phase) (p : Progress) (w : Waiting) → p.phase ≡ phase → Holds plan p w (order_in phase plan p w)
+in_for : (plan : Plan) (phase : Phase) (p : Progress) (w : Waiting) → p.phase ≡ phase → Holds plan p w (action_in phase plan p w)
 in_for plan (Closing why) p w is = ((ap is_up is, inl is), tt, closing_wakes p why is)
 in_for plan (Over why) p w is = ((ap is_up is, inl is), tt, tt)
 in_for plan phase p w is = on_for plan p w
 
--- where an order is next
-pub order_for : (plan : Plan) (p : Progress) (w : Waiting) → IsFor plan p w (order_of plan p w)
-order_for plan p w = (in_for plan p.phase p w refl).0
+-- where an action is next
+pub action_for : (plan : Plan) (p : Progress) (w : Waiting) → IsFor plan p w (action_of plan p w)
+action_for plan p w = (in_for plan p.phase p w refl).0
 
-pub order_timely : (plan : Plan) (p : Progress) (w : Waiting) → Timely p (order_of plan p w)
+pub order_timely : (plan : Plan) (p : Progress) (w : Waiting) → Timely p (action_of plan p w)
 order_timely plan p w = (in_for plan p.phase p w refl).1
 
-pub order_wakes : (plan : Plan) (p : Progress) (w : Waiting) → Wakes p (order_of plan p w)
+pub order_wakes : (plan : Plan) (p : Progress) (w : Waiting) → Wakes p (action_of plan p w)
 order_wakes plan p w = (in_for plan p.phase p w refl).2
 
 -- where a request is to be sent, the window has room, and where it is a command's, one is left
-fits : (plan : Plan) (p : Progress) (w : Waiting) (next : Order) → IsFor plan p w next → IsFitting p w.all next
-fits plan p w order.Ask is = is.1
-fits plan p w order.Send is = (is.2, is.3.1)
-fits plan p w order.Skip is = is.2
-fits plan p w order.Flush is = is.5.1
+fits : (plan : Plan) (p : Progress) (w : Waiting) (next : Action) → IsFor plan p w next → IsFitting p w.all next
+fits plan p w action.Ask is = is.1
+fits plan p w action.Send is = (is.2, is.3.1)
+fits plan p w action.Skip is = is.2
+fits plan p w action.Flush is = is.5.1
 fits plan p w next is = tt
 
-pub order_fits : (plan : Plan) (p : Progress) (w : Waiting) → IsFitting p w.all (order_of plan p w)
-order_fits plan p w = fits plan p w (order_of plan p w) (order_for plan p w)
+pub order_fits : (plan : Plan) (p : Progress) (w : Waiting) → IsFitting p w.all (action_of plan p w)
+order_fits plan p w = fits plan p w (action_of plan p w) (action_for plan p w)

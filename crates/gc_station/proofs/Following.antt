@@ -14,21 +14,21 @@ use Rattle.gc_station.specs.Marks.{records_of}
 use Rattle.gc_station.specs.Parts.{Turn, Part, nothing, joined, acting, in_front, parts_of, sent_of}
 use Rattle.gc_station.specs.Progressing.{turned, loses_all}
 use Rattle.gc_station.specs.Records.{Record}
-use Rattle.gc_station.specs.Standing.{Standing, order_at, waiting_of, with_progress, moved, losing, after, after_all, Runs}
+use Rattle.gc_station.specs.Model.{Model, action_at, waiting_of, with_progress, moved, losing, after, after_all, Runs}
 use Rattle.gc_station.proofs.Booking.{Books, books_both, books_nothing, books_restart, records_none, sent_records, restarting}
 use Rattle.gc_station.proofs.Counts.{losing_progress}
 use Rattle.gc_station.proofs.EachRun.{fine_after, mid_moved}
-use Rattle.gc_station.proofs.Facts.{order_for}
-use Rattle.gc_station.proofs.Fine.{Fine}
-use Rattle.gc_station.proofs.Parting.{Leads, leads, keeps_order}
+use Rattle.gc_station.proofs.Facts.{action_for}
+use Rattle.gc_station.proofs.Invariant.{Invariant}
+use Rattle.gc_station.proofs.Parting.{Leads, leads, keeps_action}
 use Rattle.gc_station.proofs.Readings.{moved_reads, ended_reads}
 
 -- parts of a run, from a client on: behind each but the last it restarts
-abbrev pub Follows : (Call → List ℕ → Reading) → List Task → ById → List (Option Mark) → List Record → List Part → Standing → Type 0
-Follows reads commands c ms rs [] end = ⊥
-Follows reads commands c ms rs (p ∷ []) end = Books reads commands c ms rs p end.client end.marks (sent_of end.records)
-Follows reads commands c ms rs (p ∷ q ∷ ps) end =
-    (records : List Record) × Books reads commands c ms rs (joined p restarting) fresh [] records × Follows reads commands fresh [] records (q ∷ ps) end
+abbrev pub BooksInParts : (Call → List ℕ → Reading) → List Task → ById → List (Option Mark) → List Record → List Part → Model → Type 0
+BooksInParts reads commands c ms rs [] end = ⊥
+BooksInParts reads commands c ms rs (p ∷ []) end = Books reads commands c ms rs p end.client end.marks (sent_of end.records)
+BooksInParts reads commands c ms rs (p ∷ q ∷ ps) end =
+    (records : List Record) × Books reads commands c ms rs (joined p restarting) fresh [] records × BooksInParts reads commands fresh [] records (q ∷ ps) end
 
 joined_assoc : (p q r : Part) → joined (joined p q) r ≡ joined p (joined q r)
 joined_assoc p q r =
@@ -37,14 +37,14 @@ joined_assoc p q r =
     ∙ ap (λ (marks : List (Option Mark)). record { turns = p.turns ++ (q.turns ++ r.turns); steps = p.steps ++ (q.steps ++ r.steps); marks = marks }) (append_assoc p.marks q.marks r.marks)
 
 -- a part ends
-follows_cut : (reads : Call → List ℕ → Reading) (commands : List Task) (c : ById) (ms : List (Option Mark)) (rs mid : List Record) (p : Part) (ps : List Part) (end : Standing)
-    → Books reads commands c ms rs (joined p restarting) fresh [] mid → Follows reads commands fresh [] mid ps end → Follows reads commands c ms rs (p ∷ ps) end
+follows_cut : (reads : Call → List ℕ → Reading) (commands : List Task) (c : ById) (ms : List (Option Mark)) (rs mid : List Record) (p : Part) (ps : List Part) (end : Model)
+    → Books reads commands c ms rs (joined p restarting) fresh [] mid → BooksInParts reads commands fresh [] mid ps end → BooksInParts reads commands c ms rs (p ∷ ps) end
 follows_cut reads commands c ms rs mid p [] end h g = absurd g
 follows_cut reads commands c ms rs mid p (q ∷ ps) end h g = (mid, h, g)
 
 -- or it goes on
-follows_on : (reads : Call → List ℕ → Reading) (commands : List Task) (c c1 : ById) (ms ms1 : List (Option Mark)) (rs rs1 : List Record) (p : Part) (ps : List Part) (end : Standing)
-    → Books reads commands c ms rs p c1 ms1 rs1 → Follows reads commands c1 ms1 rs1 ps end → Follows reads commands c ms rs (in_front p false ps) end
+follows_on : (reads : Call → List ℕ → Reading) (commands : List Task) (c c1 : ById) (ms ms1 : List (Option Mark)) (rs rs1 : List Record) (p : Part) (ps : List Part) (end : Model)
+    → Books reads commands c ms rs p c1 ms1 rs1 → BooksInParts reads commands c1 ms1 rs1 ps end → BooksInParts reads commands c ms rs (in_front p false ps) end
 follows_on reads commands c c1 ms ms1 rs rs1 p [] end h g = absurd g
 follows_on reads commands c c1 ms ms1 rs rs1 p (q ∷ []) end h g = books_both reads commands c c1 end.client ms ms1 end.marks rs rs1 (sent_of end.records) p q h g
 follows_on reads commands c c1 ms ms1 rs rs1 p (q ∷ next ∷ ps) end h g =
@@ -54,17 +54,18 @@ follows_on reads commands c c1 ms ms1 rs rs1 p (q ∷ next ∷ ps) end h g =
 -- Behind an act.
 
 -- what waits is lost
-leads_lost : (commands : List Task) (t : Standing) (b : Bool) → b ≡ true → length t.marks ≡ length t.client.waiting → Leads commands t restarting (losing b t)
+leads_lost : (commands : List Task) (t : Model) (b : Bool) → b ≡ true → length t.marks ≡ length t.client.waiting → Leads commands t restarting (losing b t)
 leads_lost commands t true is paired =
-    subst (λ (rs : List Record). Books t.reads commands t.client t.marks (sent_of t.records) restarting fresh (drop (length (map lost t.client.waiting)) t.marks) rs) (sym (sent_records t.reads t.records t.progress.moment.utc t.marks (map lost t.client.waiting)))
+    subst (λ (rs : List Record). Books t.reads commands t.client t.marks (sent_of t.records) restarting fresh
+    (drop (length (map lost t.client.waiting)) t.marks) rs) (sym (sent_records t.reads t.records t.progress.moment.utc t.marks (map lost t.client.waiting)))
     (books_restart t.reads commands t.client t.marks (sent_of t.records) t.progress.moment.utc paired)
 leads_lost commands t false is paired = cc
 
-lost_fresh : (t : Standing) (b : Bool) → b ≡ true → (losing b t).client ≡ fresh
+lost_fresh : (t : Model) (b : Bool) → b ≡ true → (losing b t).client ≡ fresh
 lost_fresh t true is = refl
 lost_fresh t false is = cc
 
-kept_same : (t : Standing) (b : Bool) → b ≡ false → losing b t ≡ t
+kept_same : (t : Model) (b : Bool) → b ≡ false → losing b t ≡ t
 kept_same t true is = cc
 kept_same t false is = refl
 
@@ -73,9 +74,10 @@ leads_idle : (reads : Call → List ℕ → Reading) (commands : List Task) (c :
     → Books reads commands c ms (sent_of rs) nothing fresh (drop (length (map lost c.waiting)) ms) (sent_of (rs ++ records_of reads utc ms (map lost c.waiting)))
 leads_idle reads commands c ms rs utc is =
     subst (λ (d : ById). Books reads commands d ms (sent_of rs) nothing fresh (drop (length (map lost d.waiting)) ms) (sent_of (rs ++ records_of reads utc ms (map lost d.waiting)))) (sym is)
-    (subst (λ (l : List Record). Books reads commands fresh ms (sent_of rs) nothing fresh ms (sent_of l)) (sym (ap (λ l. rs ++ l) (records_none reads utc ms) ∙ append-nil rs)) (books_nothing reads commands fresh ms (sent_of rs)))
+    (subst (λ (l : List Record). Books reads commands fresh ms (sent_of rs) nothing fresh ms (sent_of l))
+    (sym (ap (λ l. rs ++ l) (records_none reads utc ms) ∙ append-nil rs)) (books_nothing reads commands fresh ms (sent_of rs)))
 
-idle_lost : (commands : List Task) (t : Standing) (b : Bool) → t.client ≡ fresh → Leads commands t nothing (losing b t)
+idle_lost : (commands : List Task) (t : Model) (b : Bool) → t.client ≡ fresh → Leads commands t nothing (losing b t)
 idle_lost commands t true is = leads_idle t.reads commands t.client t.marks t.records t.progress.moment.utc is
 idle_lost commands t false is = books_nothing t.reads commands t.client t.marks (sent_of t.records)
 
@@ -85,34 +87,35 @@ joined_nothing p =
     ∙ ap (λ (steps : List Step). record { turns = p.turns; steps = steps; marks = p.marks ++ [] }) (append-nil p.steps)
     ∙ ap (λ (marks : List (Option Mark)). record { turns = p.turns; steps = p.steps; marks = marks }) (append-nil p.marks)
 
--- from one standing to another, where replies say this
-abbrev LeadsBy : (Call → List ℕ → Reading) → List Task → Standing → Part → Standing → Type 0
+-- from one model to another, where replies say this
+abbrev LeadsBy : (Call → List ℕ → Reading) → List Task → Model → Part → Model → Type 0
 LeadsBy reads commands s p t = Books reads commands s.client s.marks (sent_of s.records) p t.client t.marks (sent_of t.records)
 
-leads_by : (reads : Call → List ℕ → Reading) (commands : List Task) (s : Standing) (p : Part) (t : Standing) → s.reads ≡ reads → Leads commands s p t → LeadsBy reads commands s p t
+leads_by : (reads : Call → List ℕ → Reading) (commands : List Task) (s : Model) (p : Part) (t : Model) → s.reads ≡ reads → Leads commands s p t → LeadsBy reads commands s p t
 leads_by reads commands s p t is h = subst (λ (r : Call → List ℕ → Reading). LeadsBy r commands s p t) is h
 
 module _ (plan : Plan) (commands : List Task) (reads : Call → List ℕ → Reading) where
   -- while it begins nothing waits, so that nothing is lost
-  leads_idly : (s : Standing) (p : Part) (t : Standing) → t.reads ≡ reads → t.client ≡ fresh → LeadsBy reads commands s p t → LeadsBy reads commands s p (losing (loses_all t.progress) t)
+  leads_idly : (s : Model) (p : Part) (t : Model) → t.reads ≡ reads → t.client ≡ fresh → LeadsBy reads commands s p t → LeadsBy reads commands s p (losing (loses_all t.progress) t)
   leads_idly s p t same is h =
       let u = losing (loses_all t.progress) t in
       subst (λ (x : Part). LeadsBy reads commands s x u) (joined_nothing p)
-      (books_both reads commands s.client t.client u.client s.marks t.marks u.marks (sent_of s.records) (sent_of t.records) (sent_of u.records) p nothing h (leads_by reads commands t nothing u same (idle_lost commands t (loses_all t.progress) is)))
+      (books_both reads commands s.client t.client u.client s.marks t.marks u.marks (sent_of s.records) (sent_of t.records) (sent_of u.records) p nothing h
+      (leads_by reads commands t nothing u same (idle_lost commands t (loses_all t.progress) is)))
 
   -- an act in front of the others
-  one_more : (s : Standing) (p : Part) (t : Standing) (ps : List Part) (end : Standing) (begun lost_all : Bool) → t.reads ≡ reads → has_begun s.progress ≡ begun → loses_all t.progress ≡ lost_all
-      → Fine plan commands s → Fine plan commands (losing (loses_all t.progress) t) → length t.marks ≡ length t.client.waiting
+  one_more : (s : Model) (p : Part) (t : Model) (ps : List Part) (end : Model) (begun lost_all : Bool) → t.reads ≡ reads → has_begun s.progress ≡ begun → loses_all t.progress ≡ lost_all
+      → Invariant plan commands s → Invariant plan commands (losing (loses_all t.progress) t) → length t.marks ≡ length t.client.waiting
       → LeadsBy reads commands s p t → (has_begun s.progress ≡ false → LeadsBy reads commands s p (losing (loses_all t.progress) t))
-      → (let u = losing (loses_all t.progress) t in Follows reads commands u.client u.marks (sent_of u.records) ps end)
-      → Follows reads commands s.client s.marks (sent_of s.records) (in_front p (begun && lost_all) ps) end
+      → (let u = losing (loses_all t.progress) t in BooksInParts reads commands u.client u.marks (sent_of u.records) ps end)
+      → BooksInParts reads commands s.client s.marks (sent_of s.records) (in_front p (begun && lost_all) ps) end
   one_more s p t ps end false lost_all same w l fine later paired h k others =
       let u = losing (loses_all t.progress) t in
       follows_on reads commands s.client u.client s.marks u.marks (sent_of s.records) (sent_of u.records) p ps end (k w) others
   one_more s p t ps end true false same w l fine later paired h k others =
       let kept = kept_same t (loses_all t.progress) l in
       follows_on reads commands s.client t.client s.marks t.marks (sent_of s.records) (sent_of t.records) p ps end h
-      (subst (λ (u : Standing). Follows reads commands u.client u.marks (sent_of u.records) ps end) kept others)
+      (subst (λ (u : Model). BooksInParts reads commands u.client u.marks (sent_of u.records) ps end) kept others)
   one_more s p t ps end true true same w l fine later paired h k others =
       let u = losing (loses_all t.progress) t in
       let new : u.client ≡ fresh = lost_fresh t (loses_all t.progress) l in
@@ -122,15 +125,15 @@ module _ (plan : Plan) (commands : List Task) (reads : Call → List ℕ → Rea
       follows_cut reads commands s.client s.marks (sent_of s.records) (sent_of u.records) p ps end
       (subst (λ (ms : List (Option Mark)). Books reads commands s.client s.marks (sent_of s.records) (joined p restarting) fresh ms (sent_of u.records)) none
       (subst (λ (c : ById). Books reads commands s.client s.marks (sent_of s.records) (joined p restarting) c u.marks (sent_of u.records)) new both))
-      (subst (λ (ms : List (Option Mark)). Follows reads commands fresh ms (sent_of u.records) ps end) none
-      (subst (λ (c : ById). Follows reads commands c u.marks (sent_of u.records) ps end) new others))
+      (subst (λ (ms : List (Option Mark)). BooksInParts reads commands fresh ms (sent_of u.records) ps end) none
+      (subst (λ (c : ById). BooksInParts reads commands c u.marks (sent_of u.records) ps end) new others))
 
-  pub follows : (s : Standing) (acts : List Act) → s.reads ≡ reads → Fine plan commands s → Runs plan commands s acts
-      → Follows reads commands s.client s.marks (sent_of s.records) (parts_of plan commands s acts) (after_all plan commands s acts)
+  pub follows : (s : Model) (acts : List Act) → s.reads ≡ reads → Invariant plan commands s → Runs plan commands s acts
+      → BooksInParts reads commands s.client s.marks (sent_of s.records) (parts_of plan commands s acts) (after_all plan commands s acts)
   follows s [] is_so fine runs = books_nothing reads commands s.client s.marks (sent_of s.records)
   follows s (act ∷ acts) is_so fine runs =
-      let o = order_at plan s in
-      let is = order_for plan s.progress (waiting_of s) in
+      let o = action_at plan s in
+      let is = action_for plan s.progress (waiting_of s) in
       let p = acting plan commands s o act in
       let t = moved plan commands o (with_progress turned s) act in
       let u = after plan commands s act in
@@ -139,7 +142,7 @@ module _ (plan : Plan) (commands : List Task) (reads : Call → List ℕ → Rea
       let later = fine_after plan commands s act fine in
       let same : t.reads ≡ reads = moved_reads plan commands o (with_progress turned s) act ∙ is_so in
       let h = leads_by reads commands s p t is_so (leads plan commands s o act fine is runs.0) in
-      subst (λ b. Follows reads commands s.client s.marks (sent_of s.records) (in_front p (has_begun s.progress && b) ps) end) (sym (ap loses_all (losing_progress (loses_all t.progress) t)))
+      subst (λ b. BooksInParts reads commands s.client s.marks (sent_of s.records) (in_front p (has_begun s.progress && b) ps) end) (sym (ap loses_all (losing_progress (loses_all t.progress) t)))
       (one_more s p t ps end (has_begun s.progress) (loses_all t.progress) same refl refl fine later (mid_moved plan commands s o act fine is).0.paired h
-      (λ w. leads_idly s p t same (keeps_order plan commands s o act is runs.0 w (fine.begins w)).0 h)
+      (λ w. leads_idly s p t same (keeps_action plan commands s o act is runs.0 w (fine.begins w)).0 h)
       (follows u acts (ended_reads (loses_all t.progress) t ∙ same) later runs.1))

@@ -2,8 +2,8 @@
 use Rattle.std.proofs.Common.{◌≡◌, ◌⊎◌, inl, inr, ℕ, ◌-◌, ◌<◌, ◌≤◌, List, [], ◌∷◌, ◌++◌, length, refl, sym, ap, ◌∙◌, subst, arith}
 use Rattle.gc_texts.specs.declared.tasks.Task.{Task}
 use Rattle.gc_station.specs.declared.plan.Plan.{Plan}
-use Rattle.gc_station.specs.declared.progress.Order.{Order}
-use Rattle.gc_station.specs.declared.progress.Order.TheVariants as order
+use Rattle.gc_station.specs.declared.progress.Action.{Action}
+use Rattle.gc_station.specs.declared.progress.Action.TheVariants as action
 use Rattle.gc_station.specs.declared.progress.Progress.{Progress}
 use Rattle.gc_station.specs.declared.progress.Waiting.{Waiting}
 use Rattle.gc_links.specs.Acts.{Act}
@@ -11,12 +11,12 @@ use Rattle.gc_station.specs.EachOnce.{IsFurther}
 use Rattle.gc_station.specs.Progressing.{turned}
 use Rattle.gc_station.specs.Reasons.{IsFor}
 use Rattle.gc_station.specs.Runs.{stood}
-use Rattle.gc_station.specs.Standing.{Standing, opening, order_at, waiting_of, with_progress, moved, after, after_all}
+use Rattle.gc_station.specs.Model.{Model, opening, action_at, waiting_of, with_progress, moved, after, after_all}
 use Rattle.gc_station.proofs.Going.{after_all-append}
 use Rattle.gc_station.proofs.Counts.{Kept, Counts, moved_counts, ended_progress}
 use Rattle.gc_station.proofs.EachRun.{fine_stood}
-use Rattle.gc_station.proofs.Facts.{order_for}
-use Rattle.gc_station.proofs.Fine.{Fine}
+use Rattle.gc_station.proofs.Facts.{action_for}
+use Rattle.gc_station.proofs.Invariant.{Invariant}
 use Rattle.gc_station.specs.Scopes.{Scope}
 
 -- no fewer cycles began, and in the same one no fewer commands were sent
@@ -27,19 +27,19 @@ kept_there : (p t q : Progress) → t.left ≡ p.left → t.unsent ≡ p.unsent 
 kept_there p t q left unsent k = inr (k.left ∙ left, omega (arith, k.unsent, unsent))
 
 -- what an act does to the counts, of which its turn was taken first
-counts_on : (plan : Plan) (count : ℕ) (w : Waiting) (o : Order) (p t q : Progress) → t.left ≡ p.left → t.unsent ≡ p.unsent → IsFor plan p w o → Counts count o t q → NotBack p q
-counts_on plan count w order.Begin p t q left unsent needs (inl k) = kept_there p t q left unsent k
-counts_on plan count w order.Begin p t q left unsent needs (inr k) = inl (omega (arith, k.left, left, needs.4))
-counts_on plan count w order.Send p t q left unsent needs k = inr (k.left ∙ left, omega (arith, k.unsent, unsent))
-counts_on plan count w order.Skip p t q left unsent needs (inl k) = kept_there p t q left unsent k
-counts_on plan count w order.Skip p t q left unsent needs (inr k) = inr (k.left ∙ left, omega (arith, k.unsent, unsent))
+counts_on : (plan : Plan) (count : ℕ) (w : Waiting) (o : Action) (p t q : Progress) → t.left ≡ p.left → t.unsent ≡ p.unsent → IsFor plan p w o → Counts count o t q → NotBack p q
+counts_on plan count w action.Begin p t q left unsent needs (inl k) = kept_there p t q left unsent k
+counts_on plan count w action.Begin p t q left unsent needs (inr k) = inl (omega (arith, k.left, left, needs.4))
+counts_on plan count w action.Send p t q left unsent needs k = inr (k.left ∙ left, omega (arith, k.unsent, unsent))
+counts_on plan count w action.Skip p t q left unsent needs (inl k) = kept_there p t q left unsent k
+counts_on plan count w action.Skip p t q left unsent needs (inr k) = inr (k.left ∙ left, omega (arith, k.unsent, unsent))
 counts_on plan count w o p t q left unsent needs k = kept_there p t q left unsent k
 
-after_on : (plan : Plan) (commands : List Task) (s : Standing) (act : Act) → NotBack s.progress (after plan commands s act).progress
+after_on : (plan : Plan) (commands : List Task) (s : Model) (act : Act) → NotBack s.progress (after plan commands s act).progress
 after_on plan commands s act =
-    let done = moved plan commands (order_at plan s) (with_progress turned s) act in
-    let on = counts_on plan (length commands) (waiting_of s) (order_at plan s) s.progress (turned s.progress) done.progress refl refl
-    (order_for plan s.progress (waiting_of s)) (moved_counts plan commands (order_at plan s) (with_progress turned s) act) in
+    let done = moved plan commands (action_at plan s) (with_progress turned s) act in
+    let on = counts_on plan (length commands) (waiting_of s) (action_at plan s) s.progress (turned s.progress) done.progress refl refl
+    (action_for plan s.progress (waiting_of s)) (moved_counts plan commands (action_at plan s) (with_progress turned s) act) in
     subst (λ (p : Progress). NotBack s.progress p) (sym (ended_progress done)) on
 
 on_again : (p q r : Progress) → NotBack p q → NotBack q r → NotBack p r
@@ -48,28 +48,31 @@ on_again p q r (inl a) (inr b) = inl (omega (arith, a, b.0))
 on_again p q r (inr a) (inl b) = inl (omega (arith, a.0, b))
 on_again p q r (inr a) (inr b) = inr (b.0 ∙ a.0, omega (arith, a.1, b.1))
 
-all_on : (plan : Plan) (commands : List Task) (s : Standing) (acts : List Act) → NotBack s.progress (after_all plan commands s acts).progress
+all_on : (plan : Plan) (commands : List Task) (s : Model) (acts : List Act) → NotBack s.progress (after_all plan commands s acts).progress
 all_on plan commands s [] = inr (refl, omega arith)
-all_on plan commands s (act ∷ acts) = on_again s.progress (after plan commands s act).progress (after_all plan commands s (act ∷ acts)).progress (after_on plan commands s act) (all_on plan commands (after plan commands s act) acts)
+all_on plan commands s (act ∷ acts) = on_again s.progress (after plan commands s act).progress (after_all plan commands s (act ∷ acts)).progress
+    (after_on plan commands s act) (all_on plan commands (after plan commands s act) acts)
 
 -- behind a send
-further : (plan : Plan) (commands : List Task) (s t : Standing) (q : Progress) → Fine plan commands s → Fine plan commands t → 0 < s.progress.unsent → q.left ≡ s.progress.left → q.unsent ≡ s.progress.unsent - 1 → NotBack q t.progress → IsFurther plan commands s t
+further : (plan : Plan) (commands : List Task) (s t : Model) (q : Progress) → Invariant plan commands s → Invariant plan commands t → 0 < s.progress.unsent
+    → q.left ≡ s.progress.left → q.unsent ≡ s.progress.unsent - 1 → NotBack q t.progress → IsFurther plan commands s t
 further plan commands s t q fine there some left unsent (inl less) = inl (omega (arith, less, left, fine.left, there.left))
 further plan commands s t q fine there some left unsent (inr same) =
     inr (ap (λ (n : ℕ). plan.cycles - n) (sym (same.0 ∙ left)), omega (arith, same.1, unsent, some, fine.unsent, there.unsent))
 
-pub send_goes_on : (plan : Plan) (commands : List Task) (scope : Scope) (earlier later : List Act) (act : Act) → order_at plan (stood plan commands scope earlier) ≡ order.Send
+pub send_goes_on : (plan : Plan) (commands : List Task) (scope : Scope) (earlier later : List Act) (act : Act) → action_at plan (stood plan commands scope earlier) ≡ action.Send
     → IsFurther plan commands (stood plan commands scope earlier) (stood plan commands scope (earlier ++ act ∷ later))
 send_goes_on plan commands scope earlier later act is =
     let s = stood plan commands scope earlier in
     let next = after plan commands s act in
     let w = waiting_of s in
-    let needs = subst (λ (o : Order). IsFor plan s.progress w o) is (order_for plan s.progress w) in
-    let done = moved plan commands (order_at plan s) (with_progress turned s) act in
-    let sends = moved plan commands order.Send (with_progress turned s) act in
-    let next_is : next.progress ≡ sends.progress = ended_progress done ∙ ap (λ (o : Order). (moved plan commands o (with_progress turned s) act).progress) is in
-    let k = moved_counts plan commands order.Send (with_progress turned s) act in
+    let needs = subst (λ (o : Action). IsFor plan s.progress w o) is (action_for plan s.progress w) in
+    let done = moved plan commands (action_at plan s) (with_progress turned s) act in
+    let sends = moved plan commands action.Send (with_progress turned s) act in
+    let next_is : next.progress ≡ sends.progress = ended_progress done ∙ ap (λ (o : Action). (moved plan commands o (with_progress turned s) act).progress) is in
+    let k = moved_counts plan commands action.Send (with_progress turned s) act in
     let whole = after_all-append plan commands (opening plan scope) earlier (act ∷ later) in
-    let on = subst (λ (t : Standing). NotBack next.progress t.progress) (sym whole) (all_on plan commands next later) in
-    further plan commands s (stood plan commands scope (earlier ++ act ∷ later)) next.progress (fine_stood plan commands scope earlier) (fine_stood plan commands scope (earlier ++ act ∷ later)) needs.2
+    let on = subst (λ (t : Model). NotBack next.progress t.progress) (sym whole) (all_on plan commands next later) in
+    further plan commands s (stood plan commands scope (earlier ++ act ∷ later)) next.progress (fine_stood plan commands scope earlier)
+    (fine_stood plan commands scope (earlier ++ act ∷ later)) needs.2
     (ap (λ (p : Progress). p.left) next_is ∙ k.left) (ap (λ (p : Progress). p.unsent) next_is ∙ k.unsent) on

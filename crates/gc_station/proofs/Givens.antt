@@ -4,13 +4,13 @@ use Rattle.gc_lines.specs.Frames.{rest_behind, rest_of}
 use Rattle.gc_lines.proofs.Cutting.{rest-append}
 use Rattle.gc_texts.specs.declared.tasks.Task.{Task}
 use Rattle.gc_station.specs.declared.plan.Plan.{Plan}
-use Rattle.gc_station.specs.declared.progress.Order.{Order}
-use Rattle.gc_station.specs.declared.progress.Order.TheVariants as orders
+use Rattle.gc_station.specs.declared.progress.Action.{Action}
+use Rattle.gc_station.specs.declared.progress.Action.TheVariants as actions
 use Rattle.gc_links.specs.Acts.{Act, Gave, Closed}
 use Rattle.gc_station.specs.Given.{given_with, given_behind, given}
 use Rattle.gc_station.specs.Progressing.{turned, told, loses_all}
 use Rattle.gc_station.specs.Runs.{stood}
-use Rattle.gc_station.specs.Standing.{Standing, opening, order_at, with_progress, with_moment, with_rest, lines_behind, came, is_heard, Obeys, moved, losing, after, after_all, Runs}
+use Rattle.gc_station.specs.Model.{Model, opening, action_at, with_progress, with_moment, with_rest, lines_behind, came, is_heard, Performs, moved, losing, after, after_all, Runs}
 use Rattle.gc_station.proofs.Walk.{lines_along, walk}
 use Rattle.gc_station.specs.Scopes.{Scope}
 
@@ -20,40 +20,47 @@ rest_with heard (Gave piece m) rest = if heard then rest_behind rest piece else 
 rest_with heard Closed rest = []
 rest_with heard act rest = rest
 
-came_rest : (heard : Bool) (word piece : List ℕ) (s : Standing) → (came heard word piece s).rest ≡ (if heard then rest_behind s.rest piece else s.rest)
-came_rest true [] piece s = lines_along (λ (t : Standing). t.rest ≡ rest_behind s.rest piece) (λ t line e. e) (with_rest (rest_behind s.rest piece) s) (lines_behind s.rest piece) refl
+-- what a piece that came leaves of it
+came_rest : (heard : Bool) (word piece : List ℕ) (s : Model) → (came heard word piece s).rest ≡ (if heard then rest_behind s.rest piece else s.rest)
+came_rest true [] piece s = lines_along (λ (t : Model). t.rest ≡ rest_behind s.rest piece) (λ t line e. e) (with_rest (rest_behind s.rest piece) s) (lines_behind s.rest piece) refl
 came_rest true (asked ∷ others) piece s = refl
 came_rest false word piece s = refl
 
 -- an act leaves it so
-abbrev LeavesSo : Standing → Act → Standing → Type 0
+abbrev LeavesSo : Model → Act → Model → Type 0
 LeavesSo s act t = t.rest ≡ rest_with (is_heard s.progress.phase) act s.rest
 
-moved_rest : (plan : Plan) (commands : List Task) (next : Order) (s : Standing) (act : Act) → Obeys commands s next act → LeavesSo s act (moved plan commands next (with_progress turned s) act)
-moved_rest plan commands (orders.Read until) s act o =
-    walk plan commands (LeavesSo s) (orders.Read until) (with_progress turned s) act o
+moved_rest : (plan : Plan) (commands : List Task) (next : Action) (s : Model) (act : Act) → Performs commands s next act → LeavesSo s act (moved plan commands next (with_progress turned s) act)
+moved_rest plan commands (actions.Read until) s act o =
+    walk plan commands (LeavesSo s) (actions.Read until) (with_progress turned s) act o
     (λ bytes m. came_rest (is_heard s.progress.phase) s.progress.word bytes (with_moment m (with_progress (told m) (with_progress turned s))), λ m. refl, refl, refl, refl)
-moved_rest plan commands (orders.Close why) s act o = walk plan commands (LeavesSo s) (orders.Close why) (with_progress turned s) act o refl
-moved_rest plan commands (orders.Stop why) s act o = absurd o
+moved_rest plan commands (actions.Close why) s act o = walk plan commands (LeavesSo s) (actions.Close why) (with_progress turned s) act o refl
+moved_rest plan commands (actions.Stop why) s act o = absurd o
 moved_rest plan commands next s act o = walk plan commands (LeavesSo s) next (with_progress turned s) act o (λ m. refl, λ n. refl)
 
-losing_rest : (all : Bool) (s : Standing) → (losing all s).rest ≡ s.rest
+losing_rest : (all : Bool) (s : Model) → (losing all s).rest ≡ s.rest
 losing_rest true s = refl
 losing_rest false s = refl
 
-pub after_rest : (plan : Plan) (commands : List Task) (s : Standing) (act : Act) → Obeys commands s (order_at plan s) act → (after plan commands s act).rest ≡ rest_with (is_heard s.progress.phase) act s.rest
-after_rest plan commands s act o = let t = moved plan commands (order_at plan s) (with_progress turned s) act in losing_rest (loses_all t.progress) t ∙ moved_rest plan commands (order_at plan s) s act o
+pub after_rest : (plan : Plan) (commands : List Task) (s : Model) (act : Act) → Performs commands s (action_at plan s) act
+    → (after plan commands s act).rest ≡ rest_with (is_heard s.progress.phase) act s.rest
+after_rest plan commands s act o = let t = moved plan commands (action_at plan s) (with_progress turned s) act in
+    losing_rest (loses_all t.progress) t ∙ moved_rest plan commands (action_at plan s) s act o
 
 joined : (heard : Bool) (act : Act) (bytes : List ℕ) → rest_with heard act (rest_of bytes) ≡ rest_of (given_with heard act bytes)
 joined true (Gave piece m) bytes = sym (rest-append [] bytes piece)
 joined false (Gave piece m) bytes = refl
 joined heard act bytes = refl
 
-along_given : (plan : Plan) (commands : List Task) (s : Standing) (bytes : List ℕ) (acts : List Act) → s.rest ≡ rest_of bytes → Runs plan commands s acts → (after_all plan commands s acts).rest ≡ rest_of (given_behind plan commands s bytes acts)
+-- if the bytes that are kept are the rest of `bytes`, behind any acts they are the rest of what `given_behind` makes of `bytes`
+along_given : (plan : Plan) (commands : List Task) (s : Model) (bytes : List ℕ) (acts : List Act) → s.rest ≡ rest_of bytes → Runs plan commands s acts
+    → (after_all plan commands s acts).rest ≡ rest_of (given_behind plan commands s bytes acts)
 along_given plan commands s bytes [] same runs = same
 along_given plan commands s bytes (act ∷ acts) same runs =
     let heard = is_heard s.progress.phase in
-    along_given plan commands (after plan commands s act) (given_with heard act bytes) acts (after_rest plan commands s act runs.0 ∙ ap (λ r. rest_with heard act r) same ∙ joined heard act bytes) runs.1
+    along_given plan commands (after plan commands s act) (given_with heard act bytes) acts
+    (after_rest plan commands s act runs.0 ∙ ap (λ r. rest_with heard act r) same ∙ joined heard act bytes) runs.1
 
-pub rest_given : (plan : Plan) (commands : List Task) (scope : Scope) (acts : List Act) → Runs plan commands (opening plan scope) acts → (stood plan commands scope acts).rest ≡ rest_of (given plan commands scope acts)
+pub rest_given : (plan : Plan) (commands : List Task) (scope : Scope) (acts : List Act) → Runs plan commands (opening plan scope) acts
+    → (stood plan commands scope acts).rest ≡ rest_of (given plan commands scope acts)
 rest_given plan commands scope acts runs = along_given plan commands (opening plan scope) [] acts refl runs

@@ -8,17 +8,17 @@ use Rattle.gc_station.specs.declared.plan.Plan.{Plan}
 use Rattle.gc_station.specs.declared.cause.Cause.{Cause}
 use Rattle.gc_station.specs.declared.cause.Cause.TheVariants as causes
 use Rattle.gc_station.specs.Causes.{fault_of}
-use Rattle.gc_station.specs.declared.progress.Order.{Order}
-use Rattle.gc_station.specs.declared.progress.Order.TheVariants.{Stop}
+use Rattle.gc_station.specs.declared.progress.Action.{Action}
+use Rattle.gc_station.specs.declared.progress.Action.TheVariants.{Stop}
 use Rattle.gc_station.specs.declared.progress.Progress.{Progress}
 use Rattle.gc_station.specs.declared.station.Station.{Station}
 use Rattle.gc_links.specs.Acts.{Act, Closed, Tells}
 use Rattle.gc_station.specs.Progressing.{turned, loses_all}
 use Rattle.gc_station.specs.Records.{Record, texts_of}
 use Rattle.gc_station.specs.Runs.{stood, BrokeAt, LeftAt}
-use Rattle.gc_station.specs.Standing.{Standing, opening, order_at, Obeys, after, after_all, moved, ended, Runs, with_progress}
-use Rattle.gc_station.specs.Stations.{waiting_in, Stands, Took, Makes, Breaks, Made, Follows, stepped, OnCall, seen}
-use Rattle.gc_station.specs.Deciding.{order_of}
+use Rattle.gc_station.specs.Model.{Model, opening, action_at, Performs, after, after_all, moved, ended, Runs, with_progress}
+use Rattle.gc_station.specs.Stations.{waiting_in, Refines, Took, Makes, Breaks, Made, ComesTo, stepped, OnCall, seen}
+use Rattle.gc_station.specs.Deciding.{action_of}
 use Rattle.gc_station.proofs.Counts.{unsent_within, ended_progress}
 use Rattle.gc_station.proofs.Growing.{losing_records, moved_grew}
 use Rattle.gc_station.proofs.Hearing.{tells_more}
@@ -29,23 +29,23 @@ use Rattle.gc_station.specs.Scopes.{Scope, AreReadings}
 
 -- One turn.
 
--- an order is obeyed by the same acts, whatever the turn
-pub turn_obeys : (commands : List Task) (order : Order) (s : Standing) (act : Act) → Obeys commands (with_progress turned s) order act → Obeys commands s order act
+-- an action is performed by the same acts, whatever the turn
+pub turn_obeys : (commands : List Task) (action : Action) (s : Model) (act : Act) → Performs commands (with_progress turned s) action act → Performs commands s action act
 turn_obeys commands (Stop cause) s act o = o
-turn_obeys commands order s act o = o
+turn_obeys commands action s act o = o
 
--- a claim on each order but the last holds of one that isn't the last
-pub on_call : (order : Order) (claim : Type 0) → ((cause : Cause) → order ≡ Stop cause → ⊥) → OnCall order claim → claim
+-- a claim on each action but the last holds of one that isn't the last
+pub on_call : (action : Action) (claim : Type 0) → ((cause : Cause) → action ≡ Stop cause → ⊥) → OnCall action claim → claim
 on_call (Stop cause) claim never on = absurd (never cause refl)
-on_call order claim never on = on
+on_call action claim never on = on
 
--- what follows of a claim on each order but the last
-pub on_then : (order : Order) (claim other : Type 0) → (claim → other) → OnCall order claim → OnCall order other
+-- what follows of a claim on each action but the last
+pub on_then : (action : Action) (claim other : Type 0) → (claim → other) → OnCall action claim → OnCall action other
 on_then (Stop cause) claim other step on = tt
-on_then order claim other step on = step on
+on_then action claim other step on = step on
 
 -- a turn was made
-pub stands_turned : (station : Station) (p : Progress) (s : Standing) → p ≡ turned station.progress → Stands station s → Stands (record station { progress = p }) (with_progress turned s)
+pub stands_turned : (station : Station) (p : Progress) (s : Model) → p ≡ turned station.progress → Refines station s → Refines (record station { progress = p }) (with_progress turned s)
 stands_turned station p s e stands = record {
   progress = e ∙ ap turned stands.progress;
   ids = stands.ids;
@@ -57,47 +57,54 @@ stands_turned station p s e stands = record {
   well = stands.well;
 }
 
--- an order was obeyed, and all that wait were lost or not; or the book failed at what was lost
-pub makes_step : {X E : Type 0} (plan : Plan) (commands : List Task) (order : Order) (text : Record → List ℕ) (told told' : Option (List Act)) (taken taken' taken'' : Option (List ℕ)) (station mid new : Station) (p : Progress) (result : Result X E)
-    → p ≡ turned station.progress → Makes commands order (moved plan commands order) (seen told text taken (record station { progress = p })) (seen told' text taken' mid)
-    → ((s : Standing) (start : Option (List ℕ)) → Stands mid s → Took text start taken' s → Follows text s.records new start taken'' (ended s) result)
-    → Made commands order (stepped plan commands order) (seen told text taken station) (seen told' text taken'' new) result
-makes_step plan commands order text told told' taken taken' taken'' station mid new p (Ok r) e makes ends = record {
+-- an action was performed, and all that wait were lost or not; or the book failed at what was lost
+pub makes_step : {X E : Type 0} (plan : Plan) (commands : List Task) (action : Action) (text : Record → List ℕ) (told told' : Option (List Act))
+    (taken taken' taken'' : Option (List ℕ)) (station mid new : Station) (p : Progress) (result : Result X E)
+    → p ≡ turned station.progress → Makes commands action (moved plan commands action) (seen told text taken (record station { progress = p })) (seen told' text taken' mid)
+    → ((s : Model) (start : Option (List ℕ)) → Refines mid s → Took text start taken' s → ComesTo text s.records new start taken'' (ended s) result)
+    → Made commands action (stepped plan commands action) (seen told text taken station) (seen told' text taken'' new) result
+makes_step plan commands action text told told' taken taken' taken'' station mid new p (Ok r) e makes ends = record {
   act = makes.act;
   tells = makes.tells;
   goes = λ s start stands so.
       let one = makes.goes (with_progress turned s) start (stands_turned station p s e stands) so in
-      let end = ends (moved plan commands order (with_progress turned s) makes.act) start one.1 one.2 in
-      (turn_obeys commands order s makes.act one.0, end.0, end.1);
+      let end = ends (moved plan commands action (with_progress turned s) makes.act) start one.1 one.2 in
+      (turn_obeys commands action s makes.act one.0, end.0, end.1);
 }
-makes_step plan commands order text told told' taken taken' taken'' station mid new p (Err r) e makes ends = record {
+makes_step plan commands action text told told' taken taken' taken'' station mid new p (Err r) e makes ends = record {
   act = makes.act;
   tells = makes.tells;
   goes = λ s start stands so.
       let one = makes.goes (with_progress turned s) start (stands_turned station p s e stands) so in
-      let mid : Standing = moved plan commands order (with_progress turned s) makes.act in
-      let part = ends mid start one.1 one.2 in
-      (turn_obeys commands order s makes.act one.0, λ are. part_grew text s.records mid.records (ended mid).records start taken'' (moved_grew plan commands order (with_progress turned s) makes.act) (part are));
+      let mid : Model = moved plan commands action (with_progress turned s) makes.act in
+      let part = ends mid start one.1 one.2 in (
+        turn_obeys commands action s makes.act one.0,
+        λ are. part_grew text s.records mid.records (ended mid).records start taken''
+            (moved_grew plan commands action (with_progress turned s) makes.act) (part are),
+      );
 }
 
 -- the book failed at what the act writes down
-pub breaks_step : (plan : Plan) (commands : List Task) (order : Order) (text : Record → List ℕ) (told told' : Option (List Act)) (taken taken' : Option (List ℕ)) (station : Station) (p : Progress)
-    → p ≡ turned station.progress → Breaks commands order (moved plan commands order) (seen told text taken (record station { progress = p })) told' taken'
-    → Breaks commands order (stepped plan commands order) (seen told text taken station) told' taken'
-breaks_step plan commands order text told told' taken taken' station p e breaks = record {
+pub breaks_step : (plan : Plan) (commands : List Task) (action : Action) (text : Record → List ℕ) (told told' : Option (List Act)) (taken taken' : Option (List ℕ)) (station : Station) (p : Progress)
+    → p ≡ turned station.progress → Breaks commands action (moved plan commands action) (seen told text taken (record station { progress = p })) told' taken'
+    → Breaks commands action (stepped plan commands action) (seen told text taken station) told' taken'
+breaks_step plan commands action text told told' taken taken' station p e breaks = record {
   act = breaks.act;
   tells = breaks.tells;
   goes = λ s start stands so.
-      let mid : Standing = moved plan commands order (with_progress turned s) breaks.act in
+      let mid : Model = moved plan commands action (with_progress turned s) breaks.act in
       let one = breaks.goes (with_progress turned s) start (stands_turned station p s e stands) so in
-      let more = losing_records (loses_all mid.progress) mid in
-      (turn_obeys commands order s breaks.act one.0, λ are. part_grows text s.records mid.records (ended mid).records start taken' more (one.1 (are_same mid.reads (ended mid).reads (sym (ended_reads (loses_all mid.progress) mid)) are)));
+      let more = losing_records (loses_all mid.progress) mid in (
+        turn_obeys commands action s breaks.act one.0,
+        λ are. part_grows text s.records mid.records (ended mid).records start taken' more
+            (one.1 (are_same mid.reads (ended mid).reads (sym (ended_reads (loses_all mid.progress) mid)) are)),
+      );
 }
 
-stepped_reads : (plan : Plan) (commands : List Task) (order : Order) (s : Standing) (act : Act) → (stepped plan commands order s act).reads ≡ s.reads
-stepped_reads plan commands order s act =
-    let mid : Standing = moved plan commands order (with_progress turned s) act in
-    ended_reads (loses_all mid.progress) mid ∙ moved_reads plan commands order (with_progress turned s) act
+stepped_reads : (plan : Plan) (commands : List Task) (action : Action) (s : Model) (act : Act) → (stepped plan commands action s act).reads ≡ s.reads
+stepped_reads plan commands action s act =
+    let mid : Model = moved plan commands action (with_progress turned s) act in
+    ended_reads (loses_all mid.progress) mid ∙ moved_reads plan commands action (with_progress turned s) act
 
 -- Many.
 
@@ -106,7 +113,7 @@ pub record Went (plan : Plan) (commands : List Task) (scope : Scope) (text : Rec
   pub acts : List Act
   pub tells : Tells told told' acts
   pub runs : Runs plan commands (opening plan scope) acts
-  pub stands : Stands station (stood plan commands scope acts)
+  pub stands : Refines station (stood plan commands scope acts)
   pub took : Appends taken taken' (texts_of text (stood plan commands scope acts).records)
 
 tells_none : (a : Option (List Act)) → Tells a a []
@@ -115,7 +122,7 @@ tells_none (Some a) = sym (append-nil a)
 
 -- nothing was done
 pub went_nothing : (plan : Plan) (commands : List Task) (scope : Scope) (text : Record → List ℕ) (told : Option (List Act)) (taken : Option (List ℕ)) (station : Station)
-    → Stands station (opening plan scope) → Went plan commands scope text told told taken taken station
+    → Refines station (opening plan scope) → Went plan commands scope text told told taken taken station
 went_nothing plan commands scope text told taken station stands = record {
   acts = [];
   tells = tells_none told;
@@ -125,7 +132,8 @@ went_nothing plan commands scope text told taken station stands = record {
 }
 
 -- a book that took nothing more, as far as that is known
-pub went_kept : (plan : Plan) (commands : List Task) (scope : Scope) (text : Record → List ℕ) (told told' : Option (List Act)) (taken taken' taken'' : Option (List ℕ)) (station : Station) → Keeps taken' taken''
+pub went_kept : (plan : Plan) (commands : List Task) (scope : Scope) (text : Record → List ℕ) (told told' : Option (List Act))
+    (taken taken' taken'' : Option (List ℕ)) (station : Station) → Keeps taken' taken''
     → Went plan commands scope text told told' taken taken' station → Went plan commands scope text told told' taken taken'' station
 went_kept plan commands scope text told told' taken taken' taken'' station keeps w = record {
   acts = w.acts;
@@ -136,7 +144,8 @@ went_kept plan commands scope text told told' taken taken' taken'' station keeps
 }
 
 -- a book that took nothing more
-pub went_same : (plan : Plan) (commands : List Task) (scope : Scope) (text : Record → List ℕ) (told told' : Option (List Act)) (taken taken' taken'' : Option (List ℕ)) (station : Station) → taken'' ≡ taken'
+pub went_same : (plan : Plan) (commands : List Task) (scope : Scope) (text : Record → List ℕ) (told told' : Option (List Act))
+    (taken taken' taken'' : Option (List ℕ)) (station : Station) → taken'' ≡ taken'
     → Went plan commands scope text told told' taken taken' station → Went plan commands scope text told told' taken taken'' station
 went_same plan commands scope text told told' taken taken' taken'' station same w =
     went_kept plan commands scope text told told' taken taken' taken'' station (subst (λ (t : Option (List ℕ)). Keeps taken' t) (sym same) (Keeps-refl taken')) w
@@ -151,31 +160,32 @@ went_left plan commands scope text told told' told'' taken taken' station w clos
   took = w.took;
 }
 
-pub after_all-append : (plan : Plan) (commands : List Task) (s : Standing) (xs ys : List Act) → after_all plan commands s (xs ++ ys) ≡ after_all plan commands (after_all plan commands s xs) ys
+pub after_all-append : (plan : Plan) (commands : List Task) (s : Model) (xs ys : List Act) → after_all plan commands s (xs ++ ys) ≡ after_all plan commands (after_all plan commands s xs) ys
 after_all-append plan commands s [] ys = refl
 after_all-append plan commands s (x ∷ xs) ys = after_all-append plan commands (after plan commands s x) xs ys
 
-pub runs_behind : (plan : Plan) (commands : List Task) (s : Standing) (xs ys : List Act) → Runs plan commands s (xs ++ ys) → Runs plan commands (after_all plan commands s xs) ys
+pub runs_behind : (plan : Plan) (commands : List Task) (s : Model) (xs ys : List Act) → Runs plan commands s (xs ++ ys) → Runs plan commands (after_all plan commands s xs) ys
 runs_behind plan commands s [] ys runs = runs
 runs_behind plan commands s (x ∷ xs) ys runs = runs_behind plan commands (after plan commands s x) xs ys runs.1
 
-pub runs-append : (plan : Plan) (commands : List Task) (s : Standing) (xs ys : List Act) → Runs plan commands s xs → Runs plan commands (after_all plan commands s xs) ys → Runs plan commands s (xs ++ ys)
+pub runs-append : (plan : Plan) (commands : List Task) (s : Model) (xs ys : List Act) → Runs plan commands s xs → Runs plan commands (after_all plan commands s xs) ys → Runs plan commands s (xs ++ ys)
 runs-append plan commands s [] ys p q = q
 runs-append plan commands s (x ∷ xs) ys p q = (p.0, runs-append plan commands (after plan commands s x) xs ys p.1 q)
 
 -- one act more
-pub went_on : (plan : Plan) (commands : List Task) (scope : Scope) (text : Record → List ℕ) (told told' told'' : Option (List Act)) (taken taken' taken'' : Option (List ℕ)) (station new : Station) (order : Order)
+pub went_on : (plan : Plan) (commands : List Task) (scope : Scope) (text : Record → List ℕ) (told told' told'' : Option (List Act))
+    (taken taken' taken'' : Option (List ℕ)) (station new : Station) (action : Action)
     → (w : Went plan commands scope text told told' taken taken' station)
-    → order ≡ order_at plan (stood plan commands scope w.acts)
-    → Makes commands order (stepped plan commands order) (seen told' text taken' station) (seen told'' text taken'' new)
+    → action ≡ action_at plan (stood plan commands scope w.acts)
+    → Makes commands action (stepped plan commands action) (seen told' text taken' station) (seen told'' text taken'' new)
     → AreReadings scope.reads → Went plan commands scope text told told'' taken taken'' new
-went_on plan commands scope text told told' told'' taken taken' taken'' station new order w is makes are =
+went_on plan commands scope text told told' told'' taken taken' taken'' station new action w is makes are =
     let s = stood plan commands scope w.acts in
     let one = makes.goes s taken w.stands (λ ok. w.took) in
-    let same = stepped_reads plan commands order s makes.act ∙ stood_reads plan commands scope w.acts in
-    let took = one.2 (are_same (stepped plan commands order s makes.act).reads scope.reads same are) in
+    let same = stepped_reads plan commands action s makes.act ∙ stood_reads plan commands scope w.acts in
+    let took = one.2 (are_same (stepped plan commands action s makes.act).reads scope.reads same are) in
     let whole = after_all-append plan commands (opening plan scope) w.acts (makes.act ∷ []) in
-    let obeys : Obeys commands s (order_at plan s) makes.act = subst (λ (o : Order). Obeys commands s o makes.act) is one.0 in
+    let obeys : Performs commands s (action_at plan s) makes.act = subst (λ (o : Action). Performs commands s o makes.act) is one.0 in
     record {
       acts = w.acts ++ makes.act ∷ [];
       tells = tells_more told told' told'' w.acts (makes.act ∷ []) w.tells makes.tells;
@@ -185,19 +195,20 @@ went_on plan commands scope text told told' told'' taken taken' taken'' station 
     }
 
 -- an act whose records the book refused, and the connection was closed
-pub went_wrong : (plan : Plan) (commands : List Task) (scope : Scope) (text : Record → List ℕ) (told told' told'' told''' : Option (List Act)) (taken taken' taken'' : Option (List ℕ)) (station : Station) (order : Order)
+pub went_wrong : (plan : Plan) (commands : List Task) (scope : Scope) (text : Record → List ℕ) (told told' told'' told''' : Option (List Act))
+    (taken taken' taken'' : Option (List ℕ)) (station : Station) (action : Action)
     → (w : Went plan commands scope text told told' taken taken' station)
-    → order ≡ order_at plan (stood plan commands scope w.acts)
-    → Breaks commands order (stepped plan commands order) (seen told' text taken' station) told'' taken''
+    → action ≡ action_at plan (stood plan commands scope w.acts)
+    → Breaks commands action (stepped plan commands action) (seen told' text taken' station) told'' taken''
     → Tells told'' told''' (Closed ∷ [])
     → AreReadings scope.reads → BrokeAt plan commands scope text told told''' taken taken''
-went_wrong plan commands scope text told told' told'' told''' taken taken' taken'' station order w is breaks closed are =
+went_wrong plan commands scope text told told' told'' told''' taken taken' taken'' station action w is breaks closed are =
     let s = stood plan commands scope w.acts in
     let one = breaks.goes s taken w.stands (λ ok. w.took) in
-    let same = stepped_reads plan commands order s breaks.act ∙ stood_reads plan commands scope w.acts in
-    let took = one.1 (are_same (stepped plan commands order s breaks.act).reads scope.reads same are) in
+    let same = stepped_reads plan commands action s breaks.act ∙ stood_reads plan commands scope w.acts in
+    let took = one.1 (are_same (stepped plan commands action s breaks.act).reads scope.reads same are) in
     let whole = after_all-append plan commands (opening plan scope) w.acts (breaks.act ∷ []) in
-    let obeys : Obeys commands s (order_at plan s) breaks.act = subst (λ (o : Order). Obeys commands s o breaks.act) is one.0 in
+    let obeys : Performs commands s (action_at plan s) breaks.act = subst (λ (o : Action). Performs commands s o breaks.act) is one.0 in
     record {
       acts = w.acts;
       last = breaks.act;
@@ -213,32 +224,33 @@ pub record IsNearer (commands : List Task) (from to : Progress) : Type 0 where
 
 -- a station that stands somewhere, whatever replies say
 abbrev pub Somewhere : Station → Type 0
-Somewhere station = (s : Standing) × Stands station s
+Somewhere station = (s : Model) × Refines station s
 
-pub somewhere_on : (plan : Plan) (commands : List Task) (text : Record → List ℕ) (told told' : Option (List Act)) (taken taken' : Option (List ℕ)) (station new : Station) (order : Order)
-    → Makes commands order (stepped plan commands order) (seen told text taken station) (seen told' text taken' new) → Somewhere station → Somewhere new
-somewhere_on plan commands text told told' taken taken' station new order makes some =
+pub somewhere_on : (plan : Plan) (commands : List Task) (text : Record → List ℕ) (told told' : Option (List Act)) (taken taken' : Option (List ℕ)) (station new : Station) (action : Action)
+    → Makes commands action (stepped plan commands action) (seen told text taken station) (seen told' text taken' new) → Somewhere station → Somewhere new
+somewhere_on plan commands text told told' taken taken' station new action makes some =
     let one = makes.goes some.0 None some.1 (λ are. tt) in
-    (stepped plan commands order some.0 makes.act, one.1)
+    (stepped plan commands action some.0 makes.act, one.1)
 
-pub went_nearer : (plan : Plan) (commands : List Task) (text : Record → List ℕ) (told told' : Option (List Act)) (taken taken' : Option (List ℕ)) (station new : Station) (order : Order)
-    → order ≡ order_of plan station.progress (waiting_in station) → Somewhere station
-    → Makes commands order (stepped plan commands order) (seen told text taken station) (seen told' text taken' new)
+pub went_nearer : (plan : Plan) (commands : List Task) (text : Record → List ℕ) (told told' : Option (List Act)) (taken taken' : Option (List ℕ)) (station new : Station) (action : Action)
+    → action ≡ action_of plan station.progress (waiting_in station) → Somewhere station
+    → Makes commands action (stepped plan commands action) (seen told text taken station) (seen told' text taken' new)
     → station.progress.unsent ≤ length commands → IsNearer commands station.progress new.progress
-went_nearer plan commands text told told' taken taken' station new order is some makes within =
+went_nearer plan commands text told told' taken taken' station new action is some makes within =
     let s = some.0 in
     let p = station.progress in
     let w = waiting_in station in
     let one = makes.goes s None some.1 (λ are. tt) in
-    let o : order ≡ order_of plan s.progress w = is ∙ ap (λ (q : Progress). order_of plan q w) some.1.progress in
-    let obeys : Obeys commands s (order_of plan s.progress w) makes.act = subst (λ (x : Order). Obeys commands s x makes.act) o one.0 in
-    let mid : Standing = moved plan commands order (with_progress turned s) makes.act in
+    let o : action ≡ action_of plan s.progress w = is ∙ ap (λ (q : Progress). action_of plan q w) some.1.progress in
+    let obeys : Performs commands s (action_of plan s.progress w) makes.act = subst (λ (x : Action). Performs commands s x makes.act) o one.0 in
+    let mid : Model = moved plan commands action (with_progress turned s) makes.act in
     let next : new.progress ≡ (ended mid).progress = one.1.progress in
     let below : s.progress.unsent ≤ length commands = subst (λ (p : Progress). p.unsent ≤ length commands) some.1.progress within in
     record {
-      within = subst (λ (p : Progress). p.unsent ≤ length commands) (sym (next ∙ ended_progress mid)) (unsent_within plan commands order (with_progress turned s) makes.act below);
-      less = subst (λ (q : Progress). left_to_do q < left_to_do p) (sym (next ∙ ap (λ (x : Order). (stepped plan commands x s makes.act).progress) o))
-          (subst (λ (q : Progress). left_to_do (stepped plan commands (order_of plan s.progress w) s makes.act).progress < left_to_do q) (sym some.1.progress) (less_stepped plan commands s w makes.act obeys));
+      within = subst (λ (p : Progress). p.unsent ≤ length commands) (sym (next ∙ ended_progress mid)) (unsent_within plan commands action (with_progress turned s) makes.act below);
+      less = subst (λ (q : Progress). left_to_do q < left_to_do p) (sym (next ∙ ap (λ (x : Action). (stepped plan commands x s makes.act).progress) o))
+          (subst (λ (q : Progress). left_to_do (stepped plan commands (action_of plan s.progress w) s makes.act).progress < left_to_do q)
+          (sym some.1.progress) (less_stepped plan commands s w makes.act obeys));
     }
 
 -- a run that ends with no fault is done

@@ -1,20 +1,20 @@
--- A standing's records: what comes is written down behind them, and none goes.
+-- A model's records: what comes is written down behind them, and none goes.
 use Rattle.std.proofs.Common.{ℕ, Bool, true, false, List, [], ◌∷◌, ◌++◌, map, refl, sym, ◌∙◌, subst, append_assoc}
 use Rattle.gc_lines.specs.Frames.{rest_behind}
 use Rattle.gc_client.specs.Rule.{heard, hears, lost}
 use Rattle.gc_texts.specs.declared.tasks.Task.{Task}
 use Rattle.gc_station.specs.declared.plan.Plan.{Plan}
-use Rattle.gc_station.specs.declared.progress.Order.{Order}
-use Rattle.gc_station.specs.declared.progress.Order.TheVariants as orders
+use Rattle.gc_station.specs.declared.progress.Action.{Action}
+use Rattle.gc_station.specs.declared.progress.Action.TheVariants as actions
 use Rattle.gc_links.specs.Acts.{Act, Told, Gave}
 use Rattle.gc_station.specs.Marks.{records_of}
 use Rattle.gc_station.specs.Progressing.{told}
-use Rattle.gc_station.specs.Standing.{Standing, is_heard, with_progress, with_moment, with_rest, line_came, lines_came, lines_behind, came, skips, moved, losing}
+use Rattle.gc_station.specs.Model.{Model, is_heard, with_progress, with_moment, with_rest, line_came, lines_came, lines_behind, came, skips, moved, losing}
 use Rattle.gc_station.proofs.Records.{Grew, grew_none}
 use Rattle.gc_station.proofs.Walk.{moved_changed}
 
 -- lines add records
-pub lines_records : (s : Standing) (lines : List (List ℕ)) → Grew s.records (lines_came s lines).records
+pub lines_records : (s : Model) (lines : List (List ℕ)) → Grew s.records (lines_came s lines).records
 lines_records s [] = grew_none s.records
 lines_records s (line ∷ others) =
     let more = lines_records (line_came s line) others in
@@ -22,18 +22,18 @@ lines_records s (line ∷ others) =
     (added ++ more.0, more.1 ∙ append_assoc s.records added more.0)
 
 -- what is lost is written down behind the records
-pub losing_records : (b : Bool) (s : Standing) → Grew s.records (losing b s).records
+pub losing_records : (b : Bool) (s : Model) → Grew s.records (losing b s).records
 losing_records true s = (records_of s.reads s.progress.moment.utc s.marks (map lost s.client.waiting), refl)
 losing_records false s = grew_none s.records
 
-came_grew : (heard : Bool) (word piece : List ℕ) (s : Standing) → Grew s.records (came heard word piece s).records
+came_grew : (heard : Bool) (word piece : List ℕ) (s : Model) → Grew s.records (came heard word piece s).records
 came_grew true [] piece s = lines_records (with_rest (rest_behind s.rest piece) s) (lines_behind s.rest piece)
 came_grew true (asked ∷ others) piece s = grew_none s.records
 came_grew false word piece s = grew_none s.records
 
-pub moved_grew : (plan : Plan) (commands : List Task) (order : Order) (s : Standing) (act : Act) → Grew s.records (moved plan commands order s act).records
-moved_grew plan commands orders.Skip s (Told m) = (skips plan commands s.progress (Told m), refl)
-moved_grew plan commands orders.Skip s act = ([], refl)
-moved_grew plan commands (orders.Read until) s (Gave bytes m) = came_grew (is_heard s.progress.phase) s.progress.word bytes (with_moment m (with_progress (told m) s))
-moved_grew plan commands (orders.Read until) s act = grew_none s.records
-moved_grew plan commands order s act = subst (λ (t : Standing). Grew s.records t.records) (sym (moved_changed plan commands order s act)) (grew_none s.records)
+pub moved_grew : (plan : Plan) (commands : List Task) (action : Action) (s : Model) (act : Act) → Grew s.records (moved plan commands action s act).records
+moved_grew plan commands actions.Skip s (Told m) = (skips plan commands s.progress (Told m), refl)
+moved_grew plan commands actions.Skip s act = ([], refl)
+moved_grew plan commands (actions.Read until) s (Gave bytes m) = came_grew (is_heard s.progress.phase) s.progress.word bytes (with_moment m (with_progress (told m) s))
+moved_grew plan commands (actions.Read until) s act = grew_none s.records
+moved_grew plan commands action s act = subst (λ (t : Model). Grew s.records t.records) (sym (moved_changed plan commands action s act)) (grew_none s.records)

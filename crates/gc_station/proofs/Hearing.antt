@@ -31,8 +31,8 @@ use Rattle.gc_station.specs.Marks.{commands_in, records_of, last_well}
 use Rattle.gc_station.specs.Deciding.{is_none_left}
 use Rattle.gc_station.specs.Progressing.{noted, gave, reckoned_early, again, closed, lines_asked, line_asked}
 use Rattle.gc_station.specs.Records.{Record, texts_of, WritesPart, WritesAll}
-use Rattle.gc_station.specs.Standing.{Standing, line_came, lines_came, lines_behind, with_rest, with_progress, with_moment, waiting_of, settles, piece_came, piece_asked, came}
-use Rattle.gc_station.specs.Stations.{waiting_in, Stands, Took, TookPart, Follows}
+use Rattle.gc_station.specs.Model.{Model, line_came, lines_came, lines_behind, with_rest, with_progress, with_moment, waiting_of, settles, piece_came, piece_asked, came}
+use Rattle.gc_station.specs.Stations.{waiting_in, Refines, Took, TookPart, ComesTo}
 use Rattle.gc_station.specs.Scopes.{AreReadings}
 use Rattle.gc_station.specs.Tallies.{none_yet, tallied}
 use Rattle.gc_station.proofs.Growing.{lines_records}
@@ -53,25 +53,25 @@ no_line lent.Cleared never = refl
 no_line lent.Overlong never = refl
 no_line lent.More never = refl
 
-pub lines_came-append : (s : Standing) (xs ys : List (List ℕ)) → lines_came s (xs ++ ys) ≡ lines_came (lines_came s xs) ys
+pub lines_came-append : (s : Model) (xs ys : List (List ℕ)) → lines_came s (xs ++ ys) ≡ lines_came (lines_came s xs) ys
 lines_came-append s [] ys = refl
 lines_came-append s (x ∷ xs) ys = lines_came-append (line_came s x) xs ys
 
 -- lines leave the bytes since the last line feed
-pub lines_rest : (s : Standing) (rest : List ℕ) (lines : List (List ℕ)) → lines_came (with_rest rest s) lines ≡ with_rest rest (lines_came s lines)
+pub lines_rest : (s : Model) (rest : List ℕ) (lines : List (List ℕ)) → lines_came (with_rest rest s) lines ≡ with_rest rest (lines_came s lines)
 lines_rest s rest [] = refl
 lines_rest s rest (line ∷ others) = lines_rest (line_came s line) rest others
 
 -- after some of a piece: hearing what is left of it comes to what hearing the whole piece comes to
-pub record Hearing (text : Record → List ℕ) (start taken : Option (List ℕ)) (station : Station) (s : Standing) (piece left : List ℕ) : Type 0 where
-  pub now : Standing
-  pub stands : Stands station now
+pub record Hearing (text : Record → List ℕ) (start taken : Option (List ℕ)) (station : Station) (s : Model) (piece left : List ℕ) : Type 0 where
+  pub now : Model
+  pub stands : Refines station now
   pub wrote : Took text start taken now
   pub grown : Grew s.records now.records
   pub goes : piece_came left now ≡ piece_came piece s
 
 -- a frame's line first, and then what is left
-pub frame_first : (s : Standing) (left later rest : List ℕ) (frame : Frame)
+pub frame_first : (s : Model) (left later rest : List ℕ) (frame : Frame)
     → frames_behind s.rest left ≡ completed frame ++ frames_behind rest later → rest_behind s.rest left ≡ rest_behind rest later
     → piece_came left s ≡ piece_came later (lines_came (with_rest rest s) (option_to_list (line_in frame)))
 frame_first s left later rest frame seen rests =
@@ -84,12 +84,12 @@ frame_first s left later rest frame seen rests =
     ∙ ap (λ x. lines_came x (lines_behind rest later)) (lines_rest (with_rest rest s) end line)
     ∙ sym (ap (λ r. lines_came (with_rest (rest_behind r later) (lines_came (with_rest rest s) line)) (lines_behind r later)) (rest_kept rest line)) where
       rest_kept : (rest : List ℕ) (line : List (List ℕ)) → (lines_came (with_rest rest s) line).rest ≡ rest
-      rest_kept rest line = ap (λ (x : Standing). x.rest) (lines_rest s rest line)
+      rest_kept rest line = ap (λ (x : Model). x.rest) (lines_rest s rest line)
 
 -- one more frame
-pub hearing_on : (text : Record → List ℕ) (start taken taken' : Option (List ℕ)) (station station' : Station) (s : Standing) (piece left : List ℕ) (used : ℕ) (frame : Frame) (kept : Kept)
+pub hearing_on : (text : Record → List ℕ) (start taken taken' : Option (List ℕ)) (station station' : Station) (s : Model) (piece left : List ℕ) (used : ℕ) (frame : Frame) (kept : Kept)
     → (h : Hearing text start taken station s piece left) → (t : Takes h.now.rest left used frame kept)
-    → (Stands station' (lines_came (with_rest t.now h.now) (option_to_list (line_in frame))) × Took text start taken' (lines_came (with_rest t.now h.now) (option_to_list (line_in frame))))
+    → (Refines station' (lines_came (with_rest t.now h.now) (option_to_list (line_in frame))) × Took text start taken' (lines_came (with_rest t.now h.now) (option_to_list (line_in frame))))
     → Hearing text start taken' station' s piece (drop used left)
 hearing_on text start taken taken' station station' s piece left used frame kept h t more = record {
   now = lines_came (with_rest t.now h.now) (option_to_list (line_in frame));
@@ -100,7 +100,7 @@ hearing_on text start taken taken' station station' s piece left used frame kept
 }
 
 -- the book failed at a frame's line
-pub hearing_part : (text : Record → List ℕ) (start taken taken' : Option (List ℕ)) (station : Station) (s : Standing) (piece left : List ℕ) (used : ℕ) (frame : Frame) (kept : Kept)
+pub hearing_part : (text : Record → List ℕ) (start taken taken' : Option (List ℕ)) (station : Station) (s : Model) (piece left : List ℕ) (used : ℕ) (frame : Frame) (kept : Kept)
     → (h : Hearing text start taken station s piece left) → (t : Takes h.now.rest left used frame kept)
     → TookPart text h.now.records start taken' (lines_came (with_rest t.now h.now) (option_to_list (line_in frame)))
     → TookPart text s.records start taken' (piece_came piece s)
@@ -109,22 +109,22 @@ hearing_part text start taken taken' station s piece left used frame kept h t pa
     let later = drop used left in
     let whole : piece_came later mid ≡ piece_came piece s = sym (frame_first h.now left later t.now frame t.seen t.rests) ∙ h.goes in
     let more = lines_records (with_rest (rest_behind mid.rest later) mid) (lines_behind mid.rest later) in
-    let same : mid.reads ≡ (piece_came piece s).reads = sym (lines_reads (with_rest (rest_behind mid.rest later) mid) (lines_behind mid.rest later)) ∙ ap (λ (x : Standing). x.reads) whole in
+    let same : mid.reads ≡ (piece_came piece s).reads = sym (lines_reads (with_rest (rest_behind mid.rest later) mid) (lines_behind mid.rest later)) ∙ ap (λ (x : Model). x.reads) whole in
     let all = part_grows text h.now.records mid.records (piece_came later mid).records start taken' more (part (are_same mid.reads (piece_came piece s).reads same are)) in
     part_grew text s.records h.now.records (piece_came piece s).records start taken' h.grown
-    (subst (λ (x : Standing). WritesPart text h.now.records x.records start taken') whole all)
+    (subst (λ (x : Model). WritesPart text h.now.records x.records start taken') whole all)
 
 -- nothing is left of the piece
-pub hearing_end : (text : Record → List ℕ) (start taken : Option (List ℕ)) (station : Station) (s : Standing) (piece : List ℕ)
+pub hearing_end : (text : Record → List ℕ) (start taken : Option (List ℕ)) (station : Station) (s : Model) (piece : List ℕ)
     → Hearing text start taken station s piece []
-    → Stands station (piece_came piece s) × Took text start taken (piece_came piece s)
+    → Refines station (piece_came piece s) × Took text start taken (piece_came piece s)
 hearing_end text start taken station s piece h = (
-  subst (λ (x : Standing). Stands station x) h.goes h.stands,
-  subst (λ (x : Standing). Took text start taken x) h.goes h.wrote,
+  subst (λ (x : Model). Refines station x) h.goes h.stands,
+  subst (λ (x : Model). Took text start taken x) h.goes h.wrote,
 )
 
 -- the bytes since the last line feed are others
-pub with_kept : (station : Station) (kept : Kept) (rest : List ℕ) (s : Standing) → Stands station s → StandsFor kept rest → Stands (record station { assembler = kept }) (with_rest rest s)
+pub with_kept : (station : Station) (kept : Kept) (rest : List ℕ) (s : Model) → Refines station s → StandsFor kept rest → Refines (record station { assembler = kept }) (with_rest rest s)
 with_kept station kept rest s stands is = record {
   progress = stands.progress;
   ids = stands.ids;
@@ -176,7 +176,7 @@ pub record Between (old mid : Station) (ids : ById) : Type 0 where
   pub well : mid.well ≡ old.well
 
 -- what is written down there
-records_same : (old mid : Station) (s : Standing) (ids : ById) (xs ys : List Settlement) → Stands old s → Between old mid ids → xs ≡ ys
+records_same : (old mid : Station) (s : Model) (ids : ById) (xs ys : List Settlement) → Refines old s → Between old mid ids → xs ≡ ys
     → records_of s.reads mid.progress.moment.utc mid.marks.items xs ≡ records_of s.reads s.progress.moment.utc s.marks ys
 records_same old mid s ids xs ys stands between e =
     ap (λ (p : Progress). records_of s.reads p.moment.utc mid.marks.items xs) (between.progress ∙ stands.progress)
@@ -191,12 +191,12 @@ abbrev pub Minds : Station → Station → List Settlement → Type 0
 Minds mid new xs = (reads : Call → List ℕ → Reading) → AreReadings reads → new.well ≡ last_well reads mid.well (records_of reads mid.progress.moment.utc mid.marks.items xs)
 
 -- settlements were written down, and the station went on with these ids
-pub settles_ok : (text : Record → List ℕ) (old mid new : Station) (s : Standing) (x : Settled ById) (xs : List Settlement) (n : ℕ) (start taken' : Option (List ℕ))
-    → Stands old s → Between old mid x.client → xs ≡ x.settlements → n ≡ length x.settlements → StayPaired s.marks x
+pub settles_ok : (text : Record → List ℕ) (old mid new : Station) (s : Model) (x : Settled ById) (xs : List Settlement) (n : ℕ) (start taken' : Option (List ℕ))
+    → Refines old s → Between old mid x.client → xs ≡ x.settlements → n ≡ length x.settlements → StayPaired s.marks x
     → (AreReadings s.reads → Appends start taken' (texts_of text (s.records ++ records_of s.reads mid.progress.moment.utc mid.marks.items xs)))
     → new ≡ record mid { marks = record { items = drop n mid.marks.items }; tally = new.tally; well = new.well }
     → Counts mid new xs → Minds mid new xs
-    → Stands new (settles x s) × Took text start taken' (settles x s)
+    → Refines new (settles x s) × Took text start taken' (settles x s)
 settles_ok text old mid new s x xs n start taken' stands between e many paired wrote is counts minds =
     let added : List Record = records_of s.reads mid.progress.moment.utc mid.marks.items xs in
     let records = records_same old mid s x.client xs x.settlements stands between e in (
@@ -207,28 +207,32 @@ settles_ok text old mid new s x xs n start taken' stands between e many paired w
         marks = ap (λ (n : Station). n.marks.items) is ∙ ap (λ k. drop k mid.marks.items) many ∙ ap (λ ms. drop (length x.settlements) ms) (ap (λ ms. ms.items) between.marks ∙ stands.marks);
         paired = paired;
         assembles = subst (λ (k : Kept). StandsFor k s.rest) (sym (ap (λ (n : Station). n.assembler) is ∙ between.assembler)) stands.assembles;
-        tally = λ are. counts s.reads are ∙ ap (λ t. tallied t added) (between.tally ∙ stands.tally are) ∙ sym (tallied-append none_yet s.records added) ∙ ap (λ rs. tallied none_yet (s.records ++ rs)) records;
-        well = λ are. minds s.reads are ∙ ap (λ b. last_well s.reads b added) (between.well ∙ stands.well are) ∙ sym (last-append s.reads false s.records added) ∙ ap (λ rs. last_well s.reads false (s.records ++ rs)) records;
+        tally = λ are. counts s.reads are ∙ ap (λ t. tallied t added) (between.tally ∙ stands.tally are) ∙ sym (tallied-append none_yet s.records added)
+            ∙ ap (λ rs. tallied none_yet (s.records ++ rs)) records;
+        well = λ are. minds s.reads are ∙ ap (λ b. last_well s.reads b added) (between.well ∙ stands.well are)
+            ∙ sym (last-append s.reads false s.records added) ∙ ap (λ rs. last_well s.reads false (s.records ++ rs)) records;
       },
       λ are. subst (λ (rs : List Record). Appends start taken' (texts_of text (s.records ++ rs))) records (wrote are),
     )
 
 -- the book failed at them
-pub settles_part : (text : Record → List ℕ) (old mid : Station) (s : Standing) (x : Settled ById) (xs : List Settlement) (start taken' : Option (List ℕ))
-    → Stands old s → Between old mid x.client → xs ≡ x.settlements
+pub settles_part : (text : Record → List ℕ) (old mid : Station) (s : Model) (x : Settled ById) (xs : List Settlement) (start taken' : Option (List ℕ))
+    → Refines old s → Between old mid x.client → xs ≡ x.settlements
     → (AreReadings s.reads → WritesPart text s.records (s.records ++ records_of s.reads mid.progress.moment.utc mid.marks.items xs) start taken')
     → TookPart text s.records start taken' (settles x s)
 settles_part text old mid s x xs start taken' stands between e wrote are =
     subst (λ (rs : List Record). WritesPart text s.records (s.records ++ rs) start taken') (records_same old mid s x.client xs x.settlements stands between e) (wrote are)
 
 -- they were written down, or the book failed
-pub settles_either : {X E : Type 0} (text : Record → List ℕ) (old mid new : Station) (s : Standing) (x : Settled ById) (xs : List Settlement) (n : ℕ) (start taken' : Option (List ℕ)) (result : Result X E)
-    → Stands old s → Between old mid x.client → xs ≡ x.settlements → n ≡ length x.settlements → StayPaired s.marks x
+pub settles_either : {X E : Type 0} (text : Record → List ℕ) (old mid new : Station) (s : Model) (x : Settled ById) (xs : List Settlement) (n : ℕ)
+    (start taken' : Option (List ℕ)) (result : Result X E)
+    → Refines old s → Between old mid x.client → xs ≡ x.settlements → n ≡ length x.settlements → StayPaired s.marks x
     → (AreReadings s.reads → WritesAll text s.records (s.records ++ records_of s.reads mid.progress.moment.utc mid.marks.items xs) start taken' result)
     → OnOk result (new ≡ record mid { marks = record { items = drop n mid.marks.items }; tally = new.tally; well = new.well })
     → OnOk result (Counts mid new xs) → OnOk result (Minds mid new xs)
-    → Follows text s.records new start taken' (settles x s) result
-settles_either text old mid new s x xs n start taken' (Ok r) stands between e many paired wrote is counts minds = settles_ok text old mid new s x xs n start taken' stands between e many paired wrote is counts minds
+    → ComesTo text s.records new start taken' (settles x s) result
+settles_either text old mid new s x xs n start taken' (Ok r) stands between e many paired wrote is counts minds =
+    settles_ok text old mid new s x xs n start taken' stands between e many paired wrote is counts minds
 settles_either text old mid new s x xs n start taken' (Err r) stands between e many paired wrote is counts minds = settles_part text old mid s x xs start taken' stands between e wrote
 
 -- acts, and then more
@@ -239,7 +243,7 @@ tells_more (Some a) (Some b) None xs ys p q = absurd q
 tells_more (Some a) (Some b) (Some c) xs ys p q = q ∙ ap (λ zs. zs ++ ys) p ∙ append_assoc a xs ys
 
 -- a line was noted
-pub with_noted : (mid : Station) (p : Progress) (b b' : Bool) (s : Standing) → Stands mid s → b ≡ b' → p ≡ noted b mid.progress → Stands (record mid { progress = p }) (with_progress (noted b') s)
+pub with_noted : (mid : Station) (p : Progress) (b b' : Bool) (s : Model) → Refines mid s → b ≡ b' → p ≡ noted b mid.progress → Refines (record mid { progress = p }) (with_progress (noted b') s)
 with_noted mid p b b' s stands e is = record {
   progress = is ∙ ap (λ t. noted t mid.progress) e ∙ ap (noted b') stands.progress;
   ids = stands.ids;
@@ -252,8 +256,9 @@ with_noted mid p b b' s stands e is = record {
 }
 
 -- requests were given up at a moment
-pub stands_expired : (station : Station) (p q : Progress) (client : Windowed) (m : Moment) (s : Standing) → Stands station s → p ≡ q → client ≡ record station.client { ids = expires station.client.ids m.elapsed }
-    → Stands (record station { progress = p; client = client }) (with_moment m (with_progress (λ x. q) s))
+pub stands_expired : (station : Station) (p q : Progress) (client : Windowed) (m : Moment) (s : Model) → Refines station s → p ≡ q
+    → client ≡ record station.client { ids = expires station.client.ids m.elapsed }
+    → Refines (record station { progress = p; client = client }) (with_moment m (with_progress (λ x. q) s))
 stands_expired station p q client m s stands e is = record {
   progress = e;
   ids = ap (λ (w : Windowed). w.ids) is ∙ ap (λ ids. expires ids m.elapsed) stands.ids;
@@ -266,10 +271,10 @@ stands_expired station p q client m s stands e is = record {
 }
 
 -- that many wait, whatever replies say
-pub all_same : (station : Station) (s : Standing) → Stands station s → (waiting_in station).all ≡ (waiting_of s).all
+pub all_same : (station : Station) (s : Model) → Refines station s → (waiting_in station).all ≡ (waiting_of s).all
 all_same station s stands = ap (λ (c : ById). length c.waiting) stands.ids
 
-pub commands_same : (station : Station) (s : Standing) → Stands station s → (waiting_in station).commands ≡ (waiting_of s).commands
+pub commands_same : (station : Station) (s : Model) → Refines station s → (waiting_in station).commands ≡ (waiting_of s).commands
 commands_same station s stands = ap commands_in stands.marks
 
 -- how far a station is once it heard a piece
@@ -296,13 +301,13 @@ lines_asked-append p [] ys = refl
 lines_asked-append p (x ∷ xs) ys = lines_asked-append (line_asked p x) xs ys
 
 -- after some of a piece: hearing what is left of it comes to what hearing the whole piece comes to
-pub record Asking (station : Station) (s : Standing) (piece left : List ℕ) : Type 0 where
-  pub now : Standing
-  pub stands : Stands station now
+pub record Asking (station : Station) (s : Model) (piece left : List ℕ) : Type 0 where
+  pub now : Model
+  pub stands : Refines station now
   pub goes : piece_asked left now ≡ piece_asked piece s
 
 -- a frame's line first, and then what is left
-pub asked_first : (s : Standing) (left later rest : List ℕ) (frame : Frame)
+pub asked_first : (s : Model) (left later rest : List ℕ) (frame : Frame)
     → frames_behind s.rest left ≡ completed frame ++ frames_behind rest later → rest_behind s.rest left ≡ rest_behind rest later
     → piece_asked left s ≡ piece_asked later (with_progress (λ p. lines_asked p (option_to_list (line_in frame))) (with_rest rest s))
 asked_first s left later rest frame seen rests =
@@ -311,22 +316,22 @@ asked_first s left later rest frame seen rests =
     ap (λ r. shown r (lines_asked s.progress (lines_behind s.rest left))) rests
     ∙ ap (λ xs. shown (rest_behind rest later) (lines_asked s.progress xs)) lines
     ∙ ap (shown (rest_behind rest later)) (lines_asked-append s.progress line (lines_behind rest later)) where
-      shown : List ℕ → Progress → Standing
+      shown : List ℕ → Progress → Model
       shown r p = record s { rest = r; progress = p }
 
 -- one more frame
-pub asking_on : (station station' : Station) (s : Standing) (piece left : List ℕ) (used : ℕ) (frame : Frame) (kept : Kept)
+pub asking_on : (station station' : Station) (s : Model) (piece left : List ℕ) (used : ℕ) (frame : Frame) (kept : Kept)
     → (h : Asking station s piece left) → (t : Takes h.now.rest left used frame kept)
     → station' ≡ record station { assembler = kept; progress = lines_asked station.progress (option_to_list (line_in frame)) }
     → Asking station' s piece (drop used left)
 asking_on station station' s piece left used frame kept h t is =
     let line = option_to_list (line_in frame) in
-    let mid : Standing = with_rest t.now h.now in
+    let mid : Model = with_rest t.now h.now in
     let taken : Station = record station { assembler = kept } in
     let there = with_kept station kept t.now h.now h.stands t.stands in
     record {
       now = with_progress (λ p. lines_asked p line) mid;
-      stands = subst (λ (x : Station). Stands x (with_progress (λ p. lines_asked p line) mid)) (sym is) (record {
+      stands = subst (λ (x : Station). Refines x (with_progress (λ p. lines_asked p line) mid)) (sym is) (record {
         progress = ap (λ p. lines_asked p line) there.progress;
         ids = there.ids;
         width = there.width;
@@ -340,10 +345,10 @@ asking_on station station' s piece left used frame kept h t is =
     }
 
 -- a piece comes while it begins, or once it has begun
-pub came_asked : (word piece : List ℕ) (s : Standing) → is_none_left word ≡ false → came true word piece s ≡ piece_asked piece s
+pub came_asked : (word piece : List ℕ) (s : Model) → is_none_left word ≡ false → came true word piece s ≡ piece_asked piece s
 came_asked [] piece s e = cc
 came_asked (asked ∷ others) piece s e = refl
 
-pub came_begun : (word piece : List ℕ) (s : Standing) → is_none_left word ≡ true → came true word piece s ≡ piece_came piece s
+pub came_begun : (word piece : List ℕ) (s : Model) → is_none_left word ≡ true → came true word piece s ≡ piece_came piece s
 came_begun [] piece s e = refl
 came_begun (asked ∷ others) piece s e = cc

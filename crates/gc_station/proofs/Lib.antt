@@ -10,7 +10,7 @@ mod Counts
 pub mod Each
 pub mod EachRun
 pub mod Facts
-pub mod Fine
+pub mod Invariant
 pub mod Following
 mod Further
 mod Givens
@@ -39,9 +39,12 @@ mod Waiting
 mod Walk
 pub mod Words
 pub mod Asked
+pub mod SentAt
 pub mod Linking
 mod Codes
 mod Counting
 mod Room
+mod Ticking
 mod Cycles
+mod Unsent
 mod Pauses

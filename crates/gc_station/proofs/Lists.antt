@@ -11,7 +11,8 @@ all_on P Q [] step p = tt
 all_on P Q (x ∷ xs) step p = (step x p.0, all_on P Q xs step p.1)
 
 -- with where each stands
-pub all_split : {A : Type 0} (P Q : A → Type 0) (front xs all : List A) → front ++ xs ≡ all → ((earlier : List A) (x : A) (later : List A) → earlier ++ x ∷ later ≡ all → P x → Q x) → AllByRecursion P xs → AllByRecursion Q xs
+pub all_split : {A : Type 0} (P Q : A → Type 0) (front xs all : List A) → front ++ xs ≡ all
+    → ((earlier : List A) (x : A) (later : List A) → earlier ++ x ∷ later ≡ all → P x → Q x) → AllByRecursion P xs → AllByRecursion Q xs
 all_split P Q front [] all e step p = tt
 all_split P Q front (x ∷ xs) all e step p = (step front x xs e p.0, all_split P Q (front ++ x ∷ []) xs all (append_assoc front (x ∷ []) xs ∙ e) step p.1)
 
@@ -41,14 +42,16 @@ rows_same P Q low k (x ∷ xs) [] step p = absurd p
 rows_same P Q low k (x ∷ xs) (y ∷ ys) step p = (p.0, p.1, step p.0 k x y p.2, rows_same P Q (suc p.0) (suc k) xs ys step p.3)
 
 -- and their places
-pub rows_on : {A B : Type 0} (P Q : ℕ → ℕ → A → B → Type 0) (d low k : ℕ) (xs : List A) (ys : List B) → ((n j : ℕ) (x : A) (y : B) → j < k + length xs → P n (d + j) x y → Q n j x y) → Rows P low (d + k) xs ys → Rows Q low k xs ys
+pub rows_on : {A B : Type 0} (P Q : ℕ → ℕ → A → B → Type 0) (d low k : ℕ) (xs : List A) (ys : List B)
+    → ((n j : ℕ) (x : A) (y : B) → j < k + length xs → P n (d + j) x y → Q n j x y) → Rows P low (d + k) xs ys → Rows Q low k xs ys
 rows_on P Q d low k [] ys step p = tt
 rows_on P Q d low k (x ∷ xs) [] step p = absurd p
 rows_on P Q d low k (x ∷ xs) (y ∷ ys) step p =
     let next : suc (d + k) ≡ d + suc k = omega arith in
     (p.0, p.1, step p.0 k x y (omega arith) p.2, rows_on P Q d (suc p.0) (suc k) xs ys (λ n j a b below. step n j a b (omega (arith, below))) (subst (λ (i : ℕ). Rows P (suc p.0) i xs ys) next p.3))
 
-pub rows_map : {A B C : Type 0} (P : ℕ → ℕ → A → C → Type 0) (Q : ℕ → ℕ → B → C → Type 0) (f : A → B) (low k : ℕ) (xs : List A) (ys : List C) → ((n j : ℕ) (x : A) (y : C) → j < k + length xs → P n j x y → Q n j (f x) y)
+pub rows_map : {A B C : Type 0} (P : ℕ → ℕ → A → C → Type 0) (Q : ℕ → ℕ → B → C → Type 0) (f : A → B) (low k : ℕ) (xs : List A) (ys : List C)
+    → ((n j : ℕ) (x : A) (y : C) → j < k + length xs → P n j x y → Q n j (f x) y)
     → Rows P low k xs ys → Rows Q low k (map f xs) ys
 rows_map P Q f low k [] ys step p = tt
 rows_map P Q f low k (x ∷ xs) [] step p = absurd p
@@ -87,7 +90,8 @@ pub record RowAt {A B : Type 0} (P : ℕ → ℕ → A → B → Type 0) (low pl
 pub row_at : {A B : Type 0} (P : ℕ → ℕ → A → B → Type 0) (low k j place : ℕ) (xs : List A) (ys : List B) → place ≡ k + j → j < length xs → Rows P low k xs ys → RowAt P low place
 row_at P low k j place [] ys is below p = absurd (omega (arith, below))
 row_at P low k j place (x ∷ xs) [] is below p = absurd p
-row_at P low k zero place (x ∷ xs) (y ∷ ys) is below p = let here : k ≡ place = omega (arith, is) in record { number = p.0; least = p.1; one = x; beside = y; holds = subst (λ (i : ℕ). P p.0 i x y) here p.2 }
+row_at P low k zero place (x ∷ xs) (y ∷ ys) is below p = let here : k ≡ place = omega (arith, is) in
+    record { number = p.0; least = p.1; one = x; beside = y; holds = subst (λ (i : ℕ). P p.0 i x y) here p.2 }
 row_at P low k (suc j) place (x ∷ xs) (y ∷ ys) is below p =
     let next : place ≡ suc k + j = omega (arith, is) in
     let low_next : j < length xs = omega (arith, below) in
@@ -96,7 +100,8 @@ row_at P low k (suc j) place (x ∷ xs) (y ∷ ys) is below p =
     record { number = found.number; least = from; one = found.one; beside = found.beside; holds = found.holds }
 
 -- all of a list, and each beside it without a number
-pub rows_all : {A B C : Type 0} (P : ℕ → ℕ → A → B → Type 0) (Q : ℕ → C → B → Type 0) (f : A → C) (low k : ℕ) (xs : List A) (ys : List B) → ((n j : ℕ) (x : A) (y : B) → P n j x y → Q j (f x) y) → Rows P low k xs ys → AllAt Q k (map f xs) ys
+pub rows_all : {A B C : Type 0} (P : ℕ → ℕ → A → B → Type 0) (Q : ℕ → C → B → Type 0) (f : A → C) (low k : ℕ) (xs : List A) (ys : List B)
+    → ((n j : ℕ) (x : A) (y : B) → P n j x y → Q j (f x) y) → Rows P low k xs ys → AllAt Q k (map f xs) ys
 rows_all P Q f low k [] ys step p = tt
 rows_all P Q f low k (x ∷ xs) [] step p = tt
 rows_all P Q f low k (x ∷ xs) (y ∷ ys) step p = (step p.0 k x y p.2, rows_all P Q f (suc p.0) (suc k) xs ys step p.3)
@@ -111,7 +116,8 @@ pub record CutsOn {A : Type 0} (front behind longer : List A) (x y : A) (tail : 
 
 pub cuts_on : {A : Type 0} (front longer behind tail : List A) (x y : A) → front ++ x ∷ behind ≡ longer ++ y ∷ tail → length front < length longer → CutsOn front behind longer x y tail
 cuts_on [] [] behind tail x y e low = absurd (omega (arith, low))
-cuts_on [] (b ∷ longer) behind tail x y e low = let head : x ≡ b = cc in let others : behind ≡ longer ++ y ∷ tail = cc in record { between = longer; goes_on = ap (λ z. z ∷ longer) (sym head); splits = others }
+cuts_on [] (b ∷ longer) behind tail x y e low = let head : x ≡ b = cc in let others : behind ≡ longer ++ y ∷ tail = cc in
+    record { between = longer; goes_on = ap (λ z. z ∷ longer) (sym head); splits = others }
 cuts_on (a ∷ front) [] behind tail x y e low = absurd (omega (arith, low))
 cuts_on (a ∷ front) (b ∷ longer) behind tail x y e low =
     let head : a ≡ b = cc in

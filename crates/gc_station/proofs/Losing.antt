@@ -15,29 +15,29 @@ use Rattle.gc_station.specs.declared.mark.Mark.{Mark}
 use Rattle.gc_station.specs.declared.plan.Plan.{Plan}
 use Rattle.gc_station.specs.declared.progress.Phase.{Phase}
 use Rattle.gc_station.specs.declared.progress.Phase.TheVariants.{Down, Pausing, Ready, Closing, Over}
-use Rattle.gc_station.specs.declared.progress.Order.{Order}
-use Rattle.gc_station.specs.declared.progress.Order.TheVariants as orders
+use Rattle.gc_station.specs.declared.progress.Action.{Action}
+use Rattle.gc_station.specs.declared.progress.Action.TheVariants as actions
 use Rattle.gc_station.specs.declared.progress.Progress.{Progress}
 use Rattle.gc_station.specs.declared.progress.Waiting.{Waiting}
 use Rattle.gc_links.specs.Acts.{Act, Cut}
-use Rattle.gc_station.specs.Deciding.{has_begun, is_up, order_of, order_in, order_up}
+use Rattle.gc_station.specs.Deciding.{has_begun, is_up, action_of, action_in, action_up}
 use Rattle.gc_station.specs.Ends.{IsWrittenAt, BeginsAnew, IsLast, IsLostIn}
 use Rattle.gc_station.specs.Marks.{records_of}
 use Rattle.gc_station.specs.Progressing.{turned, sent, failing, is_over, is_over_in, loses_all}
 use Rattle.gc_station.specs.Reasons.{IsFor}
 use Rattle.gc_station.specs.Records.{Record}
 use Rattle.gc_station.specs.Runs.{stood}
-use Rattle.gc_station.specs.Standing.{Standing, opening, order_at, waiting_of, request_text, Puts, Obeys, with_progress, asks_next, bound_next, after_put, moved, losing, ended, after}
+use Rattle.gc_station.specs.Model.{Model, opening, action_at, waiting_of, request_text, Puts, Performs, with_progress, asks_next, is_chained_behind_next, after_put, moved, losing, ended, after}
 use Rattle.gc_station.proofs.Counts.{ended_progress}
-use Rattle.gc_station.proofs.Facts.{order_for}
-use Rattle.gc_station.proofs.Fine.{Fine}
+use Rattle.gc_station.proofs.Facts.{action_for}
+use Rattle.gc_station.proofs.Invariant.{Invariant}
 use Rattle.gc_station.proofs.Going.{after_all-append}
 use Rattle.gc_station.proofs.Growing.{moved_grew}
 use Rattle.gc_station.proofs.Lists.{all_append, all_split, Cut as CutOf, AtEnd, Before, cut_at, rows_all}
 use Rattle.gc_station.proofs.Meets.{IsRecordOf, records_all, was_answered, was_late}
 use Rattle.gc_station.proofs.Midway.{clash}
 use Rattle.gc_station.proofs.Waiting.{Asked, Stayed, Waits, IsTrue, IsHonest}
-use Rattle.gc_station.proofs.Parting.{keeps_order}
+use Rattle.gc_station.proofs.Parting.{keeps_action}
 use Rattle.gc_station.proofs.Walk.{is_sent, moved_changed}
 use Rattle.gc_station.proofs.Words.{renews_only, renews_needs}
 use Rattle.gc_station.specs.Scopes.{Scope}
@@ -50,12 +50,13 @@ unwritten_none : (marks : List (Option Mark)) → marks ≡ [] → Unwritten mar
 unwritten_none marks is reads utc settlements = ap (λ (ms : List (Option Mark)). records_of reads utc ms settlements) is
 
 -- where no act follows, the run stops
-over_stops : (plan : Plan) (p : Progress) (w : Waiting) → is_over p ≡ true → (why : Cause) × (order_of plan p w ≡ orders.Stop why)
+over_stops : (plan : Plan) (p : Progress) (w : Waiting) → is_over p ≡ true → (why : Cause) × (action_of plan p w ≡ actions.Stop why)
 over_stops plan p w over = by_phase p.phase refl over where
-  no_turn : (phase : Phase) (other : Order) → p.phase ≡ phase → is_up phase ≡ false → nat_eq p.turns 0 ≡ true → (if nat_eq p.turns 0 then order_up (is_up p.phase) else other) ≡ orders.Stop cause.Turns
-  no_turn phase other is down none = ap (λ (b : Bool). if b then order_up (is_up p.phase) else other) none ∙ ap (λ (x : Phase). order_up (is_up x)) is ∙ ap order_up down
+  no_turn : (phase : Phase) (other : Action) → p.phase ≡ phase → is_up phase ≡ false → nat_eq p.turns 0 ≡ true
+      → (if nat_eq p.turns 0 then action_up (is_up p.phase) else other) ≡ actions.Stop cause.Turns
+  no_turn phase other is down none = ap (λ (b : Bool). if b then action_up (is_up p.phase) else other) none ∙ ap (λ (x : Phase). action_up (is_up x)) is ∙ ap action_up down
 
-  by_phase : (phase : Phase) → p.phase ≡ phase → (is_over_in phase || (not (is_up phase) && nat_eq p.turns 0)) ≡ true → (why : Cause) × (order_in phase plan p w ≡ orders.Stop why)
+  by_phase : (phase : Phase) → p.phase ≡ phase → (is_over_in phase || (not (is_up phase) && nat_eq p.turns 0)) ≡ true → (why : Cause) × (action_in phase plan p w ≡ actions.Stop why)
   by_phase Down is e = (cause.Turns, no_turn Down _ is refl e)
   by_phase Pausing is e = (cause.Turns, no_turn Pausing _ is refl e)
   by_phase (Over why) is e = (why, refl)
@@ -66,17 +67,17 @@ only_first true e = cc
 only_first false e = refl
 
 -- where all that wait are lost, and a record is written of one
-loses_why : (plan : Plan) (commands : List Task) (scope : Scope) (acts : List Act) (act : Act) → Fine plan commands (stood plan commands scope acts)
-    → Obeys commands (stood plan commands scope acts) (order_at plan (stood plan commands scope acts)) act
-    → loses_all (moved plan commands (order_at plan (stood plan commands scope acts)) (with_progress turned (stood plan commands scope acts)) act).progress ≡ true
-    → Unwritten (moved plan commands (order_at plan (stood plan commands scope acts)) (with_progress turned (stood plan commands scope acts)) act).marks
+loses_why : (plan : Plan) (commands : List Task) (scope : Scope) (acts : List Act) (act : Act) → Invariant plan commands (stood plan commands scope acts)
+    → Performs commands (stood plan commands scope acts) (action_at plan (stood plan commands scope acts)) act
+    → loses_all (moved plan commands (action_at plan (stood plan commands scope acts)) (with_progress turned (stood plan commands scope acts)) act).progress ≡ true
+    → Unwritten (moved plan commands (action_at plan (stood plan commands scope acts)) (with_progress turned (stood plan commands scope acts)) act).marks
     ⊎ (BeginsAnew plan commands scope acts act ⊎ IsLast plan commands scope acts act [])
 loses_why plan commands scope acts act fine obeys loses = by_test (is_over t.progress) refl loses where
-  s : Standing
+  s : Model
   s = stood plan commands scope acts
 
-  t : Standing
-  t = moved plan commands (order_at plan s) (with_progress turned s) act
+  t : Model
+  t = moved plan commands (action_at plan s) (with_progress turned s) act
 
   next : stood plan commands scope (acts ++ act ∷ []) ≡ ended t
   next = after_all-append plan commands (opening plan scope) acts (act ∷ [])
@@ -86,19 +87,20 @@ loses_why plan commands scope acts act fine obeys loses = by_test (is_over t.pro
   none_waits begins =
       let new = fine.begins begins in
       unwritten_none t.marks
-      ((keeps_order plan commands s (order_at plan s) act (order_for plan s.progress (waiting_of s)) obeys begins new).1 ∙ nil_from_length s.marks (fine.paired ∙ ap (λ (c : ById). length c.waiting) new))
+      ((keeps_action plan commands s (action_at plan s) act (action_for plan s.progress (waiting_of s)) obeys begins new).1
+      ∙ nil_from_length s.marks (fine.paired ∙ ap (λ (c : ById). length c.waiting) new))
 
   renews : (begun : Bool) → has_begun s.progress ≡ begun → has_begun t.progress ≡ false → Unwritten t.marks ⊎ (BeginsAnew plan commands scope acts act ⊎ IsLast plan commands scope acts act [])
   renews false begun begins = inl (none_waits begun)
   renews true begun begins =
-      let it = renews_only plan commands s (order_at plan s) act obeys begun begins in
-      let full = renews_needs plan commands s (order_at plan s) fine it.0 (order_for plan s.progress (waiting_of s)) in
+      let it = renews_only plan commands s (action_at plan s) act obeys begun begins in
+      let full = renews_needs plan commands s (action_at plan s) fine it.0 (action_for plan s.progress (waiting_of s)) in
       inr (inl (record { renews = it.0; moment = it.1; told = it.2; seven = full.0; given_up = full.1 }))
 
   by_test : (b : Bool) → is_over t.progress ≡ b → (not (has_begun t.progress) || b) ≡ true → Unwritten t.marks ⊎ (BeginsAnew plan commands scope acts act ⊎ IsLast plan commands scope acts act [])
   by_test true over e =
       let stops = over_stops plan (ended t).progress (waiting_of (ended t)) (ap is_over (ended_progress t) ∙ over) in
-      inr (inr (record { none = refl; why = stops.0; stops = ap (λ (x : Standing). order_at plan x) next ∙ stops.1 }))
+      inr (inr (record { none = refl; why = stops.0; stops = ap (λ (x : Model). action_at plan x) next ∙ stops.1 }))
   by_test false on e = renews (has_begun s.progress) refl (only_first (has_begun t.progress) e)
 
 -- nothing is lost where a command goes out
@@ -108,7 +110,7 @@ going_on p is = ap (λ (phase : Phase). is_over_in phase || (not (is_up phase) &
 failing_goes : (why : Cause) (p : Progress) → p.phase ≡ Ready → is_over (failing why p) ≡ false
 failing_goes why p is = ap (λ (phase : Phase). is_over_in (if is_up phase then Closing why else Over why) || (not (is_up (if is_up phase then Closing why else Over why)) && nat_eq p.turns 0)) is
 
-put_goes : (requests : ℕ) (f : Standing → Standing) (s : Standing) (act : Act) → (f s).progress.phase ≡ Ready → is_over (after_put requests f s act).progress ≡ false
+put_goes : (requests : ℕ) (f : Model → Model) (s : Model) (act : Act) → (f s).progress.phase ≡ Ready → is_over (after_put requests f s act).progress ≡ false
 put_goes requests f s (Cut bytes n) is = failing_goes (cause.Write requests n) (f s).progress is
 put_goes requests f s act is = going_on (f s).progress is
 
@@ -116,12 +118,13 @@ neither : (a b : Bool) → a ≡ true → b ≡ false → (not a || b) ≡ false
 neither true b x y = y
 neither false b x y = cc
 
-send_loses_none : (plan : Plan) (commands : List Task) (s : Standing) (act : Act) → Fine plan commands s → IsFor plan s.progress (waiting_of s) orders.Send → loses_all (moved plan commands orders.Send (with_progress turned s) act).progress ≡ false
+send_loses_none : (plan : Plan) (commands : List Task) (s : Model) (act : Act) → Invariant plan commands s → IsFor plan s.progress (waiting_of s) actions.Send
+    → loses_all (moved plan commands actions.Send (with_progress turned s) act).progress ≡ false
 send_loses_none plan commands s act fine needs =
     let t = with_progress turned s in
-    let f = λ (x : Standing). with_progress (sent (bound_next commands x.progress)) (asks_next plan commands x) in
-    neither (has_begun (moved plan commands orders.Send t act).progress) _ (ap (λ (x : Standing). has_begun x.progress) (moved_changed plan commands orders.Send t act) ∙ needs.1)
-    (put_goes _ f t act (sym (ap (λ (x : Standing). x.progress.phase) (is_sent plan commands t)) ∙ needs.0))
+    let f = λ (x : Model). with_progress (sent (is_chained_behind_next commands x.progress)) (asks_next plan commands x) in
+    neither (has_begun (moved plan commands actions.Send t act).progress) _ (ap (λ (x : Model). has_begun x.progress) (moved_changed plan commands actions.Send t act) ∙ needs.1)
+    (put_goes _ f t act (sym (ap (λ (x : Model). x.progress.phase) (is_sent plan commands t)) ∙ needs.0))
 
 -- The records of those that are lost.
 
@@ -135,10 +138,12 @@ pub record LostOf (plan : Plan) (commands : List Task) (scope : Scope) (acts : L
   pub asked : Asked plan commands scope acts Stayed number at id pending mark
 
 abbrev IsLostRecord : Plan → List Task → Scope → List Act → Record → Type 0
-IsLostRecord plan commands scope acts r = (mark : Mark) × (y : Settlement) × (r.cycle ≡ mark.cycle) × (r.place ≡ mark.place) × (r.sent ≡ Some mark.sent) × IsRecordOf r y × LostOf plan commands scope acts y (Some mark)
+IsLostRecord plan commands scope acts r = (mark : Mark) × (y : Settlement) × (r.cycle ≡ mark.cycle) × (r.place ≡ mark.place) × (r.sent ≡ Some mark.sent)
+    × IsRecordOf r y × LostOf plan commands scope acts y (Some mark)
 
-lost_true : (plan : Plan) (commands : List Task) (scope : Scope) (acts : List Act) (act : Act) (r : Record) (news earlier later : List Record) → Fine plan commands (stood plan commands scope acts)
-    → loses_all (moved plan commands (order_at plan (stood plan commands scope acts)) (with_progress turned (stood plan commands scope acts)) act).progress ≡ true
+lost_true : (plan : Plan) (commands : List Task) (scope : Scope) (acts : List Act) (act : Act) (r : Record) (news earlier later : List Record)
+    → Invariant plan commands (stood plan commands scope acts)
+    → loses_all (moved plan commands (action_at plan (stood plan commands scope acts)) (with_progress turned (stood plan commands scope acts)) act).progress ≡ true
     → BeginsAnew plan commands scope acts act ⊎ IsLast plan commands scope acts act []
     → (stood plan commands scope (acts ++ act ∷ [])).records ≡ ((stood plan commands scope acts).records ++ news) ++ (earlier ++ r ∷ later)
     → IsLostRecord plan commands scope (acts ++ act ∷ []) r → IsTrue plan commands scope (acts ++ act ∷ []) r
@@ -172,9 +177,9 @@ lost_true plan commands scope acts act r news earlier later fine loses why ends 
   on : CutOf acts act a.before a.between a.request → IsLostIn plan commands scope (acts ++ act ∷ []) r
   on (AtEnd same) =
       let s = stood plan commands scope acts in
-      let sends : order_at plan s ≡ orders.Send = ap (λ (xs : List Act). order_at plan (stood plan commands scope xs)) same ∙ (a.its it.0 refl).sends in
-      let needs = subst (λ (o : Order). IsFor plan s.progress (waiting_of s) o) sends (order_for plan s.progress (waiting_of s)) in
-      absurd (clash _ loses (ap (λ (o : Order). loses_all (moved plan commands o (with_progress turned s) act).progress) sends ∙ send_loses_none plan commands s act fine needs))
+      let sends : action_at plan s ≡ actions.Send = ap (λ (xs : List Act). action_at plan (stood plan commands scope xs)) same ∙ (a.its it.0 refl).sends in
+      let needs = subst (λ (o : Action). IsFor plan s.progress (waiting_of s) o) sends (action_for plan s.progress (waiting_of s)) in
+      absurd (clash _ loses (ap (λ (o : Action). loses_all (moved plan commands o (with_progress turned s) act).progress) sends ∙ send_loses_none plan commands s act fine needs))
   on (Before between at rest) =
       let its = a.its it.0 refl in
       record {
@@ -189,33 +194,35 @@ lost_true plan commands scope acts act r news earlier later fine loses why ends 
           cycle = it.2 ∙ its.cycle;
           place = it.3 ∙ its.place;
           sent = it.4 ∙ ap Some its.sent;
-          put = subst (λ (y : Call). Puts (request_text (stood plan commands scope a.before).client y) a.request) (sym (ap (λ (y : Command). y.call) it.5.command ∙ ap (λ (y : Settlement). y.call) x.is)) a.put;
+          put = subst (λ (y : Call). Puts (request_text (stood plan commands scope a.before).client y) a.request)
+              (sym (ap (λ (y : Command). y.call) it.5.command ∙ ap (λ (y : Settlement). y.call) x.is)) a.put;
         };
         written = subst (λ (xs : List Act). IsWrittenAt plan commands scope xs act r) at here;
         shown = inr (subst (λ (xs : List Act). BeginsAnew plan commands scope xs act ⊎ IsLast plan commands scope xs act []) at why);
       }
 
 -- what every run keeps, also where all that wait are lost
-pub losing_honest : (plan : Plan) (commands : List Task) (scope : Scope) (acts : List Act) (act : Act) → Fine plan commands (stood plan commands scope acts)
-    → Obeys commands (stood plan commands scope acts) (order_at plan (stood plan commands scope acts)) act
-    → IsHonest plan commands scope (acts ++ act ∷ []) (acts ++ act ∷ []) (moved plan commands (order_at plan (stood plan commands scope acts)) (with_progress turned (stood plan commands scope acts)) act)
+pub losing_honest : (plan : Plan) (commands : List Task) (scope : Scope) (acts : List Act) (act : Act) → Invariant plan commands (stood plan commands scope acts)
+    → Performs commands (stood plan commands scope acts) (action_at plan (stood plan commands scope acts)) act
+    → IsHonest plan commands scope (acts ++ act ∷ []) (acts ++ act ∷ [])
+    (moved plan commands (action_at plan (stood plan commands scope acts)) (with_progress turned (stood plan commands scope acts)) act)
     → IsHonest plan commands scope (acts ++ act ∷ []) (acts ++ act ∷ []) (after plan commands (stood plan commands scope acts) act)
 losing_honest plan commands scope acts act fine obeys h = by_test (loses_all t.progress) refl where
   all : List Act
   all = acts ++ act ∷ []
 
-  s : Standing
+  s : Model
   s = stood plan commands scope acts
 
-  t : Standing
-  t = moved plan commands (order_at plan s) (with_progress turned s) act
+  t : Model
+  t = moved plan commands (action_at plan s) (with_progress turned s) act
 
   written : List Record
   written = records_of t.reads t.progress.moment.utc t.marks (map lost t.client.waiting)
 
   ends : loses_all t.progress ≡ true → (more : List Record) → t.records ≡ s.records ++ more → (stood plan commands scope all).records ≡ (s.records ++ more) ++ written
   ends loses more grew =
-      ap (λ (x : Standing). x.records) (after_all-append plan commands (opening plan scope) acts (act ∷ [])) ∙ ap (λ (b : Bool). (losing b t).records) loses ∙ ap (λ xs. xs ++ written) grew
+      ap (λ (x : Model). x.records) (after_all-append plan commands (opening plan scope) acts (act ∷ [])) ∙ ap (λ (b : Bool). (losing b t).records) loses ∙ ap (λ xs. xs ++ written) grew
 
   of_lost : AllByRecursion (IsLostRecord plan commands scope all) written
   of_lost =
@@ -224,14 +231,19 @@ losing_honest plan commands scope acts act fine obeys h = by_test (loses_all t.p
       (rows_all (Waits plan commands scope all t.client.next (length t.client.waiting)) (λ (k : ℕ). LostOf plan commands scope all) lost 0 0 t.client.waiting t.marks
       (λ n j p mark w. record { number = n; at = j; id = id_at t.client.next (length t.client.waiting) j; pending = p; is = refl; asked = w }) h.waiting)
 
-  all_lost : loses_all t.progress ≡ true → Unwritten t.marks ⊎ (BeginsAnew plan commands scope acts act ⊎ IsLast plan commands scope acts act []) → AllByRecursion (IsTrue plan commands scope all) written
+  all_lost : loses_all t.progress ≡ true → Unwritten t.marks ⊎ (BeginsAnew plan commands scope acts act ⊎ IsLast plan commands scope acts act [])
+      → AllByRecursion (IsTrue plan commands scope all) written
   all_lost loses (inl none) = subst (λ (rs : List Record). AllByRecursion (IsTrue plan commands scope all) rs) (sym (none t.reads t.progress.moment.utc (map lost t.client.waiting))) tt
   all_lost loses (inr why) =
-      let grew = moved_grew plan commands (order_at plan s) (with_progress turned s) act in
+      let grew = moved_grew plan commands (action_at plan s) (with_progress turned s) act in
       all_split (IsLostRecord plan commands scope all) (IsTrue plan commands scope all) [] written written refl
       (λ (earlier : List Record) (r : Record) (later : List Record) at is.
       lost_true plan commands scope acts act r grew.0 earlier later fine loses why (ends loses grew.0 grew.1 ∙ ap (λ xs. (s.records ++ grew.0) ++ xs) (sym at)) is) of_lost
 
   by_test : (b : Bool) → loses_all t.progress ≡ b → IsHonest plan commands scope all all (losing b t)
-  by_test true loses = record { waiting = tt; written = all_append (IsTrue plan commands scope all) t.records written h.written (all_lost loses (loses_why plan commands scope acts act fine obeys loses)) }
+  by_test true loses = record {
+    waiting = tt;
+    written = all_append (IsTrue plan commands scope all) t.records written h.written
+        (all_lost loses (loses_why plan commands scope acts act fine obeys loses));
+  }
   by_test false loses = h

@@ -14,7 +14,7 @@ use Rattle.gc_links.specs.declared.link.Moment.{Moment}
 use Rattle.gc_station.specs.declared.mark.Mark.{Mark}
 use Rattle.gc_station.specs.declared.plan.Plan.{Plan}
 use Rattle.gc_station.specs.declared.cause.Cause.TheVariants as cause
-use Rattle.gc_station.specs.declared.progress.Order.TheVariants.{Read}
+use Rattle.gc_station.specs.declared.progress.Action.TheVariants.{Read}
 use Rattle.gc_station.specs.declared.progress.Progress.{Progress}
 use Rattle.gc_station.specs.declared.progress.Until.{Until}
 use Rattle.gc_station.specs.declared.station.Station.{Station}
@@ -23,13 +23,13 @@ use Rattle.gc_station.specs.Deciding.{later}
 use Rattle.gc_station.specs.Marks.{is_well, last_well}
 use Rattle.gc_station.specs.Progressing.{failing, skipped_at}
 use Rattle.gc_station.specs.Records.{Record}
-use Rattle.gc_station.specs.Standing.{Standing, Puts, IsReading, client_sent, asks, asks_first, skips_first, with_progress, with_records, after_put, after_read, moved}
-use Rattle.gc_station.specs.Stations.{Stands, Took, Makes, Made, Follows, cut_progress, seen}
+use Rattle.gc_station.specs.Model.{Model, Puts, IsReading, client_sent, asks, asks_first, skips_first, with_progress, with_records, after_put, after_read, moved}
+use Rattle.gc_station.specs.Stations.{Refines, Took, Makes, Made, ComesTo, cut_progress, seen}
 use Rattle.gc_station.specs.Tallies.{none_yet, tallied}
 use Rattle.gc_station.proofs.Records.{tallied-append, last-append}
 
 -- how far it is changes, and nothing else
-pub stands_with : (station : Station) (p : Progress) (f : Progress → Progress) (s : Standing) → Stands station s → p ≡ f station.progress → Stands (record station { progress = p }) (with_progress f s)
+pub stands_with : (station : Station) (p : Progress) (f : Progress → Progress) (s : Model) → Refines station s → p ≡ f station.progress → Refines (record station { progress = p }) (with_progress f s)
 stands_with station p f s stands is = record {
   progress = is ∙ ap f stands.progress;
   ids = stands.ids;
@@ -47,14 +47,16 @@ pub put_puts : (put : Result (Unit {0}) ℕ) (bytes want : List ℕ) → bytes �
 put_puts (Ok r) bytes want is part = is
 put_puts (Err n) bytes want is part = (is, subst (λ (xs : List ℕ). n < length xs) is part)
 
-pub put_stands : (put : Result (Unit {0}) ℕ) (bytes : List ℕ) (requests wanted : ℕ) (f : Standing → Standing) (s : Standing) (mid new : Station) → Stands mid (f s)
-    → new ≡ record mid { progress = cut_progress put requests mid.progress } → requests ≡ wanted → Stands new (after_put wanted f s (put_as put bytes))
-put_stands (Ok r) bytes requests wanted f s mid new stands is same = subst (λ (x : Station). Stands x (f s)) (sym is) stands
+pub put_stands : (put : Result (Unit {0}) ℕ) (bytes : List ℕ) (requests wanted : ℕ) (f : Model → Model) (s : Model) (mid new : Station) → Refines mid (f s)
+    → new ≡ record mid { progress = cut_progress put requests mid.progress } → requests ≡ wanted → Refines new (after_put wanted f s (put_as put bytes))
+put_stands (Ok r) bytes requests wanted f s mid new stands is same = subst (λ (x : Station). Refines x (f s)) (sym is) stands
 put_stands (Err n) bytes requests wanted f s mid new stands is same =
     let why = ap (λ (k : ℕ). failing (cause.Write k n) mid.progress) same in
-    subst (λ (x : Station). Stands x (with_progress (failing (cause.Write wanted n)) (f s))) (sym is) (stands_with mid (cut_progress (Err n) requests mid.progress) (failing (cause.Write wanted n)) (f s) stands why)
+    subst (λ (x : Station). Refines x (with_progress (failing (cause.Write wanted n)) (f s))) (sym is)
+    (stands_with mid (cut_progress (Err n) requests mid.progress) (failing (cause.Write wanted n)) (f s) stands why)
 
-pub put_took : (text : Record → List ℕ) (start taken : Option (List ℕ)) (put : Result (Unit {0}) ℕ) (bytes : List ℕ) (requests : ℕ) (f : Standing → Standing) (s : Standing) → Took text start taken (f s) → Took text start taken (after_put requests f s (put_as put bytes))
+pub put_took : (text : Record → List ℕ) (start taken : Option (List ℕ)) (put : Result (Unit {0}) ℕ) (bytes : List ℕ) (requests : ℕ) (f : Model → Model)
+    (s : Model) → Took text start taken (f s) → Took text start taken (after_put requests f s (put_as put bytes))
 put_took text start taken (Ok r) bytes requests f s so = so
 put_took text start taken (Err n) bytes requests f s so = so
 
@@ -67,16 +69,17 @@ sent_count : (c : ById) (target : ℕ) (call : Call) (deadline : ℕ) (b : Bool)
 sent_count c target call deadline true e = cc
 sent_count c target call deadline false e = length-append c.waiting _
 
-pub asks_stands : (old new : Station) (s : Standing) (wait : ℕ) (command other : Command) (mark : Option Mark) → Stands old s → length old.client.ids.waiting < WINDOW → command ≡ other
+pub asks_stands : (old new : Station) (s : Model) (wait : ℕ) (command other : Command) (mark : Option Mark) → Refines old s → length old.client.ids.waiting < WINDOW → command ≡ other
     → new ≡ record old {
       client = record old.client { ids = client_sent old.client.ids (sends old.client.width old.client.ids command.target command.call (later old.progress.moment.elapsed wait)) };
       marks = record { items = old.marks.items ++ mark ∷ [] };
     }
-    → Stands new (asks wait other.target other.call mark s)
+    → Refines new (asks wait other.target other.call mark s)
 asks_stands old new s wait command other mark stands room e is =
     let elapsed = old.progress.moment.elapsed in
     let fewer : length s.client.waiting < WINDOW = subst (λ (c : ById). length c.waiting < WINDOW) stands.ids room in
-    let more = sent_count s.client other.target other.call (later s.progress.moment.elapsed wait) (nat_eq (length s.client.waiting) WINDOW) (ne_eqb (length s.client.waiting) WINDOW (λ same. omega (arith, same, fewer))) in
+    let more = sent_count s.client other.target other.call (later s.progress.moment.elapsed wait) (nat_eq (length s.client.waiting) WINDOW)
+    (ne_eqb (length s.client.waiting) WINDOW (λ same. omega (arith, same, fewer))) in
     let marks : length (s.marks ++ mark ∷ []) ≡ length s.marks + 1 = length-append s.marks (mark ∷ []) in
     record {
       progress = ap (λ (n : Station). n.progress) is ∙ stands.progress;
@@ -105,19 +108,20 @@ drop_some [] i below = absurd (omega (arith, below))
 drop_some (y ∷ ys) zero below = (y, ys, refl)
 drop_some (y ∷ ys) (suc i) below = drop_some ys i (omega (arith, below))
 
-pub first_stands : (new : Station) (s : Standing) (mark mark' : Mark) (list : List Task) (task : Task) (others : List Task) → list ≡ task ∷ others → mark ≡ mark'
-    → Stands new (asks task.deadline task.command.target task.command.call (Some mark) s) → Stands new (asks_first mark' list s)
+pub first_stands : (new : Station) (s : Model) (mark mark' : Mark) (list : List Task) (task : Task) (others : List Task) → list ≡ task ∷ others → mark ≡ mark'
+    → Refines new (asks task.deadline task.command.target task.command.call (Some mark) s) → Refines new (asks_first mark' list s)
 first_stands new s mark mark' list task others is e stands =
-    subst (λ (ts : List Task). Stands new (asks_first mark' ts s)) (sym is) (subst (λ (m : Mark). Stands new (asks task.deadline task.command.target task.command.call (Some m) s)) e stands)
+    subst (λ (ts : List Task). Refines new (asks_first mark' ts s)) (sym is) (subst (λ (m : Mark). Refines new (asks task.deadline task.command.target task.command.call (Some m) s)) e stands)
 
-pub first_took : (text : Record → List ℕ) (start taken : Option (List ℕ)) (s : Standing) (mark : Mark) (list : List Task) → Took text start taken s → Took text start taken (asks_first mark list s)
+pub first_took : (text : Record → List ℕ) (start taken : Option (List ℕ)) (s : Model) (mark : Mark) (list : List Task) → Took text start taken s → Took text start taken (asks_first mark list s)
 first_took text start taken s mark [] so = so
 first_took text start taken s mark (task ∷ others) so = so
 
 -- A command is skipped.
 
 -- its record
-pub skips_as : (p : Progress) (m : Moment) (mark mark' : Mark) (utc : ℕ) (end : End) (list : List Task) (task : Task) (others : List Task) → list ≡ task ∷ others → mark ≡ mark' → utc ≡ skipped_at m p → end ≡ (if p.missed then Missed else Skipped)
+pub skips_as : (p : Progress) (m : Moment) (mark mark' : Mark) (utc : ℕ) (end : End) (list : List Task) (task : Task) (others : List Task)
+    → list ≡ task ∷ others → mark ≡ mark' → utc ≡ skipped_at m p → end ≡ (if p.missed then Missed else Skipped)
     → record { sent = None; utc = utc; cycle = mark.cycle; place = mark.place; command = task.command; end = end } ∷ [] ≡ skips_first p m mark' list
 skips_as p m mark mark' utc end list task others is e at ends =
     ap (λ (u : ℕ). record { sent = None; utc = u; cycle = mark.cycle; place = mark.place; command = task.command; end = end } ∷ []) at
@@ -130,11 +134,12 @@ unwell_end reads call true = refl
 unwell_end reads call false = refl
 
 -- it wasn't answered well
-pub skips_unwell : (reads : Call → List ℕ → Reading) (b : Bool) (p : Progress) (m : Moment) (mark : Mark) (list : List Task) (task : Task) (others : List Task) → list ≡ task ∷ others → last_well reads b (skips_first p m mark list) ≡ false
+pub skips_unwell : (reads : Call → List ℕ → Reading) (b : Bool) (p : Progress) (m : Moment) (mark : Mark) (list : List Task) (task : Task)
+    (others : List Task) → list ≡ task ∷ others → last_well reads b (skips_first p m mark list) ≡ false
 skips_unwell reads b p m mark list task others is = ap (λ ts. last_well reads b (skips_first p m mark ts)) is ∙ unwell_end reads task.command.call p.missed
 
-pub skipped_stands : (old new : Station) (s : Standing) (rs : List Record) → Stands old s → ((reads : Call → List ℕ → Reading) (b : Bool) → last_well reads b rs ≡ false)
-    → new ≡ record old { tally = tallied old.tally rs; well = false } → Stands new (with_records rs s)
+pub skipped_stands : (old new : Station) (s : Model) (rs : List Record) → Refines old s → ((reads : Call → List ℕ → Reading) (b : Bool) → last_well reads b rs ≡ false)
+    → new ≡ record old { tally = tallied old.tally rs; well = false } → Refines new (with_records rs s)
 skipped_stands old new s rs stands unwell is = record {
   progress = ap (λ (n : Station). n.progress) is ∙ stands.progress;
   ids = ap (λ (n : Station). n.client.ids) is ∙ stands.ids;
@@ -147,18 +152,21 @@ skipped_stands old new s rs stands unwell is = record {
 }
 
 -- or not
-pub none_skipped : (s : Standing) → with_records [] s ≡ s
+pub none_skipped : (s : Model) → with_records [] s ≡ s
 none_skipped s = ap (λ (rs : List Record). record s { records = rs }) (append-nil s.records)
 
 -- A read.
 
-pub makes_read : (plan : Plan) (commands : List Task) (until : Until) (text : Record → List ℕ) (told told' : Option (List Act)) (taken taken' : Option (List ℕ)) (station new : Station) (act : Act) → Tells told told' (act ∷ []) → IsReading act
-    → ((s : Standing) (start : Option (List ℕ)) → Stands station s → Took text start taken s → Stands new (after_read plan until s act) × Took text start taken' (after_read plan until s act))
+pub makes_read : (plan : Plan) (commands : List Task) (until : Until) (text : Record → List ℕ) (told told' : Option (List Act))
+    (taken taken' : Option (List ℕ)) (station new : Station) (act : Act) → Tells told told' (act ∷ []) → IsReading act
+    → ((s : Model) (start : Option (List ℕ)) → Refines station s → Took text start taken s → Refines new (after_read plan until s act) × Took text start taken' (after_read plan until s act))
     → Makes commands (Read until) (moved plan commands (Read until)) (seen told text taken station) (seen told' text taken' new)
-makes_read plan commands until text told told' taken taken' station new act tells reads goes = record { act = act; tells = tells; goes = λ s start stands so. let g = goes s start stands so in (reads, g.0, g.1) }
+makes_read plan commands until text told told' taken taken' station new act tells reads goes =
+    record { act = act; tells = tells; goes = λ s start stands so. let g = goes s start stands so in (reads, g.0, g.1) }
 
-pub made_read : {X E : Type 0} (plan : Plan) (commands : List Task) (until : Until) (text : Record → List ℕ) (told told' : Option (List Act)) (taken taken' : Option (List ℕ)) (station new : Station) (act : Act) (result : Result X E) → Tells told told' (act ∷ []) → IsReading act
-    → ((s : Standing) (start : Option (List ℕ)) → Stands station s → Took text start taken s → Follows text s.records new start taken' (after_read plan until s act) result)
+pub made_read : {X E : Type 0} (plan : Plan) (commands : List Task) (until : Until) (text : Record → List ℕ) (told told' : Option (List Act))
+    (taken taken' : Option (List ℕ)) (station new : Station) (act : Act) (result : Result X E) → Tells told told' (act ∷ []) → IsReading act
+    → ((s : Model) (start : Option (List ℕ)) → Refines station s → Took text start taken s → ComesTo text s.records new start taken' (after_read plan until s act) result)
     → Made commands (Read until) (moved plan commands (Read until)) (seen told text taken station) (seen told' text taken' new) result
 made_read plan commands until text told told' taken taken' station new act (Ok r) tells reads goes = makes_read plan commands until text told told' taken taken' station new act tells reads goes
 made_read plan commands until text told told' taken taken' station new act (Err r) tells reads goes = record { act = act; tells = tells; goes = λ s start stands so. (reads, goes s start stands so) }

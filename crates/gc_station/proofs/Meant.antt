@@ -6,20 +6,20 @@ use Rattle.gc_catalogue.specs.declared.call.Call.TheVariants.{NullProc}
 use Rattle.gc_texts.specs.declared.tasks.Task.{Task}
 use Rattle.gc_station.specs.declared.mark.Mark.{Mark}
 use Rattle.gc_station.specs.declared.plan.Plan.{Plan}
-use Rattle.gc_station.specs.declared.progress.Order.{Order}
-use Rattle.gc_station.specs.declared.progress.Order.TheVariants as order
+use Rattle.gc_station.specs.declared.progress.Action.{Action}
+use Rattle.gc_station.specs.declared.progress.Action.TheVariants as action
 use Rattle.gc_links.specs.Acts.{Act, Put, Cut, Gave, Closed}
 use Rattle.gc_station.specs.Deciding.{later, has_begun}
 use Rattle.gc_station.specs.Parts.{Asks, Part, only_turns, nothing, asking, asking_first, putting, beginning}
 use Rattle.gc_station.specs.Reasons.{IsFor}
-use Rattle.gc_station.specs.Standing.{Standing, order_at, waiting_of, place_next, mark_next, request_text, null_text, first_text, Puts, ReadsClock, IsOpening, IsReading, Obeys, is_heard, after}
-use Rattle.gc_station.proofs.Facts.{order_for}
-use Rattle.gc_station.proofs.Fine.{Fine}
+use Rattle.gc_station.specs.Model.{Model, action_at, waiting_of, place_next, mark_next, request_text, null_text, first_text, Puts, ReadsClock, IsOpening, IsReading, Performs, is_heard, after}
+use Rattle.gc_station.proofs.Facts.{action_for}
+use Rattle.gc_station.proofs.Invariant.{Invariant}
 use Rattle.gc_station.proofs.Midway.{clash}
 use Rattle.gc_station.proofs.Givens.{rest_with, after_rest}
 
 -- a request goes out, and this is its line
-pub record IsSent (s : Standing) (bytes : List ℕ) (p : Part) : Type 0 where
+pub record IsSent (s : Model) (bytes : List ℕ) (p : Part) : Type 0 where
   pub target : ℕ
   pub call : Call
   pub deadline : ℕ
@@ -29,7 +29,7 @@ pub record IsSent (s : Standing) (bytes : List ℕ) (p : Part) : Type 0 where
   pub room : length s.client.waiting < 7
 
 -- these bytes are a line feed, or a request's line
-abbrev pub IsPut : Standing → List ℕ → Part → Type 0
+abbrev pub IsPut : Model → List ℕ → Part → Type 0
 IsPut s bytes p = ((bytes ≡ 10 ∷ []) × (p ≡ nothing)) ⊎ IsSent s bytes p
 
 -- the bytes that an act puts
@@ -50,13 +50,13 @@ module _ (plan : Plan) (commands : List Task) where
   puts_same want bytes (Cut out count) e puts = let same = puts.0 in cc
   puts_same want bytes act e puts = absurd puts
 
-  -- only an order that puts bytes is obeyed by putting some
+  -- only an action that puts bytes is performed by putting some
   never_puts : (act : Act) (bytes : List ℕ) → put_by act ≡ Some bytes → (ReadsClock act ⊎ (IsOpening act ⊎ (IsReading act ⊎ (act ≡ Closed)))) → ⊥
   never_puts (Put out) bytes e h = elim h [ inl a ↦ a | inr b ↦ elim b [ inl c ↦ c | inr d ↦ elim d [ inl f ↦ f | inr g ↦ cc ] ] ]
   never_puts (Cut out count) bytes e h = elim h [ inl a ↦ a | inr b ↦ elim b [ inl c ↦ c | inr d ↦ elim d [ inl f ↦ f | inr g ↦ cc ] ] ]
   never_puts act bytes e h = cc
 
-  first_put : (s : Standing) (left : List Task) (bytes : List ℕ) → 0 < length left → length s.client.waiting < 7 → bytes ≡ first_text s.client left
+  first_put : (s : Model) (left : List Task) (bytes : List ℕ) → 0 < length left → length s.client.waiting < 7 → bytes ≡ first_text s.client left
       → IsSent s bytes (asking_first s.progress.moment.elapsed (mark_next plan commands s.progress) left)
   first_put s [] bytes some room e = absurd (omega (arith, some))
   first_put s (task ∷ others) bytes some room e = record {
@@ -69,55 +69,60 @@ module _ (plan : Plan) (commands : List Task) where
     room = room;
   }
 
-  null_put : (s : Standing) (bytes : List ℕ) → length s.client.waiting < 7 → bytes ≡ request_text s.client NullProc → IsSent s bytes (asking 0 NullProc (later s.progress.moment.elapsed plan.deadline) None)
+  null_put : (s : Model) (bytes : List ℕ) → length s.client.waiting < 7 → bytes ≡ request_text s.client NullProc
+      → IsSent s bytes (asking 0 NullProc (later s.progress.moment.elapsed plan.deadline) None)
   null_put s bytes room e = record { target = 0; call = NullProc; deadline = later s.progress.moment.elapsed plan.deadline; mark = None; part = refl; text = e; room = room }
 
-  put_order : (s : Standing) (o : Order) (act : Act) (bytes : List ℕ) → Fine plan commands s → IsFor plan s.progress (waiting_of s) o → Obeys commands s o act → put_by act ≡ Some bytes → has_begun s.progress ≡ true → IsPut s bytes (putting plan commands s o)
-  put_order s order.Clear act bytes fine is obeys e begun = inl (puts_same (10 ∷ []) bytes act e obeys, refl)
-  put_order s order.Ask act bytes fine is obeys e begun = absurd (clash (has_begun s.progress) begun is.1)
-  put_order s order.Renew act bytes fine is obeys e begun = absurd (never_puts act bytes e (inl obeys))
-  put_order s order.Flush act bytes fine is obeys e begun = inr (null_put s bytes is.5.1 (puts_same (request_text s.client NullProc) bytes act e obeys))
-  put_order s order.Send act bytes fine is obeys e begun =
+  put_order : (s : Model) (o : Action) (act : Act) (bytes : List ℕ) → Invariant plan commands s → IsFor plan s.progress (waiting_of s) o
+      → Performs commands s o act → put_by act ≡ Some bytes → has_begun s.progress ≡ true → IsPut s bytes (putting plan commands s o)
+  put_order s action.Clear act bytes fine is obeys e begun = inl (puts_same (10 ∷ []) bytes act e obeys, refl)
+  put_order s action.Ask act bytes fine is obeys e begun = absurd (clash (has_begun s.progress) begun is.1)
+  put_order s action.Renew act bytes fine is obeys e begun = absurd (never_puts act bytes e (inl obeys))
+  put_order s action.Flush act bytes fine is obeys e begun = inr (null_put s bytes is.5.1 (puts_same (request_text s.client NullProc) bytes act e obeys))
+  put_order s action.Send act bytes fine is obeys e begun =
       let left = drop (place_next commands s.progress) commands in
       let many : length left ≡ length commands - place_next commands s.progress = length-drop (place_next commands s.progress) commands in
       inr (first_put s left bytes (omega (arith, many, is.2, fine.unsent)) is.3.1 (puts_same (first_text s.client left) bytes act e obeys))
-  put_order s order.ReadClock act bytes fine is obeys e begun = absurd (never_puts act bytes e (inl obeys))
-  put_order s order.Skip act bytes fine is obeys e begun = absurd (never_puts act bytes e (inl obeys))
-  put_order s order.Begin act bytes fine is obeys e begun = absurd (never_puts act bytes e (inl obeys))
-  put_order s order.Open act bytes fine is obeys e begun = absurd (never_puts act bytes e (inr (inl obeys)))
-  put_order s (order.Read until) act bytes fine is obeys e begun = absurd (never_puts act bytes e (inr (inr (inl obeys))))
-  put_order s (order.Close why) act bytes fine is obeys e begun = absurd (never_puts act bytes e (inr (inr (inr obeys))))
-  put_order s (order.Stop why) act bytes fine is obeys e begun = absurd obeys
+  put_order s action.ReadClock act bytes fine is obeys e begun = absurd (never_puts act bytes e (inl obeys))
+  put_order s action.Skip act bytes fine is obeys e begun = absurd (never_puts act bytes e (inl obeys))
+  put_order s action.Begin act bytes fine is obeys e begun = absurd (never_puts act bytes e (inl obeys))
+  put_order s action.Open act bytes fine is obeys e begun = absurd (never_puts act bytes e (inr (inl obeys)))
+  put_order s (action.Read until) act bytes fine is obeys e begun = absurd (never_puts act bytes e (inr (inr (inl obeys))))
+  put_order s (action.Close why) act bytes fine is obeys e begun = absurd (never_puts act bytes e (inr (inr (inr obeys))))
+  put_order s (action.Stop why) act bytes fine is obeys e begun = absurd obeys
 
   -- of an act of a run, once it has begun
-  pub put_is : (s : Standing) (act : Act) (bytes : List ℕ) → Fine plan commands s → Obeys commands s (order_at plan s) act → put_by act ≡ Some bytes → has_begun s.progress ≡ true → IsPut s bytes (putting plan commands s (order_at plan s))
-  put_is s act bytes fine obeys e begun = put_order s (order_at plan s) act bytes fine (order_for plan s.progress (waiting_of s)) obeys e begun
+  pub put_is : (s : Model) (act : Act) (bytes : List ℕ) → Invariant plan commands s → Performs commands s (action_at plan s) act → put_by act ≡ Some bytes
+      → has_begun s.progress ≡ true → IsPut s bytes (putting plan commands s (action_at plan s))
+  put_is s act bytes fine obeys e begun = put_order s (action_at plan s) act bytes fine (action_for plan s.progress (waiting_of s)) obeys e begun
 
   -- and while it begins: a line feed, or the null procedure that is asked for
-  abbrev pub IsAsked : Standing → List ℕ → Part → Type 0
+  abbrev pub IsAsked : Model → List ℕ → Part → Type 0
   IsAsked s bytes p = ((bytes ≡ 10 ∷ []) × (p ≡ nothing)) ⊎ ((bytes ≡ null_text s.progress.word) × (p ≡ only_turns (Asks ∷ [])))
 
-  asked_turn : (s : Standing) (act : Act) (bytes : List ℕ) → put_by act ≡ Some bytes → beginning s order.Ask act ≡ only_turns (Asks ∷ [])
+  asked_turn : (s : Model) (act : Act) (bytes : List ℕ) → put_by act ≡ Some bytes → beginning s action.Ask act ≡ only_turns (Asks ∷ [])
   asked_turn s (Put out) bytes e = refl
   asked_turn s (Cut out count) bytes e = refl
   asked_turn s act bytes e = cc
 
-  asked_order : (s : Standing) (o : Order) (act : Act) (bytes : List ℕ) → IsFor plan s.progress (waiting_of s) o → Obeys commands s o act → put_by act ≡ Some bytes → has_begun s.progress ≡ false → IsAsked s bytes (beginning s o act)
-  asked_order s order.Clear act bytes is obeys e begins = inl (puts_same (10 ∷ []) bytes act e obeys, refl)
-  asked_order s order.Ask act bytes is obeys e begins = inr (puts_same (null_text s.progress.word) bytes act e obeys, asked_turn s act bytes e)
-  asked_order s order.Flush act bytes is obeys e begins = absurd (clash (has_begun s.progress) is.1 begins)
-  asked_order s order.Send act bytes is obeys e begins = absurd (clash (has_begun s.progress) is.1 begins)
-  asked_order s order.Renew act bytes is obeys e begins = absurd (never_puts act bytes e (inl obeys))
-  asked_order s order.ReadClock act bytes is obeys e begins = absurd (never_puts act bytes e (inl obeys))
-  asked_order s order.Skip act bytes is obeys e begins = absurd (never_puts act bytes e (inl obeys))
-  asked_order s order.Begin act bytes is obeys e begins = absurd (never_puts act bytes e (inl obeys))
-  asked_order s order.Open act bytes is obeys e begins = absurd (never_puts act bytes e (inr (inl obeys)))
-  asked_order s (order.Read until) act bytes is obeys e begins = absurd (never_puts act bytes e (inr (inr (inl obeys))))
-  asked_order s (order.Close why) act bytes is obeys e begins = absurd (never_puts act bytes e (inr (inr (inr obeys))))
-  asked_order s (order.Stop why) act bytes is obeys e begins = absurd obeys
+  asked_order : (s : Model) (o : Action) (act : Act) (bytes : List ℕ) → IsFor plan s.progress (waiting_of s) o → Performs commands s o act
+      → put_by act ≡ Some bytes → has_begun s.progress ≡ false → IsAsked s bytes (beginning s o act)
+  asked_order s action.Clear act bytes is obeys e begins = inl (puts_same (10 ∷ []) bytes act e obeys, refl)
+  asked_order s action.Ask act bytes is obeys e begins = inr (puts_same (null_text s.progress.word) bytes act e obeys, asked_turn s act bytes e)
+  asked_order s action.Flush act bytes is obeys e begins = absurd (clash (has_begun s.progress) is.1 begins)
+  asked_order s action.Send act bytes is obeys e begins = absurd (clash (has_begun s.progress) is.1 begins)
+  asked_order s action.Renew act bytes is obeys e begins = absurd (never_puts act bytes e (inl obeys))
+  asked_order s action.ReadClock act bytes is obeys e begins = absurd (never_puts act bytes e (inl obeys))
+  asked_order s action.Skip act bytes is obeys e begins = absurd (never_puts act bytes e (inl obeys))
+  asked_order s action.Begin act bytes is obeys e begins = absurd (never_puts act bytes e (inl obeys))
+  asked_order s action.Open act bytes is obeys e begins = absurd (never_puts act bytes e (inr (inl obeys)))
+  asked_order s (action.Read until) act bytes is obeys e begins = absurd (never_puts act bytes e (inr (inr (inl obeys))))
+  asked_order s (action.Close why) act bytes is obeys e begins = absurd (never_puts act bytes e (inr (inr (inr obeys))))
+  asked_order s (action.Stop why) act bytes is obeys e begins = absurd obeys
 
-  pub asked_is : (s : Standing) (act : Act) (bytes : List ℕ) → Obeys commands s (order_at plan s) act → put_by act ≡ Some bytes → has_begun s.progress ≡ false → IsAsked s bytes (beginning s (order_at plan s) act)
-  asked_is s act bytes obeys e begins = asked_order s (order_at plan s) act bytes (order_for plan s.progress (waiting_of s)) obeys e begins
+  pub asked_is : (s : Model) (act : Act) (bytes : List ℕ) → Performs commands s (action_at plan s) act → put_by act ≡ Some bytes
+      → has_begun s.progress ≡ false → IsAsked s bytes (beginning s (action_at plan s) act)
+  asked_is s act bytes obeys e begins = asked_order s (action_at plan s) act bytes (action_for plan s.progress (waiting_of s)) obeys e begins
 
   -- What is left of a line.
 
@@ -127,5 +132,5 @@ module _ (plan : Plan) (commands : List Task) where
   left_same true act rest = refl
   left_same false act rest = refl
 
-  pub rest_is : (s : Standing) (act : Act) → Obeys commands s (order_at plan s) act → (after plan commands s act).rest ≡ left_of (is_heard s.progress.phase) s.rest act
+  pub rest_is : (s : Model) (act : Act) → Performs commands s (action_at plan s) act → (after plan commands s act).rest ≡ left_of (is_heard s.progress.phase) s.rest act
   rest_is s act obeys = after_rest plan commands s act obeys ∙ left_same (is_heard s.progress.phase) act s.rest

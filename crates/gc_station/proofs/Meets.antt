@@ -59,7 +59,8 @@ met_lost : (b : Bool) (line : List ℕ) → (if b then Late else Answered line) 
 met_lost true line e = cc
 met_lost false line e = cc
 
-met_ended : (P : ℕ → ℕ → Pending → Option Mark → Type 0) (c : ById) (o : Option ℕ) (line : List ℕ) (number at : ℕ) (p : Pending) (mark : Option Mark) → HasPlace c o at → P number at p mark → EndedBy P c o line at (met p line) mark
+met_ended : (P : ℕ → ℕ → Pending → Option Mark → Type 0) (c : ById) (o : Option ℕ) (line : List ℕ) (number at : ℕ) (p : Pending) (mark : Option Mark)
+    → HasPlace c o at → P number at p mark → EndedBy P c o line at (met p line) mark
 met_ended P c o line number at p mark place holds = record {
   number = number;
   pending = p;
@@ -70,7 +71,8 @@ met_ended P c o line number at p mark place holds = record {
   lost = λ e. absurd (met_lost p.given_up line e);
 }
 
-settle_ended : (P : ℕ → ℕ → Pending → Option Mark → Type 0) (c : ById) (o : Option ℕ) (line : List ℕ) (there low k at : ℕ) (ps : List Pending) (marks : List (Option Mark)) → HasPlace c o there → there ≡ k + at → k < length ps
+settle_ended : (P : ℕ → ℕ → Pending → Option Mark → Type 0) (c : ById) (o : Option ℕ) (line : List ℕ) (there low k at : ℕ) (ps : List Pending)
+    (marks : List (Option Mark)) → HasPlace c o there → there ≡ k + at → k < length ps
     → Rows P low at ps marks → AllAt (EndedBy P c o line) at (settle k line ps) marks
 settle_ended P c o line there low k at [] marks has is below all = absurd (omega (arith, below))
 settle_ended P c o line there low k at (p ∷ ps) [] has is below all = absurd all
@@ -93,7 +95,8 @@ settle_ended P c o line there low (suc k) at (p ∷ ps) (mark ∷ marks) has is 
       settle_ended P c o line there (suc all.0) k (suc at) ps marks has next fewer all.3,
     )
 
-pub heard_ended : (P : ℕ → ℕ → Pending → Option Mark → Type 0) (c : ById) (marks : List (Option Mark)) (line : List ℕ) (o : Option ℕ) → Rows P 0 0 c.waiting marks → AllAt (EndedBy P c o line) 0 (hears c line o).settlements marks
+pub heard_ended : (P : ℕ → ℕ → Pending → Option Mark → Type 0) (c : ById) (marks : List (Option Mark)) (line : List ℕ) (o : Option ℕ)
+    → Rows P 0 0 c.waiting marks → AllAt (EndedBy P c o line) 0 (hears c line o).settlements marks
 heard_ended P c marks line None all = tt
 heard_ended P c marks line (Some id) all = by_test (place_in c id) refl (nat_lt (place_in c id) (length c.waiting)) refl where
   by_test : (k : ℕ) → k ≡ place_in c id → (b : Bool) → nat_lt (place_in c id) (length c.waiting) ≡ b → AllAt (EndedBy P c (Some id) line) 0 (id_settled c line k b).settlements marks

@@ -22,9 +22,9 @@ use Rattle.gc_station.specs.EachOnce.{sent_by}
 use Rattle.gc_station.specs.Marks.{commands_in, records_of}
 use Rattle.gc_station.specs.Progressing.{is_over_in, is_over, loses_all}
 use Rattle.gc_station.specs.Records.{Record}
-use Rattle.gc_station.specs.Standing.{Standing, client_sent, losing, ended}
+use Rattle.gc_station.specs.Model.{Model, client_sent, losing, ended}
 use Rattle.gc_station.proofs.Each.{EachIs, each_moment, each_settles, each_null, each_sent, each_skipped, each_begun}
-use Rattle.gc_station.proofs.Fine.{Fine, is_bare, says_done}
+use Rattle.gc_station.proofs.Invariant.{Invariant, is_bare, says_done}
 
 -- the counts, the client and the records
 pub record Sound (plan : Plan) (commands : List Task) (left unsent : ℕ) (client : ById) (marks : List (Option Mark)) (records : List Record) : Type 0 where
@@ -47,11 +47,11 @@ SoundAt plan commands p client marks records = Sound plan commands p.left p.unse
 abbrev pub PlacedAt : Progress → List ℕ → List (Option Mark) → Type 0
 PlacedAt p rest marks = Placed p.phase p.left p.unsent rest marks
 
--- both, of a standing
-abbrev pub Mid : Plan → List Task → Standing → Type 0
+-- both, of a model
+abbrev pub Mid : Plan → List Task → Model → Type 0
 Mid plan commands s = SoundAt plan commands s.progress s.client s.marks s.records × PlacedAt s.progress s.rest s.marks
 
-pub mid_of : (plan : Plan) (commands : List Task) (s : Standing) → Fine plan commands s → Mid plan commands s
+pub mid_of : (plan : Plan) (commands : List Task) (s : Model) → Invariant plan commands s → Mid plan commands s
 mid_of plan commands s fine = (
   record {
     unsents = fine.unsent;
@@ -74,7 +74,8 @@ clash b e g = cc
 -- What holds of the counts and the records.
 
 -- a moment
-pub sound_moment : (plan : Plan) (commands : List Task) (left unsent : ℕ) (client : ById) (marks : List (Option Mark)) (records : List Record) (m : ℕ) → Sound plan commands left unsent client marks records
+pub sound_moment : (plan : Plan) (commands : List Task) (left unsent : ℕ) (client : ById) (marks : List (Option Mark)) (records : List Record) (m : ℕ)
+    → Sound plan commands left unsent client marks records
     → Sound plan commands left unsent (expires client m) marks records
 sound_moment plan commands left unsent client marks records m sound =
     let same : length (map (expired m) client.waiting) ≡ length client.waiting = length-map client.waiting (expired m) in
@@ -89,7 +90,8 @@ sound_moment plan commands left unsent client marks records m sound =
     }
 
 -- some are settled
-pub sound_settles : (reads : Call → List ℕ → Reading) (plan : Plan) (commands : List Task) (left unsent : ℕ) (client next : ById) (marks : List (Option Mark)) (records : List Record) (utc : ℕ) (ss : List Settlement)
+pub sound_settles : (reads : Call → List ℕ → Reading) (plan : Plan) (commands : List Task) (left unsent : ℕ) (client next : ById) (marks : List (Option Mark))
+    (records : List Record) (utc : ℕ) (ss : List Settlement)
     → map of_settled ss ++ map of_pending next.waiting ≡ map of_pending client.waiting → next.next < 8 → Sound plan commands left unsent client marks records
     → Sound plan commands left unsent next (drop (length ss) marks) (records ++ records_of reads utc marks ss)
 sound_settles reads plan commands left unsent client next marks records utc ss parts low sound =
@@ -140,7 +142,8 @@ sound_null plan commands left unsent client marks records target call deadline r
 -- a command is sent
 pub sound_sent : (plan : Plan) (commands : List Task) (left unsent : ℕ) (client : ById) (marks : List (Option Mark)) (records : List Record) (utc deadline : ℕ) (task : Task) (others : List Task)
     → length client.waiting < 7 → 0 < unsent → drop (length commands - unsent) commands ≡ task ∷ others → Sound plan commands left unsent client marks records
-    → Sound plan commands left (unsent - 1) (client_sent client (sends WINDOW client task.command.target task.command.call deadline)) (marks ++ Some (record { cycle = plan.cycles - left; place = length commands - unsent; sent = utc }) ∷ []) records
+    → Sound plan commands left (unsent - 1) (client_sent client (sends WINDOW client task.command.target task.command.call deadline))
+    (marks ++ Some (record { cycle = plan.cycles - left; place = length commands - unsent; sent = utc }) ∷ []) records
 sound_sent plan commands left unsent client marks records utc deadline task others room some at sound =
     let p = pending_of task.command.target task.command.call deadline in
     let begun = plan.cycles - left in
@@ -164,7 +167,8 @@ sound_sent plan commands left unsent client marks records utc deadline task othe
 -- a command isn't sent
 pub sound_skipped : (plan : Plan) (commands : List Task) (left unsent : ℕ) (client : ById) (marks : List (Option Mark)) (records : List Record) (utc : ℕ) (end : End) (task : Task) (others : List Task)
     → commands_in marks ≡ 0 → 0 < unsent → drop (length commands - unsent) commands ≡ task ∷ others → Sound plan commands left unsent client marks records
-    → Sound plan commands left (unsent - 1) client marks (records ++ record { sent = None; utc = utc; cycle = plan.cycles - left; place = length commands - unsent; command = task.command; end = end } ∷ [])
+    → Sound plan commands left (unsent - 1) client marks (records ++ record
+    { sent = None; utc = utc; cycle = plan.cycles - left; place = length commands - unsent; command = task.command; end = end } ∷ [])
 sound_skipped plan commands left unsent client marks records utc end task others none some at sound =
     let begun = plan.cycles - left in
     let place = length commands - unsent in
@@ -179,7 +183,8 @@ sound_skipped plan commands left unsent client marks records utc end task others
       paired = sound.paired;
       window = sound.window;
       digit = sound.digit;
-      each = subst (λ (n : ℕ). EachIs marks client.waiting (records ++ r ∷ []) (sent_by commands begun n)) (sym place_is) (each_skipped commands begun place marks client.waiting records r task others none at refl many sound.each);
+      each = subst (λ (n : ℕ). EachIs marks client.waiting (records ++ r ∷ []) (sent_by commands begun n)) (sym place_is)
+          (each_skipped commands begun place marks client.waiting records r task others none at refl many sound.each);
     }
 
 -- a cycle begins
@@ -204,11 +209,12 @@ kept_for : (a o : Bool) → (not a || o) ≡ false → (a ≡ true) × (o ≡ fa
 kept_for true o e = (refl, e)
 kept_for false o e = cc
 
-still_finished : (p : Progress) (marks : List (Option Mark)) → is_over p ≡ false → (p.left ≡ 0) × (p.unsent ≡ 0) × ((is_over_in p.phase ≡ true) ⊎ (commands_in marks ≡ 0)) → (p.left ≡ 0) × (p.unsent ≡ 0) × (commands_in marks ≡ 0)
+still_finished : (p : Progress) (marks : List (Option Mark)) → is_over p ≡ false
+    → (p.left ≡ 0) × (p.unsent ≡ 0) × ((is_over_in p.phase ≡ true) ⊎ (commands_in marks ≡ 0)) → (p.left ≡ 0) × (p.unsent ≡ 0) × (commands_in marks ≡ 0)
 still_finished p marks not_over (left, unsent, inl over) = absurd (clash (is_over p) (ap (λ b. b || (not (is_up p.phase) && nat_eq p.turns 0)) over) not_over)
 still_finished p marks not_over (left, unsent, inr none) = (left, unsent, none)
 
-fine_losing : (plan : Plan) (commands : List Task) (s : Standing) (b : Bool) → loses_all s.progress ≡ b → Mid plan commands s → Fine plan commands (losing b s)
+fine_losing : (plan : Plan) (commands : List Task) (s : Model) (b : Bool) → loses_all s.progress ≡ b → Mid plan commands s → Invariant plan commands (losing b s)
 fine_losing plan commands s true is (sound, placed) =
     let p = s.progress in
     let ss = map lost s.client.waiting in
@@ -247,5 +253,5 @@ fine_losing plan commands s false is (sound, placed) =
       each = sound.each;
     }
 
-pub fine_ended : (plan : Plan) (commands : List Task) (s : Standing) → Mid plan commands s → Fine plan commands (ended s)
+pub fine_ended : (plan : Plan) (commands : List Task) (s : Model) → Mid plan commands s → Invariant plan commands (ended s)
 fine_ended plan commands s mid = fine_losing plan commands s (loses_all s.progress) refl mid

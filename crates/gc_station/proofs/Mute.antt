@@ -16,8 +16,8 @@ use Rattle.gc_station.specs.declared.plan.Plan.{Plan}
 use Rattle.gc_station.specs.declared.cause.Cause.TheVariants as cause
 use Rattle.gc_station.specs.declared.progress.Phase.{Phase}
 use Rattle.gc_station.specs.declared.progress.Phase.TheVariants as phase
-use Rattle.gc_station.specs.declared.progress.Order.{Order}
-use Rattle.gc_station.specs.declared.progress.Order.TheVariants as orders
+use Rattle.gc_station.specs.declared.progress.Action.{Action}
+use Rattle.gc_station.specs.declared.progress.Action.TheVariants as actions
 use Rattle.gc_station.specs.declared.progress.Progress.{Progress}
 use Rattle.gc_links.specs.Acts.{Act, Told, Put, Gave, Silent}
 use Rattle.gc_station.specs.Deciding.{has_begun, is_none_left, goes_on, later, patience_of}
@@ -26,29 +26,29 @@ use Rattle.gc_station.specs.Quiet.{TellsMoment, IsListening, StaysConnected}
 use Rattle.gc_station.specs.Reasons.{IsFor}
 use Rattle.gc_station.specs.Runs.{stood}
 use Rattle.gc_station.specs.Silences.{latest, IsNoReply, BringsNoReply, IsMute, WentBack, IsMuteFor}
-use Rattle.gc_station.specs.Standing.{Standing, request_text, null_text, first_text, opening, order_at, waiting_of, with_progress, with_moment, with_rest, line_came, lines_came, lines_behind, came, is_heard, is_ok, is_reply, place_next, Obeys, moved, after, after_all, Runs}
+use Rattle.gc_station.specs.Model.{Model, request_text, null_text, first_text, opening, action_at, waiting_of, with_progress, with_moment, with_rest, line_came, lines_came, lines_behind, came, is_heard, is_ok, is_reply, place_next, Performs, moved, after, after_all, Runs}
 use Rattle.gc_station.proofs.Always.{always_far}
 use Rattle.gc_station.proofs.Connected.{is_in_use, OnLine, on_line}
 use Rattle.gc_station.proofs.Midway.{clash}
 use Rattle.gc_station.proofs.Since.{Since, since_now, since_on, cut_on}
 use Rattle.gc_station.proofs.EachRun.{fine_stood}
-use Rattle.gc_station.proofs.Facts.{both_true, either_true, or_true, order_for, order_wakes, Awake, Wakes}
+use Rattle.gc_station.proofs.Facts.{both_true, either_true, or_true, action_for, order_wakes, Awake, Wakes}
 use Rattle.gc_station.proofs.Going.{after_all-append}
 use Rattle.gc_station.proofs.Lists.{all_append}
 use Rattle.gc_station.proofs.Silences.{LastTells, latest_more, awake_last, not_closing, end_here, awake_here}
-use Rattle.gc_station.proofs.Fine.{Fine}
+use Rattle.gc_station.proofs.Invariant.{Invariant}
 use Rattle.gc_station.proofs.Walk.{lines_along, asked_along, came_along}
 use Rattle.gc_station.specs.Scopes.{Scope}
 
 -- The lines of a piece: none reads as a reply, or the line was alive at that moment.
 
-lines_moment : (s : Standing) (lines : List (List ℕ)) → (lines_came s lines).progress.moment ≡ s.progress.moment
-lines_moment s lines = lines_along (λ (t : Standing). t.progress.moment ≡ s.progress.moment) (λ t line e. e) s lines refl
+lines_moment : (s : Model) (lines : List (List ℕ)) → (lines_came s lines).progress.moment ≡ s.progress.moment
+lines_moment s lines = lines_along (λ (t : Model). t.progress.moment ≡ s.progress.moment) (λ t line e. e) s lines refl
 
-abbrev Alive : Standing → List (List ℕ) → Progress → Type 0
+abbrev Alive : Model → List (List ℕ) → Progress → Type 0
 Alive s lines p = (AllByRecursion IsNoReply lines × (p.alive ≡ s.progress.alive) × (p.asked ≡ s.progress.asked)) ⊎ ((p.alive ≡ s.progress.moment.elapsed) × (p.asked ≡ false))
 
-lines_alive : (s : Standing) (lines : List (List ℕ)) → Alive s lines (lines_came s lines).progress
+lines_alive : (s : Model) (lines : List (List ℕ)) → Alive s lines (lines_came s lines).progress
 lines_alive s [] = inl (tt, refl, refl)
 lines_alive s (line ∷ others) = on (is_reply line) refl (lines_alive (line_came s line) others) where
   here : (b : Bool) → is_reply line ≡ b → (line_came s line).progress.alive ≡ (if b then s.progress.moment.elapsed else s.progress.alive)
@@ -128,7 +128,8 @@ asks_on : (asked : Bool) (from : ℕ) (before behind : List Act) (act : Act) →
 asks_on false from before behind act listens asks = all_append IsListening behind (act ∷ []) asks (listens, tt)
 asks_on true from before behind act listens asks = asks_still from before behind act asks
 
-asks_any : (asked : Bool) (from : ℕ) (before behind : List Act) → Asks asked from before behind → AllByRecursion IsListening behind ⊎ (((text : List ℕ) × (others : List Act) × (behind ≡ Put text ∷ others)) ⊎ WentBack from before)
+asks_any : (asked : Bool) (from : ℕ) (before behind : List Act) → Asks asked from before behind
+    → AllByRecursion IsListening behind ⊎ (((text : List ℕ) × (others : List Act) × (behind ≡ Put text ∷ others)) ⊎ WentBack from before)
 asks_any false from before behind asks = inl asks
 asks_any true from before behind asks = inr asks
 
@@ -142,7 +143,7 @@ module _ (plan : Plan) (commands : List Task) (scope : Scope) where
   abbrev IsMuted : Bool → ℕ → ℕ → List Act → Type 0
   IsMuted asked alive now acts = Since (Mutes asked alive now) acts
 
-  mute_more : (s : Standing) (xs : List Act) (act : Act) → IsMute plan commands s xs → BringsNoReply (after_all plan commands s xs).rest act → IsMute plan commands s (xs ++ act ∷ [])
+  mute_more : (s : Model) (xs : List Act) (act : Act) → IsMute plan commands s xs → BringsNoReply (after_all plan commands s xs).rest act → IsMute plan commands s (xs ++ act ∷ [])
   mute_more s [] act mute here = (here, tt)
   mute_more s (x ∷ xs) act mute here = (mute.0, mute_more (after plan commands s x) xs act mute.1 here)
 
@@ -164,7 +165,7 @@ module _ (plan : Plan) (commands : List Task) (scope : Scope) where
       ap (stood plan commands scope) (order ∙ sym (append_assoc before (start ∷ []) behind)) ∙ after_all-append plan commands (opening plan scope) (before ++ start ∷ []) behind in (
         h.0,
         all_append StaysConnected behind (act ∷ []) h.1 (stays, tt),
-        mute_more (stood plan commands scope (before ++ start ∷ [])) behind act h.2 (subst (λ (x : Standing). BringsNoReply x.rest act) there none),
+        mute_more (stood plan commands scope (before ++ start ∷ [])) behind act h.2 (subst (λ (x : Model). BringsNoReply x.rest act) there none),
         asks before behind h.3,
         latest_more alive behind act ∙ ap (λ n. latest n (act ∷ [])) h.4,
         least,
@@ -172,13 +173,13 @@ module _ (plan : Plan) (commands : List Task) (scope : Scope) where
 
   -- or begins at the last moment, where a request goes out
   muted_asking : (now : ℕ) (acts : List Act) (out : List ℕ) → LastTells now acts → IsMuted true now now (acts ++ Put out ∷ [])
-  muted_asking now acts out (front, last, order, tells) =
+  muted_asking now acts out (front, last, action, tells) =
       let least : now ≤ now = omega arith in
       record {
         before = front;
         start = last;
         behind = Put out ∷ [];
-        order = cut_on (acts ++ Put out ∷ []) acts front (last ∷ []) (Put out ∷ []) refl order;
+        order = cut_on (acts ++ Put out ∷ []) acts front (last ∷ []) (Put out ∷ []) refl action;
         holds = (tells, (tt, tt), (tt, tt), inl (out, [], refl), refl, least);
       }
 
@@ -199,7 +200,8 @@ module _ (plan : Plan) (commands : List Task) (scope : Scope) where
         later = later;
       })
 
-  muted_clock : (asked : Bool) (alive now : ℕ) (m : Moment) (acts : List Act) (act : Act) (b : Bool) → nat_le alive m.elapsed ≡ b → TellsMoment m.elapsed act → latest now (act ∷ []) ≡ m.elapsed → StaysConnected act → IsListening act
+  muted_clock : (asked : Bool) (alive now : ℕ) (m : Moment) (acts : List Act) (act : Act) (b : Bool) → nat_le alive m.elapsed ≡ b → TellsMoment m.elapsed act
+      → latest now (act ∷ []) ≡ m.elapsed → StaysConnected act → IsListening act
       → BringsNoReply (stood plan commands scope acts).rest act → IsMuted asked alive now acts → IsMuted asked (min alive m.elapsed) m.elapsed (acts ++ act ∷ [])
   muted_clock asked alive now m acts act true e tells is stays listens none q =
       let low = leb-true alive m.elapsed e in
@@ -228,14 +230,18 @@ module _ (plan : Plan) (commands : List Task) (scope : Scope) where
   mute_none sought asked alive now at acts none = tt
 
   -- a moment is told, and no reply line came with it
-  mute_told : (sought sought' asked : Bool) (alive now : ℕ) (m : Moment) (at : Phase) (acts : List Act) (act : Act) → (at ≡ phase.Ready → sought' ≡ true → sought ≡ true) → TellsMoment m.elapsed act → latest now (act ∷ []) ≡ m.elapsed → StaysConnected act → IsListening act
+  mute_told : (sought sought' asked : Bool) (alive now : ℕ) (m : Moment) (at : Phase) (acts : List Act) (act : Act)
+      → (at ≡ phase.Ready → sought' ≡ true → sought ≡ true) → TellsMoment m.elapsed act → latest now (act ∷ []) ≡ m.elapsed → StaysConnected act
+      → IsListening act
       → BringsNoReply (stood plan commands scope acts).rest act → Mute sought asked alive now at acts → Mute sought' asked (min alive m.elapsed) m.elapsed at (acts ++ act ∷ [])
-  mute_told sought sought' asked alive now m phase.Ready acts act back tells is stays listens none q = λ so. muted_clock asked alive now m acts act (nat_le alive m.elapsed) refl tells is stays listens none (q (back refl so))
+  mute_told sought sought' asked alive now m phase.Ready acts act back tells is stays listens none q =
+      λ so. muted_clock asked alive now m acts act (nat_le alive m.elapsed) refl tells is stays listens none (q (back refl so))
   mute_told sought sought' asked alive now m at acts act back tells is stays listens none q = tt
 
   -- a piece was heard: with a reply line the line was alive at this moment
-  heard_mute : (s : Standing) (bytes : List ℕ) (m : Moment) (acts : List Act) (q : Progress) → (stood plan commands scope acts).rest ≡ s.rest → q.moment.elapsed ≡ m.elapsed
-      → (AllByRecursion IsNoReply (lines_behind s.rest bytes) × (q.alive ≡ min s.progress.alive m.elapsed) × (q.asked ≡ s.progress.asked) × IsMuted s.progress.asked s.progress.alive s.progress.moment.elapsed acts)
+  heard_mute : (s : Model) (bytes : List ℕ) (m : Moment) (acts : List Act) (q : Progress) → (stood plan commands scope acts).rest ≡ s.rest → q.moment.elapsed ≡ m.elapsed
+      → (AllByRecursion IsNoReply (lines_behind s.rest bytes) × (q.alive ≡ min s.progress.alive m.elapsed) × (q.asked ≡ s.progress.asked)
+      × IsMuted s.progress.asked s.progress.alive s.progress.moment.elapsed acts)
       ⊎ ((q.alive ≡ m.elapsed) × (q.asked ≡ false))
       → IsMuted q.asked q.alive q.moment.elapsed (acts ++ Gave bytes m ∷ [])
   heard_mute s bytes m acts q rest now h = by_alive h where
@@ -244,7 +250,8 @@ module _ (plan : Plan) (commands : List Task) (scope : Scope) where
         subst (λ c. IsMuted c q.alive q.moment.elapsed (acts ++ Gave bytes m ∷ [])) (sym eb)
         (subst (λ c. IsMuted b c q.moment.elapsed (acts ++ Gave bytes m ∷ [])) (sym ea) (subst (λ c. IsMuted b a c (acts ++ Gave bytes m ∷ [])) (sym now) x))
 
-    by_alive : (AllByRecursion IsNoReply (lines_behind s.rest bytes) × (q.alive ≡ min s.progress.alive m.elapsed) × (q.asked ≡ s.progress.asked) × IsMuted s.progress.asked s.progress.alive s.progress.moment.elapsed acts)
+    by_alive : (AllByRecursion IsNoReply (lines_behind s.rest bytes) × (q.alive ≡ min s.progress.alive m.elapsed) × (q.asked ≡ s.progress.asked)
+        × IsMuted s.progress.asked s.progress.alive s.progress.moment.elapsed acts)
         ⊎ ((q.alive ≡ m.elapsed) × (q.asked ≡ false)) → IsMuted q.asked q.alive q.moment.elapsed (acts ++ Gave bytes m ∷ [])
     by_alive (inl none) =
         let quiet = subst (λ r. AllByRecursion IsNoReply (lines_behind r bytes)) (sym rest) none.0 in
@@ -252,135 +259,151 @@ module _ (plan : Plan) (commands : List Task) (scope : Scope) where
         (muted_clock s.progress.asked s.progress.alive s.progress.moment.elapsed m acts (Gave bytes m) (nat_le s.progress.alive m.elapsed) refl refl refl tt tt quiet none.3)
     by_alive (inr reply) = carried false m.elapsed reply.1 reply.0 (muted_now m.elapsed acts (Gave bytes m) refl)
 
-  came_moment : (h : Bool) (word bytes : List ℕ) (s : Standing) → ((came h word bytes s).progress.phase ≡ s.progress.phase) × ((came h word bytes s).progress.moment ≡ s.progress.moment)
+  came_moment : (h : Bool) (word bytes : List ℕ) (s : Model) → ((came h word bytes s).progress.phase ≡ s.progress.phase) × ((came h word bytes s).progress.moment ≡ s.progress.moment)
   came_moment h word bytes s =
-      came_along (λ (t : Standing). (t.progress.phase ≡ s.progress.phase) × (t.progress.moment ≡ s.progress.moment)) (λ t line e. e) h word bytes s (refl, refl)
+      came_along (λ (t : Model). (t.progress.phase ≡ s.progress.phase) × (t.progress.moment ≡ s.progress.moment)) (λ t line e. e) h word bytes s (refl, refl)
       (asked_along (λ (q : Progress). (q.phase ≡ s.progress.phase) × (q.moment ≡ s.progress.moment)) (λ q line e. e) s.progress (lines_behind s.rest bytes) (refl, refl)) (refl, refl)
 
   -- while requests may go out
-  ready_mute : (s : Standing) (bytes : List ℕ) (m : Moment) (acts : List Act) (word : List ℕ) → s.progress.word ≡ word → (stood plan commands scope acts).rest ≡ s.rest
+  ready_mute : (s : Model) (bytes : List ℕ) (m : Moment) (acts : List Act) (word : List ℕ) → s.progress.word ≡ word → (stood plan commands scope acts).rest ≡ s.rest
       → (is_sought s.progress.word s.progress.again s.progress.asked ≡ true → IsMuted s.progress.asked s.progress.alive s.progress.moment.elapsed acts)
-      → (let q = (came true word bytes (with_moment m (with_progress (told m) s))).progress in is_sought q.word q.again q.asked ≡ true → IsMuted q.asked q.alive q.moment.elapsed (acts ++ Gave bytes m ∷ []))
-  ready_mute s bytes m acts [] e rest h so = heard_mute s bytes m acts (lines_came mid lines).progress rest (ap (λ (x : Moment). x.elapsed) (lines_moment mid lines)) (by_lines (lines_alive mid lines)) where
-    mid : Standing
-    mid = with_rest (rest_behind s.rest bytes) (with_moment m (with_progress (told m) s))
+      → (let q = (came true word bytes (with_moment m (with_progress (told m) s))).progress in is_sought q.word q.again q.asked ≡ true
+      → IsMuted q.asked q.alive q.moment.elapsed (acts ++ Gave bytes m ∷ []))
+  ready_mute s bytes m acts [] e rest h so = heard_mute s bytes m acts (lines_came mid lines).progress rest
+      (ap (λ (x : Moment). x.elapsed) (lines_moment mid lines)) (by_lines (lines_alive mid lines)) where
+        mid : Model
+        mid = with_rest (rest_behind s.rest bytes) (with_moment m (with_progress (told m) s))
 
-    lines : List (List ℕ)
-    lines = lines_behind s.rest bytes
+        lines : List (List ℕ)
+        lines = lines_behind s.rest bytes
 
-    by_lines : Alive mid lines (lines_came mid lines).progress
-        → (AllByRecursion IsNoReply lines × ((lines_came mid lines).progress.alive ≡ min s.progress.alive m.elapsed) × ((lines_came mid lines).progress.asked ≡ s.progress.asked) × IsMuted s.progress.asked s.progress.alive s.progress.moment.elapsed acts)
-        ⊎ (((lines_came mid lines).progress.alive ≡ m.elapsed) × ((lines_came mid lines).progress.asked ≡ false))
-    by_lines (inl none) = inl (none.0, none.1, none.2, h (sought_begun s.progress.word s.progress.again s.progress.asked (ap is_none_left e)))
-    by_lines (inr now) = inr now
-  ready_mute s bytes m acts (first ∷ others) e rest h so = heard_mute s bytes m acts q rest (ap (λ (x : Moment). x.elapsed) (came_moment true (first ∷ others) bytes mid).1) (by_lines (asked_alive mid.progress lines)) where
-    mid : Standing
-    mid = with_moment m (with_progress (told m) s)
+        by_lines : Alive mid lines (lines_came mid lines).progress
+            → (AllByRecursion IsNoReply lines × ((lines_came mid lines).progress.alive ≡ min s.progress.alive m.elapsed)
+            × ((lines_came mid lines).progress.asked ≡ s.progress.asked) × IsMuted s.progress.asked s.progress.alive s.progress.moment.elapsed acts)
+            ⊎ (((lines_came mid lines).progress.alive ≡ m.elapsed) × ((lines_came mid lines).progress.asked ≡ false))
+        by_lines (inl none) = inl (none.0, none.1, none.2, h (sought_begun s.progress.word s.progress.again s.progress.asked (ap is_none_left e)))
+        by_lines (inr now) = inr now
+  ready_mute s bytes m acts (first ∷ others) e rest h so = heard_mute s bytes m acts q rest
+      (ap (λ (x : Moment). x.elapsed) (came_moment true (first ∷ others) bytes mid).1) (by_lines (asked_alive mid.progress lines)) where
+        mid : Model
+        mid = with_moment m (with_progress (told m) s)
 
-    lines : List (List ℕ)
-    lines = lines_behind s.rest bytes
+        lines : List (List ℕ)
+        lines = lines_behind s.rest bytes
 
-    q : Progress
-    q = lines_asked mid.progress lines
+        q : Progress
+        q = lines_asked mid.progress lines
 
-    by_lines : AliveAsked mid.progress lines q
-        → (AllByRecursion IsNoReply lines × (q.alive ≡ min s.progress.alive m.elapsed) × (q.asked ≡ s.progress.asked) × IsMuted s.progress.asked s.progress.alive s.progress.moment.elapsed acts) ⊎ ((q.alive ≡ m.elapsed) × (q.asked ≡ false))
-    by_lines (inl none) =
-        let same : is_sought s.progress.word s.progress.again s.progress.asked ≡ is_sought q.word q.again q.asked =
-        ap (λ w. is_sought w s.progress.again s.progress.asked) (sym none.3) ∙ ap (λ n. is_sought q.word n s.progress.asked) (sym none.4) ∙ ap (λ b. is_sought q.word q.again b) (sym none.2) in
-        inl (none.0, none.1, none.2, h (same ∙ so))
-    by_lines (inr now) = inr now
+        by_lines : AliveAsked mid.progress lines q
+            → (AllByRecursion IsNoReply lines × (q.alive ≡ min s.progress.alive m.elapsed) × (q.asked ≡ s.progress.asked)
+            × IsMuted s.progress.asked s.progress.alive s.progress.moment.elapsed acts) ⊎ ((q.alive ≡ m.elapsed) × (q.asked ≡ false))
+        by_lines (inl none) =
+            let same : is_sought s.progress.word s.progress.again s.progress.asked ≡ is_sought q.word q.again q.asked =
+            ap (λ w. is_sought w s.progress.again s.progress.asked) (sym none.3) ∙ ap (λ n. is_sought q.word n s.progress.asked) (sym none.4) ∙ ap (λ b. is_sought q.word q.again b) (sym none.2) in
+            inl (none.0, none.1, none.2, h (same ∙ so))
+        by_lines (inr now) = inr now
 
-  gave_mute : (s : Standing) (bytes : List ℕ) (m : Moment) (at : Phase) (acts : List Act) → s.progress.phase ≡ at → (stood plan commands scope acts).rest ≡ s.rest
+  gave_mute : (s : Model) (bytes : List ℕ) (m : Moment) (at : Phase) (acts : List Act) → s.progress.phase ≡ at → (stood plan commands scope acts).rest ≡ s.rest
       → Mute (is_sought s.progress.word s.progress.again s.progress.asked) s.progress.asked s.progress.alive s.progress.moment.elapsed at acts
       → MuteAt (came (is_heard at) s.progress.word bytes (with_moment m (with_progress (told m) s))).progress (acts ++ Gave bytes m ∷ [])
   gave_mute s bytes m phase.Ready acts is rest h =
       let q = (came true s.progress.word bytes (with_moment m (with_progress (told m) s))).progress in
-      subst (λ (x : Phase). Mute (is_sought q.word q.again q.asked) q.asked q.alive q.moment.elapsed x (acts ++ Gave bytes m ∷ [])) (sym ((came_moment true s.progress.word bytes (with_moment m (with_progress (told m) s))).0 ∙ is))
+      subst (λ (x : Phase). Mute (is_sought q.word q.again q.asked) q.asked q.alive q.moment.elapsed x (acts ++ Gave bytes m ∷ []))
+      (sym ((came_moment true s.progress.word bytes (with_moment m (with_progress (told m) s))).0 ∙ is))
       (ready_mute s bytes m acts s.progress.word refl rest h)
   gave_mute s bytes m at acts is rest h =
       let q = (came (is_heard at) s.progress.word bytes (with_moment m (with_progress (told m) s))).progress in
-      subst (λ (x : Phase). Mute (is_sought q.word q.again q.asked) q.asked q.alive q.moment.elapsed x (acts ++ Gave bytes m ∷ [])) (sym ((came_moment (is_heard at) s.progress.word bytes (with_moment m (with_progress (told m) s))).0 ∙ is)) tt
+      subst (λ (x : Phase). Mute (is_sought q.word q.again q.asked) q.asked q.alive q.moment.elapsed x (acts ++ Gave bytes m ∷ []))
+      (sym ((came_moment (is_heard at) s.progress.word bytes (with_moment m (with_progress (told m) s))).0 ∙ is)) tt
 
   -- a request goes out
-  muted_asks : (asked : Bool) (alive now : ℕ) (acts : List Act) (out : List ℕ) → LastTells now acts → (asked ≡ true → IsMuted true alive now acts) → IsMuted true (if asked then alive else now) now (acts ++ Put out ∷ [])
+  muted_asks : (asked : Bool) (alive now : ℕ) (acts : List Act) (out : List ℕ) → LastTells now acts → (asked ≡ true → IsMuted true alive now acts)
+      → IsMuted true (if asked then alive else now) now (acts ++ Put out ∷ [])
   muted_asks true alive now acts out tells q = let it = q refl in muted_on true alive now acts (Put out) tt tt (λ before behind asks. asks_still alive before behind (Put out) asks) it.holds.5 it
   muted_asks false alive now acts out tells q = muted_asking now acts out tells
 
   -- where requests go out, the moment was told last
-  abbrev Tells : Progress → List Act → Order → Type 0
-  Tells p acts orders.Ask = LastTells p.moment.elapsed acts
-  Tells p acts orders.Send = LastTells p.moment.elapsed acts
-  Tells p acts orders.Flush = LastTells p.moment.elapsed acts
+  abbrev Tells : Progress → List Act → Action → Type 0
+  Tells p acts actions.Ask = LastTells p.moment.elapsed acts
+  Tells p acts actions.Send = LastTells p.moment.elapsed acts
+  Tells p acts actions.Flush = LastTells p.moment.elapsed acts
   Tells p acts _ = Unit {0}
 
   in_phase : (p : Progress) (at : Phase) (acts : List Act) → p.phase ≡ at → MuteAt p acts → Mute (is_sought p.word p.again p.asked) p.asked p.alive p.moment.elapsed at acts
   in_phase p at acts is q = subst (λ (x : Phase). Mute (is_sought p.word p.again p.asked) p.asked p.alive p.moment.elapsed x acts) is q
 
-  told_mute : (sought : Bool) (p : Progress) (m : Moment) (acts : List Act) → (p.phase ≡ phase.Ready → sought ≡ true → is_sought p.word p.again p.asked ≡ true) → MuteAt p acts → Mute sought p.asked (min p.alive m.elapsed) m.elapsed p.phase (acts ++ Told m ∷ [])
+  told_mute : (sought : Bool) (p : Progress) (m : Moment) (acts : List Act)
+      → (p.phase ≡ phase.Ready → sought ≡ true → is_sought p.word p.again p.asked ≡ true) → MuteAt p acts
+      → Mute sought p.asked (min p.alive m.elapsed) m.elapsed p.phase (acts ++ Told m ∷ [])
   told_mute sought p m acts back q = mute_told (is_sought p.word p.again p.asked) sought p.asked p.alive p.moment.elapsed m p.phase acts (Told m) back refl refl tt tt tt q
 
   asks_mute : (sought : Bool) (p : Progress) (acts : List Act) (out : List ℕ) → p.phase ≡ phase.Ready → LastTells p.moment.elapsed acts → MuteAt p acts
       → Mute sought true (if p.asked then p.alive else p.moment.elapsed) p.moment.elapsed p.phase (acts ++ Put out ∷ [])
   asks_mute sought p acts out is tells q =
       subst (λ (x : Phase). Mute sought true (if p.asked then p.alive else p.moment.elapsed) p.moment.elapsed x (acts ++ Put out ∷ [])) (sym is)
-      (λ so. muted_asks p.asked p.alive p.moment.elapsed acts out tells (λ e. subst (λ b. IsMuted b p.alive p.moment.elapsed acts) e (in_phase p phase.Ready acts is q (sought_asked p.word p.again p.asked e))))
+      (λ so. muted_asks p.asked p.alive p.moment.elapsed acts out tells
+      (λ e. subst (λ b. IsMuted b p.alive p.moment.elapsed acts) e (in_phase p phase.Ready acts is q (sought_asked p.word p.again p.asked e))))
 
   -- a beginning goes on without a drain: no null procedure went out on this connection
-  cleared_mute : (begun : Bool) (p : Progress) (acts : List Act) → has_begun p ≡ begun → Mute (is_sought p.word 0 false) false p.alive p.moment.elapsed (if begun then phase.Draining else phase.Ready) acts
+  cleared_mute : (begun : Bool) (p : Progress) (acts : List Act) → has_begun p ≡ begun
+      → Mute (is_sought p.word 0 false) false p.alive p.moment.elapsed (if begun then phase.Draining else phase.Ready) acts
   cleared_mute true p acts e = tt
   cleared_mute false p acts e = λ so. absurd (clash (is_sought p.word 0 false) so (ap (λ b. b || false) e))
 
   -- it begins anew: the time of a dead line goes on, or begins with the next request
-  mute_where : (asked on : Bool) (alive now : ℕ) (at : Phase) (acts : List Act) → Mute (is_sought the_word 0 asked) asked alive now at acts → Mute (is_sought the_word 0 (asked && on)) (asked && on) alive now at acts
+  mute_where : (asked on : Bool) (alive now : ℕ) (at : Phase) (acts : List Act) → Mute (is_sought the_word 0 asked) asked alive now at acts
+      → Mute (is_sought the_word 0 (asked && on)) (asked && on) alive now at acts
   mute_where true true alive now at acts q = q
   mute_where true false alive now phase.Ready acts q = λ so. cc
   mute_where true false alive now at acts q = tt
   mute_where false on alive now at acts q = q
 
-  mute_line : (next : Order) (s : Standing) (acts : List Act) → IsFor plan s.progress (waiting_of s) next → Tells s.progress acts next → (stood plan commands scope acts).rest ≡ s.rest
+  mute_line : (next : Action) (s : Model) (acts : List Act) → IsFor plan s.progress (waiting_of s) next → Tells s.progress acts next → (stood plan commands scope acts).rest ≡ s.rest
       → MuteAt s.progress acts → OnLine plan commands MuteAt next (with_progress turned s) acts
-  mute_line orders.Open s acts needs tells rest q = λ m. tt
-  mute_line orders.Clear s acts needs tells rest q = λ m. cleared_mute (has_begun s.progress) s.progress (acts ++ Put (10 ∷ []) ∷ []) refl
-  mute_line orders.Renew s acts needs tells rest q =
+  mute_line actions.Open s acts needs tells rest q = λ m. tt
+  mute_line actions.Clear s acts needs tells rest q = λ m. cleared_mute (has_begun s.progress) s.progress (acts ++ Put (10 ∷ []) ∷ []) refl
+  mute_line actions.Renew s acts needs tells rest q =
       let p = s.progress in
       λ m. mute_where p.asked (goes_on plan (told m p)) (min p.alive m.elapsed) m.elapsed p.phase (acts ++ Told m ∷ [])
       (told_mute (is_sought the_word 0 p.asked) p m acts (λ ready so. sought_begun p.word p.again p.asked needs.1) q)
-  mute_line orders.Ask s acts needs tells rest q =
+  mute_line actions.Ask s acts needs tells rest q =
       let p = s.progress in λ m. asks_mute (is_sought p.word (later p.moment.elapsed plan.deadline) true) p acts (null_text p.word) needs.0 tells q
-  mute_line orders.Send s acts needs tells rest q =
+  mute_line actions.Send s acts needs tells rest q =
       let p = s.progress in λ m. asks_mute (is_sought p.word p.again true) p acts (first_text s.client (drop (place_next commands p) commands)) needs.0 tells q
-  mute_line orders.Flush s acts needs tells rest q = let p = s.progress in λ m. asks_mute (is_sought p.word p.again true) p acts (request_text s.client NullProc) needs.0 tells q
-  mute_line (orders.Read until) s acts needs tells rest q =
+  mute_line actions.Flush s acts needs tells rest q = let p = s.progress in λ m. asks_mute (is_sought p.word p.again true) p acts (request_text s.client NullProc) needs.0 tells q
+  mute_line (actions.Read until) s acts needs tells rest q =
       let p = s.progress in
       let sought = is_sought p.word p.again p.asked in (
         λ bytes m. gave_mute (with_progress turned s) bytes m p.phase acts refl rest q,
         λ m. (mute_told sought sought p.asked p.alive p.moment.elapsed m p.phase acts (Silent m) (λ ready so. so) refl refl tt tt tt q, λ draining past so. muted_now m.elapsed acts (Silent m) refl),
       )
-  mute_line (orders.Close why) s acts needs tells rest q = tt
-  mute_line (orders.Stop why) s acts needs tells rest q = tt
+  mute_line (actions.Close why) s acts needs tells rest q = tt
+  mute_line (actions.Stop why) s acts needs tells rest q = tt
   mute_line next s acts needs tells rest q = let p = s.progress in λ m. told_mute (is_sought p.word p.again p.asked) p m acts (λ ready so. so) q
 
   -- Whole runs.
 
-  tells_in : (p : Progress) (acts : List Act) (next : Order) → Wakes p next → (Awake p → LastTells p.moment.elapsed acts) → Tells p acts next
-  tells_in p acts orders.Ask awake last = last awake
-  tells_in p acts orders.Send awake last = last awake
-  tells_in p acts orders.Flush awake last = last awake
+  tells_in : (p : Progress) (acts : List Act) (next : Action) → Wakes p next → (Awake p → LastTells p.moment.elapsed acts) → Tells p acts next
+  tells_in p acts actions.Ask awake last = last awake
+  tells_in p acts actions.Send awake last = last awake
+  tells_in p acts actions.Flush awake last = last awake
   tells_in p acts next awake last = tt
 
   mute_stood : (acts : List Act) → Runs plan commands (opening plan scope) acts → MuteAt (stood plan commands scope acts).progress acts
   mute_stood acts runs = always_far plan commands (opening plan scope) MuteAt step tt acts runs where
-    step : (done : List Act) (act : Act) → Runs plan commands (opening plan scope) done → Obeys commands (stood plan commands scope done) (order_at plan (stood plan commands scope done)) act → MuteAt (stood plan commands scope done).progress done
-        → MuteAt (moved plan commands (order_at plan (stood plan commands scope done)) (with_progress turned (stood plan commands scope done)) act).progress (done ++ act ∷ [])
+    step : (done : List Act) (act : Act) → Runs plan commands (opening plan scope) done
+        → Performs commands (stood plan commands scope done) (action_at plan (stood plan commands scope done)) act
+        → MuteAt (stood plan commands scope done).progress done
+        → MuteAt (moved plan commands (action_at plan (stood plan commands scope done)) (with_progress turned (stood plan commands scope done)) act).progress (done ++ act ∷ [])
     step done act runs o q =
         let s = stood plan commands scope done in
         let p = s.progress in
-        let tells = tells_in p done (order_at plan s) (order_wakes plan p (waiting_of s)) (λ awake. awake_last plan commands scope done runs awake) in
-        on_line plan commands MuteAt (λ x acts none. mute_none (is_sought x.word x.again x.asked) x.asked x.alive x.moment.elapsed x.phase acts none) (order_at plan s) s act done o (mute_line (order_at plan s) s done (order_for plan p (waiting_of s)) tells refl q)
+        let tells = tells_in p done (action_at plan s) (order_wakes plan p (waiting_of s)) (λ awake. awake_last plan commands scope done runs awake) in
+        on_line plan commands MuteAt (λ x acts none. mute_none (is_sought x.word x.again x.asked) x.asked x.alive x.moment.elapsed x.phase acts none)
+        (action_at plan s) s act done o (mute_line (action_at plan s) s done (action_for plan p (waiting_of s)) tells refl q)
 
   -- where something waits, or the null procedure that is asked for went out, a reply may come
-  sought_dead : (s : Standing) → Fine plan commands s → (nat_lt 0 (length s.client.waiting) || nat_lt 0 s.progress.again) ≡ true → is_sought s.progress.word s.progress.again s.progress.asked ≡ true
+  sought_dead : (s : Model) → Invariant plan commands s → (nat_lt 0 (length s.client.waiting) || nat_lt 0 s.progress.again) ≡ true → is_sought s.progress.word s.progress.again s.progress.asked ≡ true
   sought_dead s fine e = by_again (nat_lt 0 s.progress.again) refl where
     p : Progress
     p = s.progress
@@ -396,7 +419,8 @@ module _ (plan : Plan) (commands : List Task) (scope : Scope) where
     by_again true again = sought_again p.word p.again p.asked again
     by_again false again = by_begun (has_begun p) refl (either_true (nat_lt 0 (length s.client.waiting)) (nat_lt 0 p.again) e again)
 
-  pub mute_close : (acts : List Act) → Runs plan commands (opening plan scope) acts → order_at plan (stood plan commands scope acts) ≡ orders.Close cause.Dead → IsMuteFor (patience_of plan) plan commands scope acts
+  pub mute_close : (acts : List Act) → Runs plan commands (opening plan scope) acts
+      → action_at plan (stood plan commands scope acts) ≡ actions.Close cause.Dead → IsMuteFor (patience_of plan) plan commands scope acts
   mute_close acts runs is = record {
     before = q.before;
     start = q.start;
@@ -409,17 +433,18 @@ module _ (plan : Plan) (commands : List Task) (scope : Scope) where
     asked = asks_any s.progress.asked s.progress.alive q.before q.behind q.holds.3;
     long = subst (λ n. patience_of plan ≤ n - s.progress.alive) (sym q.holds.4) (leb-true (patience_of plan) (s.progress.moment.elapsed - s.progress.alive) dead.1);
   } where
-    s : Standing
+    s : Model
     s = stood plan commands scope acts
 
     never : s.progress.phase ≡ phase.Closing cause.Dead → ⊥
     never = not_closing plan commands scope acts cause.Dead runs (λ act shows. shows)
 
     awake : Awake s.progress
-    awake = awake_here s.progress cause.Dead (subst (λ (next : Order). Wakes s.progress next) is (order_wakes plan s.progress (waiting_of s))) never
+    awake = awake_here s.progress cause.Dead (subst (λ (next : Action). Wakes s.progress next) is (order_wakes plan s.progress (waiting_of s))) never
 
     dead : ((nat_lt 0 (length s.client.waiting) || nat_lt 0 s.progress.again) ≡ true) × (nat_le (patience_of plan) (s.progress.moment.elapsed - s.progress.alive) ≡ true)
-    dead = both_true (nat_lt 0 (length s.client.waiting) || nat_lt 0 s.progress.again) (nat_le (patience_of plan) (s.progress.moment.elapsed - s.progress.alive)) (end_here plan s cause.Dead is never).1
+    dead = both_true (nat_lt 0 (length s.client.waiting) || nat_lt 0 s.progress.again)
+        (nat_le (patience_of plan) (s.progress.moment.elapsed - s.progress.alive)) (end_here plan s cause.Dead is never).1
 
     q : IsMuted s.progress.asked s.progress.alive s.progress.moment.elapsed acts
     q = in_phase s.progress phase.Ready acts awake.1 (mute_stood acts runs) (sought_dead s (fine_stood plan commands scope acts) dead.0)

@@ -10,8 +10,8 @@ use Rattle.gc_texts.specs.declared.tasks.Task.{Task}
 use Rattle.gc_texts.specs.Endings.{Skipped, Missed}
 use Rattle.gc_links.specs.declared.link.Moment.{Moment}
 use Rattle.gc_station.specs.declared.plan.Plan.{Plan}
-use Rattle.gc_station.specs.declared.progress.Order.{Order}
-use Rattle.gc_station.specs.declared.progress.Order.TheVariants as order
+use Rattle.gc_station.specs.declared.progress.Action.{Action}
+use Rattle.gc_station.specs.declared.progress.Action.TheVariants as action
 use Rattle.gc_station.specs.declared.progress.Progress.{Progress}
 use Rattle.gc_station.specs.declared.progress.Until.{Until}
 use Rattle.gc_links.specs.Acts.{Act, Told, Put, Cut, Gave}
@@ -21,25 +21,25 @@ use Rattle.gc_station.specs.Progressing.{told, turned, skipped_at}
 use Rattle.gc_station.specs.Reasons.{IsFor}
 use Rattle.gc_station.specs.Records.{Record}
 use Rattle.gc_station.specs.declared.mark.Mark.{Mark}
-use Rattle.gc_station.specs.Standing.{Standing, waiting_of, place_next, mark_next, Obeys, with_progress, with_moment, with_rest, asks_null, asks_first, skips, skips_first, line_came, lines_came, lines_behind, is_heard, came, after_read, moved}
+use Rattle.gc_station.specs.Model.{Model, waiting_of, place_next, mark_next, Performs, with_progress, with_moment, with_rest, asks_null, asks_first, skips, skips_first, line_came, lines_came, lines_behind, is_heard, came, after_read, moved}
 use Rattle.gc_station.proofs.Booking.{Books, books_turns, sent_both, sent_records, books_both, books_nothing, books_moment, books_line, books_send}
 use Rattle.gc_station.proofs.Facts.{either}
-use Rattle.gc_station.proofs.Fine.{Fine}
+use Rattle.gc_station.proofs.Invariant.{Invariant}
 use Rattle.gc_station.proofs.Hearing.{hears_paired}
 use Rattle.gc_station.proofs.Midway.{clash}
 use Rattle.gc_station.proofs.Walk.{is_sent, walk}
 
--- from one standing to another
-abbrev pub Leads : List Task → Standing → Part → Standing → Type 0
+-- from one model to another
+abbrev pub Leads : List Task → Model → Part → Model → Type 0
 Leads commands s p t = Books s.reads commands s.client s.marks (sent_of s.records) p t.client t.marks (sent_of t.records)
 
 -- each request that waits has a mark
-abbrev pub Paired : Standing → Type 0
+abbrev pub Paired : Model → Type 0
 Paired s = length s.marks ≡ length s.client.waiting
 
 module _ (plan : Plan) (commands : List Task) where
   -- a line is heard
-  heard_books : (s : Standing) (line : List ℕ) → Paired s → Leads commands s (only (Hear line ∷ [])) (line_came s line)
+  heard_books : (s : Model) (line : List ℕ) → Paired s → Leads commands s (only (Hear line ∷ [])) (line_came s line)
   heard_books s line paired =
       let x = hears s.client line (heard line) in
       let written = sent_records s.reads s.records s.progress.moment.utc s.marks x.settlements in
@@ -47,7 +47,7 @@ module _ (plan : Plan) (commands : List Task) where
       (books_line s.reads commands s.client s.marks (sent_of s.records) s.progress.moment.utc line paired)
 
   -- lines are heard in order
-  leads_lines : (s : Standing) (lines : List (List ℕ)) → Paired s → Leads commands s (only (map Hear lines)) (lines_came s lines)
+  leads_lines : (s : Model) (lines : List (List ℕ)) → Paired s → Leads commands s (only (map Hear lines)) (lines_came s lines)
   leads_lines s [] paired = books_nothing s.reads commands s.client s.marks (sent_of s.records)
   leads_lines s (line ∷ others) paired =
       let t = line_came s line in
@@ -57,20 +57,22 @@ module _ (plan : Plan) (commands : List Task) where
       (leads_lines t others (hears_paired s.marks s.client line (heard line) paired))
 
   -- a piece is heard or dropped
-  leads_came : (h : Bool) (word piece : List ℕ) (s : Standing) → is_none_left word ≡ true → Paired s → Leads commands s (only (hearing h s.rest piece)) (came h word piece s)
+  leads_came : (h : Bool) (word piece : List ℕ) (s : Model) → is_none_left word ≡ true → Paired s → Leads commands s (only (hearing h s.rest piece)) (came h word piece s)
   leads_came true (asked ∷ others) piece s begun paired = cc
   leads_came true [] piece s begun paired = leads_lines (with_rest (rest_behind s.rest piece) s) (lines_behind s.rest piece) paired
   leads_came false word piece s begun paired = books_nothing s.reads commands s.client s.marks (sent_of s.records)
 
-  paired_told : (s : Standing) (m : ℕ) → Paired s → length s.marks ≡ length (map (expired m) s.client.waiting)
+  paired_told : (s : Model) (m : ℕ) → Paired s → length s.marks ≡ length (map (expired m) s.client.waiting)
   paired_told s m paired = paired ∙ sym (length-map s.client.waiting (expired m))
 
   -- a read gave bytes
-  leads_gave : (s : Standing) (until : Until) (bytes : List ℕ) (m : Moment) → has_begun s.progress ≡ true → Paired s → Leads commands s (doing plan commands s (order.Read until) (Gave bytes m)) (after_read plan until (with_progress turned s) (Gave bytes m))
+  leads_gave : (s : Model) (until : Until) (bytes : List ℕ) (m : Moment) → has_begun s.progress ≡ true → Paired s
+      → Leads commands s (doing plan commands s (action.Read until) (Gave bytes m)) (after_read plan until (with_progress turned s) (Gave bytes m))
   leads_gave s until bytes m begun paired =
       let x = with_moment m (with_progress (told m) (with_progress turned s)) in
       let t = came (is_heard s.progress.phase) s.progress.word bytes x in
-      books_both s.reads commands s.client x.client t.client s.marks s.marks t.marks (sent_of s.records) (sent_of s.records) (sent_of t.records) (only (Expire m.elapsed ∷ [])) (only (hearing (is_heard s.progress.phase) s.rest bytes))
+      books_both s.reads commands s.client x.client t.client s.marks s.marks t.marks (sent_of s.records) (sent_of s.records) (sent_of t.records)
+      (only (Expire m.elapsed ∷ [])) (only (hearing (is_heard s.progress.phase) s.rest bytes))
       (books_moment s.reads commands s.client s.marks (sent_of s.records) m.elapsed)
       (leads_came (is_heard s.progress.phase) s.progress.word bytes x begun (paired_told s m.elapsed paired))
 
@@ -84,14 +86,15 @@ module _ (plan : Plan) (commands : List Task) where
   at_place (suc n) (x ∷ xs) command others e = at_place n xs command others e
 
   -- the next command goes out
-  leads_first : (s : Standing) (left : List Task) → drop (place_next commands s.progress) commands ≡ left → 0 < length left → length s.client.waiting < 7
+  leads_first : (s : Model) (left : List Task) → drop (place_next commands s.progress) commands ≡ left → 0 < length left → length s.client.waiting < 7
       → Leads commands s (asking_first s.progress.moment.elapsed (mark_next plan commands s.progress) left) (asks_first (mark_next plan commands s.progress) left (with_progress turned s))
   leads_first s [] at some room = absurd (omega (arith, some))
   leads_first s (task ∷ others) at some room =
-      books_send s.reads commands s.client s.marks (sent_of s.records) task.command.target task.command.call (later s.progress.moment.elapsed task.deadline) (Some (mark_next plan commands s.progress)) room
+      books_send s.reads commands s.client s.marks (sent_of s.records) task.command.target task.command.call (later s.progress.moment.elapsed task.deadline)
+      (Some (mark_next plan commands s.progress)) room
       (task, at_place (place_next commands s.progress) commands task others at, refl)
 
-  leads_null : (s : Standing) → length s.client.waiting < 7 → Leads commands s (asking 0 NullProc (later s.progress.moment.elapsed plan.deadline) None) (asks_null plan s)
+  leads_null : (s : Model) → length s.client.waiting < 7 → Leads commands s (asking 0 NullProc (later s.progress.moment.elapsed plan.deadline) None) (asks_null plan s)
   leads_null s room = books_send s.reads commands s.client s.marks (sent_of s.records) 0 NullProc (later s.progress.moment.elapsed plan.deadline) None room refl
 
   -- a command that isn't sent is no part of it
@@ -102,107 +105,110 @@ module _ (plan : Plan) (commands : List Task) where
     by_case true = refl
     by_case false = refl
 
-  skips_unsent : (s : Standing) (m : Moment) → sent_of (skips plan commands s.progress (Told m)) ≡ []
+  skips_unsent : (s : Model) (m : Moment) → sent_of (skips plan commands s.progress (Told m)) ≡ []
   skips_unsent s m = skips_first_unsent s.progress m (mark_next plan commands s.progress) (drop (place_next commands s.progress) commands)
 
   none_sent : (rs more : List Record) → sent_of more ≡ [] → sent_of (rs ++ more) ≡ sent_of rs
   none_sent rs more none = sent_both rs more ∙ ap (λ xs. sent_of rs ++ xs) none ∙ append-nil (sent_of rs)
 
-  -- the part that an act of an order does
-  abbrev LeadsSo : Order → Standing → Act → Standing → Type 0
+  -- the part that an act of an action does
+  abbrev LeadsSo : Action → Model → Act → Model → Type 0
   LeadsSo o s act t = Leads commands s (doing plan commands s o act) t
 
-  none_booked : (s : Standing) → Leads commands s nothing s
+  none_booked : (s : Model) → Leads commands s nothing s
   none_booked s = books_nothing s.reads commands s.client s.marks (sent_of s.records)
 
-  moment_booked : (s : Standing) (m : Moment) → Leads commands s (only (Expire m.elapsed ∷ [])) (with_moment m s)
+  moment_booked : (s : Model) (m : Moment) → Leads commands s (only (Expire m.elapsed ∷ [])) (with_moment m s)
   moment_booked s m = books_moment s.reads commands s.client s.marks (sent_of s.records) m.elapsed
 
-  -- an act of each order, once it has begun
-  leads_order : (s : Standing) (o : Order) (act : Act) → Fine plan commands s → IsFor plan s.progress (waiting_of s) o → Obeys commands s o act → has_begun s.progress ≡ true
+  -- an act of each action, once it has begun
+  leads_order : (s : Model) (o : Action) (act : Act) → Invariant plan commands s → IsFor plan s.progress (waiting_of s) o → Performs commands s o act → has_begun s.progress ≡ true
       → Leads commands s (doing plan commands s o act) (moved plan commands o (with_progress turned s) act)
-  leads_order s order.Open act fine is obeys begun = walk plan commands (LeadsSo order.Open s) order.Open (with_progress turned s) act obeys (λ m. none_booked s, λ n. none_booked s)
-  leads_order s order.Clear act fine is obeys begun = walk plan commands (LeadsSo order.Clear s) order.Clear (with_progress turned s) act obeys (λ m. none_booked s, λ n. none_booked s)
-  leads_order s order.Ask act fine is obeys begun = absurd (clash (has_begun s.progress) begun is.1)
-  leads_order s order.Flush act fine is obeys begun = walk plan commands (LeadsSo order.Flush s) order.Flush (with_progress turned s) act obeys (λ m. leads_null s is.5.1, λ n. leads_null s is.5.1)
-  leads_order s order.Send act fine is obeys begun =
+  leads_order s action.Open act fine is obeys begun = walk plan commands (LeadsSo action.Open s) action.Open (with_progress turned s) act obeys (λ m. none_booked s, λ n. none_booked s)
+  leads_order s action.Clear act fine is obeys begun = walk plan commands (LeadsSo action.Clear s) action.Clear (with_progress turned s) act obeys (λ m. none_booked s, λ n. none_booked s)
+  leads_order s action.Ask act fine is obeys begun = absurd (clash (has_begun s.progress) begun is.1)
+  leads_order s action.Flush act fine is obeys begun = walk plan commands (LeadsSo action.Flush s) action.Flush (with_progress turned s) act obeys (λ m. leads_null s is.5.1, λ n. leads_null s is.5.1)
+  leads_order s action.Send act fine is obeys begun =
       let left = drop (place_next commands s.progress) commands in
       let many : length left ≡ length commands - place_next commands s.progress = length-drop (place_next commands s.progress) commands in
-      let sends = subst (λ (t : Standing). Leads commands s (putting plan commands s order.Send) t) (sym (is_sent plan commands (with_progress turned s))) (leads_first s left refl (omega (arith, many, is.2, fine.unsent)) is.3.1) in
-      walk plan commands (LeadsSo order.Send s) order.Send (with_progress turned s) act obeys (λ m. sends, λ n. sends)
-  leads_order s order.Skip act fine is obeys begun =
+      let sends = subst (λ (t : Model). Leads commands s (putting plan commands s action.Send) t) (sym (is_sent plan commands (with_progress turned s)))
+      (leads_first s left refl (omega (arith, many, is.2, fine.unsent)) is.3.1) in
+      walk plan commands (LeadsSo action.Send s) action.Send (with_progress turned s) act obeys (λ m. sends, λ n. sends)
+  leads_order s action.Skip act fine is obeys begun =
       let books = Books s.reads commands s.client s.marks (sent_of s.records) in
-      walk plan commands (LeadsSo order.Skip s) order.Skip (with_progress turned s) act obeys (
+      walk plan commands (LeadsSo action.Skip s) action.Skip (with_progress turned s) act obeys (
         λ m. subst (λ (rs : List Record). books (only (Expire m.elapsed ∷ [])) (expires s.client m.elapsed) s.marks rs)
             (sym (none_sent s.records (skips plan commands (turned s.progress) (Told m)) (skips_unsent (with_progress turned s) m))) (moment_booked s m),
         λ n. subst (λ (rs : List Record). books nothing s.client s.marks rs) (sym (none_sent s.records [] refl)) (none_booked s),
       )
-  leads_order s (order.Read until) act fine is obeys begun =
-      walk plan commands (LeadsSo (order.Read until) s) (order.Read until) (with_progress turned s) act obeys
+  leads_order s (action.Read until) act fine is obeys begun =
+      walk plan commands (LeadsSo (action.Read until) s) (action.Read until) (with_progress turned s) act obeys
       (λ bytes m. leads_gave s until bytes m begun fine.paired, λ m. moment_booked s m, none_booked s, none_booked s, none_booked s)
-  leads_order s (order.Close why) act fine is obeys begun = walk plan commands (LeadsSo (order.Close why) s) (order.Close why) (with_progress turned s) act obeys (none_booked s)
-  leads_order s (order.Stop why) act fine is obeys begun = absurd obeys
+  leads_order s (action.Close why) act fine is obeys begun = walk plan commands (LeadsSo (action.Close why) s) (action.Close why) (with_progress turned s) act obeys (none_booked s)
+  leads_order s (action.Stop why) act fine is obeys begun = absurd obeys
   leads_order s o act fine is obeys begun = walk plan commands (LeadsSo o s) o (with_progress turned s) act obeys (λ m. moment_booked s m, λ n. none_booked s)
 
   -- While it begins no step is taken.
 
   -- an act leaves the client new, and the marks and the records as they are
-  abbrev Keeps : Standing → Act → Standing → Type 0
+  abbrev Keeps : Model → Act → Model → Type 0
   Keeps s act t = (t.client ≡ fresh) × (t.marks ≡ s.marks) × (t.records ≡ s.records)
 
-  keeps_came : (h : Bool) (word piece : List ℕ) (s : Standing) → is_none_left word ≡ false → s.client ≡ fresh
+  keeps_came : (h : Bool) (word piece : List ℕ) (s : Model) → is_none_left word ≡ false → s.client ≡ fresh
       → ((came h word piece s).client ≡ fresh) × ((came h word piece s).marks ≡ s.marks) × ((came h word piece s).records ≡ s.records)
   keeps_came true [] piece s begins new = cc
   keeps_came true (asked ∷ others) piece s begins new = (new, refl, refl)
   keeps_came false word piece s begins new = (new, refl, refl)
 
   -- a moment gives nothing up
-  new_told : (s : Standing) (m : Moment) → s.client ≡ fresh → expires s.client m.elapsed ≡ fresh
+  new_told : (s : Model) (m : Moment) → s.client ≡ fresh → expires s.client m.elapsed ≡ fresh
   new_told s m new = ap (λ c. expires c m.elapsed) new
 
-  pub keeps_order : (s : Standing) (o : Order) (act : Act) → IsFor plan s.progress (waiting_of s) o → Obeys commands s o act → has_begun s.progress ≡ false → s.client ≡ fresh → Keeps s act (moved plan commands o (with_progress turned s) act)
-  keeps_order s order.Renew act is obeys begins new = absurd (clash (has_begun s.progress) is.1 begins)
-  keeps_order s order.Begin act is obeys begins new = absurd (clash (has_begun s.progress) is.1 begins)
-  keeps_order s order.Send act is obeys begins new = absurd (clash (has_begun s.progress) is.1 begins)
-  keeps_order s order.Skip act is obeys begins new = absurd (clash (has_begun s.progress) is.1 begins)
-  keeps_order s order.Flush act is obeys begins new = absurd (clash (has_begun s.progress) is.1 begins)
-  keeps_order s order.ReadClock act is obeys begins new = walk plan commands (Keeps s) order.ReadClock (with_progress turned s) act obeys (λ m. (new_told s m new, refl, refl), λ n. (new, refl, refl))
-  keeps_order s (order.Read until) act is obeys begins new =
-      walk plan commands (Keeps s) (order.Read until) (with_progress turned s) act obeys (
+  pub keeps_action : (s : Model) (o : Action) (act : Act) → IsFor plan s.progress (waiting_of s) o → Performs commands s o act → has_begun s.progress ≡ false
+      → s.client ≡ fresh → Keeps s act (moved plan commands o (with_progress turned s) act)
+  keeps_action s action.Renew act is obeys begins new = absurd (clash (has_begun s.progress) is.1 begins)
+  keeps_action s action.Begin act is obeys begins new = absurd (clash (has_begun s.progress) is.1 begins)
+  keeps_action s action.Send act is obeys begins new = absurd (clash (has_begun s.progress) is.1 begins)
+  keeps_action s action.Skip act is obeys begins new = absurd (clash (has_begun s.progress) is.1 begins)
+  keeps_action s action.Flush act is obeys begins new = absurd (clash (has_begun s.progress) is.1 begins)
+  keeps_action s action.ReadClock act is obeys begins new = walk plan commands (Keeps s) action.ReadClock (with_progress turned s) act obeys
+      (λ m. (new_told s m new, refl, refl), λ n. (new, refl, refl))
+  keeps_action s (action.Read until) act is obeys begins new =
+      walk plan commands (Keeps s) (action.Read until) (with_progress turned s) act obeys (
         λ bytes m. keeps_came (is_heard s.progress.phase) s.progress.word bytes (with_moment m (with_progress (told m) (with_progress turned s))) begins (new_told s m new),
         λ m. (new_told s m new, refl, refl),
         (new, refl, refl),
         (new, refl, refl),
         (new, refl, refl),
       )
-  keeps_order s (order.Close why) act is obeys begins new = walk plan commands (Keeps s) (order.Close why) (with_progress turned s) act obeys (new, refl, refl)
-  keeps_order s (order.Stop why) act is obeys begins new = absurd obeys
-  keeps_order s o act is obeys begins new = walk plan commands (Keeps s) o (with_progress turned s) act obeys (λ m. (new, refl, refl), λ n. (new, refl, refl))
+  keeps_action s (action.Close why) act is obeys begins new = walk plan commands (Keeps s) (action.Close why) (with_progress turned s) act obeys (new, refl, refl)
+  keeps_action s (action.Stop why) act is obeys begins new = absurd obeys
+  keeps_action s o act is obeys begins new = walk plan commands (Keeps s) o (with_progress turned s) act obeys (λ m. (new, refl, refl), λ n. (new, refl, refl))
 
-  only_of : (s : Standing) (o : Order) (act : Act) → beginning s o act ≡ only_turns (beginning s o act).turns
-  only_of s order.Ask (Put bytes) = refl
-  only_of s order.Ask (Cut bytes count) = refl
-  only_of s order.Ask act = refl
-  only_of s (order.Read until) (Gave piece m) = refl
-  only_of s (order.Read until) act = refl
+  only_of : (s : Model) (o : Action) (act : Act) → beginning s o act ≡ only_turns (beginning s o act).turns
+  only_of s action.Ask (Put bytes) = refl
+  only_of s action.Ask (Cut bytes count) = refl
+  only_of s action.Ask act = refl
+  only_of s (action.Read until) (Gave piece m) = refl
+  only_of s (action.Read until) act = refl
   only_of s o act = refl
 
-  same_led : (s : Standing) (turns : List Turn) (t : Standing) → s.client ≡ t.client → s.marks ≡ t.marks → s.records ≡ t.records → Leads commands s (only_turns turns) t
+  same_led : (s : Model) (turns : List Turn) (t : Model) → s.client ≡ t.client → s.marks ≡ t.marks → s.records ≡ t.records → Leads commands s (only_turns turns) t
   same_led s turns t c ms rs =
       let books = Books s.reads commands s.client s.marks (sent_of s.records) (only_turns turns) in
       subst (λ (x : ById). books x t.marks (sent_of t.records)) c
       (subst (λ (x : List (Option Mark)). books s.client x (sent_of t.records)) ms
       (subst (λ (x : List Record). books s.client s.marks (sent_of x)) rs (books_turns s.reads commands s.client s.marks (sent_of s.records) turns)))
 
-  leads_begins : (s : Standing) (o : Order) (act : Act) → Fine plan commands s → IsFor plan s.progress (waiting_of s) o → Obeys commands s o act → has_begun s.progress ≡ false
+  leads_begins : (s : Model) (o : Action) (act : Act) → Invariant plan commands s → IsFor plan s.progress (waiting_of s) o → Performs commands s o act → has_begun s.progress ≡ false
       → Leads commands s (beginning s o act) (moved plan commands o (with_progress turned s) act)
   leads_begins s o act fine is obeys begins =
       let t = moved plan commands o (with_progress turned s) act in
       let new = fine.begins begins in
-      let k = keeps_order s o act is obeys begins new in
+      let k = keeps_action s o act is obeys begins new in
       subst (λ (p : Part). Leads commands s p t) (sym (only_of s o act)) (same_led s (beginning s o act).turns t (new ∙ sym k.0) (sym k.1) (sym k.2))
 
-  pub leads : (s : Standing) (o : Order) (act : Act) → Fine plan commands s → IsFor plan s.progress (waiting_of s) o → Obeys commands s o act
+  pub leads : (s : Model) (o : Action) (act : Act) → Invariant plan commands s → IsFor plan s.progress (waiting_of s) o → Performs commands s o act
       → Leads commands s (acting plan commands s o act) (moved plan commands o (with_progress turned s) act)
   leads s o act fine is obeys =
       either (λ (p : Part). Leads commands s p (moved plan commands o (with_progress turned s) act)) (doing plan commands s o act) (beginning s o act) (has_begun s.progress)

@@ -6,12 +6,12 @@ use Rattle.gc_links.specs.Acts.{Act}
 use Rattle.gc_station.specs.Deciding.{later}
 use Rattle.gc_station.specs.Pauses.{doubled, pause_behind, LeavesTries, TriesAndPausesAreCounted}
 use Rattle.gc_station.specs.Progressing.{is_finished, is_spared, again, gave}
-use Rattle.gc_station.specs.Standing.{Standing, moved}
+use Rattle.gc_station.specs.Model.{Model, moved}
 use Rattle.gc_station.specs.declared.cause.Cause.{Cause}
 use Rattle.gc_station.specs.declared.cause.Cause.TheVariants as cause
 use Rattle.gc_station.specs.declared.plan.Plan.{Plan}
-use Rattle.gc_station.specs.declared.progress.Order.{Order}
-use Rattle.gc_station.specs.declared.progress.Order.TheVariants as orders
+use Rattle.gc_station.specs.declared.progress.Action.{Action}
+use Rattle.gc_station.specs.declared.progress.Action.TheVariants as actions
 use Rattle.gc_station.specs.declared.progress.Phase.TheVariants as phase
 use Rattle.gc_station.specs.declared.progress.Progress.{Progress}
 use Rattle.gc_station.specs.declared.progress.Until.{Until}
@@ -48,7 +48,8 @@ takes : (plan : Plan) (commands : ℕ) (why : Cause) (p : Progress) → is_spare
 takes plan commands why p e some = let less = takes_second (is_spared plan why p) p.tries (p.tries - 1) e in omega (arith, less, some)
 
 over_by : (done spared some : Bool) (why : Cause) → spared ≡ false → some ≡ false
-    → ((if done then phase.Over cause.Done else if spared || some then phase.Pausing else phase.Over why) ≡ phase.Over cause.Done) ⊎ ((if done then phase.Over cause.Done else if spared || some then phase.Pausing else phase.Over why) ≡ phase.Over why)
+    → ((if done then phase.Over cause.Done else if spared || some then phase.Pausing else phase.Over why) ≡ phase.Over cause.Done)
+    ⊎ ((if done then phase.Over cause.Done else if spared || some then phase.Pausing else phase.Over why) ≡ phase.Over why)
 over_by true spared some why e f = inl refl
 over_by false true some why e f = cc
 over_by false false true why e f = cc
@@ -90,13 +91,13 @@ unsettled : (plan : Plan) (until : Until) (before : ℕ) (after : Waiting) (p : 
 unsettled plan until before after p more =
     let e = le-ltb after.commands before more in (takes_second (nat_lt after.commands before) plan.retries p.tries e, takes_second (nat_lt after.commands before) 0 p.pause e)
 
-other : (plan : Plan) (commands : List Task) (order : Order) (s : Standing) (act : Act) → LeavesTries order
-    → ((moved plan commands order s act).progress.tries ≡ s.progress.tries) × ((moved plan commands order s act).progress.pause ≡ s.progress.pause)
-other plan commands orders.Open s act leaves = absurd leaves
-other plan commands (orders.Read until) s act leaves = absurd leaves
-other plan commands (orders.Close why) s act leaves = absurd leaves
-other plan commands order s act leaves =
-    let is = moved_changed plan commands order s act in (ap (λ (x : Standing). x.progress.tries) is, ap (λ (x : Standing). x.progress.pause) is)
+other : (plan : Plan) (commands : List Task) (action : Action) (s : Model) (act : Act) → LeavesTries action
+    → ((moved plan commands action s act).progress.tries ≡ s.progress.tries) × ((moved plan commands action s act).progress.pause ≡ s.progress.pause)
+other plan commands actions.Open s act leaves = absurd leaves
+other plan commands (actions.Read until) s act leaves = absurd leaves
+other plan commands (actions.Close why) s act leaves = absurd leaves
+other plan commands action s act leaves =
+    let is = moved_changed plan commands action s act in (ap (λ (x : Model). x.progress.tries) is, ap (λ (x : Model). x.progress.pause) is)
 
 pub counted : TriesAndPausesAreCounted
 counted = record {

@@ -21,7 +21,7 @@ use Rattle.gc_station.specs.Quiet.{IsAsking}
 use Rattle.gc_station.specs.Progressing.{turned, told}
 use Rattle.gc_station.specs.Records.{Record}
 use Rattle.gc_station.specs.Runs.{stood}
-use Rattle.gc_station.specs.Standing.{Standing, order_at, request_text, with_progress, with_moment, with_rest, line_came, lines_came, lines_behind, came, Puts}
+use Rattle.gc_station.specs.Model.{Model, action_at, request_text, with_progress, with_moment, with_rest, line_came, lines_came, lines_behind, came, Puts}
 use Rattle.gc_station.proofs.Growing.{lines_records}
 use Rattle.gc_station.proofs.Lists.{all_append, all_split, cuts_on, Rows}
 use Rattle.gc_station.proofs.Meets.{HasPlace, EndedBy, heard_ended, heard_left, left_window, left_waits, records_all, IsRecordOf, was_answered, was_late, was_lost}
@@ -41,7 +41,7 @@ regroup start news front r back more =
     ∙ append_assoc start news (front ++ r ∷ (back ++ more)) ∙ ap (λ xs. start ++ xs) (sym (append_assoc news front (r ∷ (back ++ more))))
 
 -- a piece is heard, so far
-pub record Hears (plan : Plan) (commands : List Task) (scope : Scope) (acts : List Act) (piece : List ℕ) (m : Moment) (x : Standing) : Type 0 where
+pub record Hears (plan : Plan) (commands : List Task) (scope : Scope) (acts : List Act) (piece : List ℕ) (m : Moment) (x : Model) : Type 0 where
   pub window : IsWindow x.client
   pub waiting : Rows (WaitsAt plan commands scope acts (stood plan commands scope acts).client m.elapsed x.client.next (length x.client.waiting)) 0 0 x.client.waiting x.marks
   pub written : AllByRecursion (IsTrue plan commands scope (acts ++ Gave piece m ∷ [])) x.records
@@ -49,12 +49,14 @@ pub record Hears (plan : Plan) (commands : List Task) (scope : Scope) (acts : Li
   pub grew : x.records ≡ (stood plan commands scope acts).records ++ news
 
 -- the request with this mark was put among these acts, and behind it the piece came at which its record was written
-pub record WrittenDown (plan : Plan) (commands : List Task) (scope : Scope) (acts : List Act) (piece : List ℕ) (m : Moment) (before : List Act) (request : Act) (between : List Act) (r : Record) : Type 0 where
+pub record WrittenDown (plan : Plan) (commands : List Task) (scope : Scope) (acts : List Act) (piece : List ℕ) (m : Moment) (before : List Act)
+    (request : Act) (between : List Act) (r : Record) : Type 0 where
   pub order : acts ++ Gave piece m ∷ [] ≡ before ++ request ∷ (between ++ Gave piece m ∷ [])
   pub own : IsOwnRequest plan commands scope before request r
   pub written : IsWrittenAt plan commands scope (before ++ request ∷ between) (Gave piece m) r
 
-written_down : (plan : Plan) (commands : List Task) (scope : Scope) (acts : List Act) (piece : List ℕ) (m : Moment) (number at id : ℕ) (p : Pending) (mark : Mark) (r : Record) (news earlier later more : List Record)
+written_down : (plan : Plan) (commands : List Task) (scope : Scope) (acts : List Act) (piece : List ℕ) (m : Moment) (number at id : ℕ) (p : Pending)
+    (mark : Mark) (r : Record) (news earlier later more : List Record)
     → r.cycle ≡ mark.cycle → r.place ≡ mark.place → r.sent ≡ Some mark.sent → p.call ≡ r.command.call
     → (s : Asked plan commands scope acts (StayedAt m.elapsed) number at id p (Some mark))
     → (stood plan commands scope (acts ++ Gave piece m ∷ [])).records ≡ (((stood plan commands scope acts).records ++ news) ++ (earlier ++ r ∷ later)) ++ more
@@ -73,7 +75,8 @@ written_down plan commands scope acts piece m number at id p mark r news earlier
       written = record {
         earlier = news ++ earlier;
         later = later ++ more;
-        written = ap (λ (xs : List Act). (stood plan commands scope (xs ++ Gave piece m ∷ [])).records) (sym s.order) ∙ ends ∙ regroup (stood plan commands scope acts).records news earlier r later more
+        written = ap (λ (xs : List Act). (stood plan commands scope (xs ++ Gave piece m ∷ [])).records) (sym s.order) ∙ ends
+            ∙ regroup (stood plan commands scope acts).records news earlier r later more
             ∙ ap (λ (xs : List Act). (stood plan commands scope xs).records ++ ((news ++ earlier) ++ r ∷ (later ++ more))) s.order;
       };
     }
@@ -85,14 +88,16 @@ id_heard c line at next w has is =
     has.has ∙ ap Some (sym back ∙ ap (λ (k : ℕ). id_at c.next (length c.waiting) k) (sym has.is) ∙ is)
 
 -- a line of the piece comes with the id of the request at its place
-brings : (plan : Plan) (commands : List Task) (scope : Scope) (acts : List Act) (piece : List ℕ) (c : ById) (front others : List (List ℕ)) (line : List ℕ) (at next : ℕ) (before : List Act) (request : Act) (between : List Act)
-    → front ++ line ∷ others ≡ lines_behind (stood plan commands scope acts).rest piece → acts ≡ before ++ request ∷ between → IsWindow c → HasPlace c (heard line) at → id_at c.next (length c.waiting) at ≡ next
+brings : (plan : Plan) (commands : List Task) (scope : Scope) (acts : List Act) (piece : List ℕ) (c : ById) (front others : List (List ℕ)) (line : List ℕ)
+    (at next : ℕ) (before : List Act) (request : Act) (between : List Act)
+    → front ++ line ∷ others ≡ lines_behind (stood plan commands scope acts).rest piece → acts ≡ before ++ request ∷ between → IsWindow c
+    → HasPlace c (heard line) at → id_at c.next (length c.waiting) at ≡ next
     → Brings plan commands scope (before ++ request ∷ between) piece next
-brings plan commands scope acts piece c front others line at next before request between split order w has is = record {
+brings plan commands scope acts piece c front others line at next before request between split action w has is = record {
   front = front;
   line = line;
   others = others;
-  came = sym (ap (λ (xs : List Act). lines_behind (stood plan commands scope xs).rest piece) order) ∙ sym split;
+  came = sym (ap (λ (xs : List Act). lines_behind (stood plan commands scope xs).rest piece) action) ∙ sym split;
   has = id_heard c line at next w has is;
 }
 
@@ -107,7 +112,8 @@ too_late now d true acts act is past (inr reached) = past_here d acts act (past 
 too_late now d false acts act is past both = cc
 
 -- the answer that a line is, of the request with this mark
-answered : (plan : Plan) (commands : List Task) (scope : Scope) (acts : List Act) (piece : List ℕ) (m : Moment) (c : ById) (front others : List (List ℕ)) (line l : List ℕ) (number at : ℕ) (p : Pending) (mark : Mark) (r : Record)
+answered : (plan : Plan) (commands : List Task) (scope : Scope) (acts : List Act) (piece : List ℕ) (m : Moment) (c : ById) (front others : List (List ℕ))
+    (line l : List ℕ) (number at : ℕ) (p : Pending) (mark : Mark) (r : Record)
     → front ++ line ∷ others ≡ lines_behind (stood plan commands scope acts).rest piece → IsWindow c
     → (s : Asked plan commands scope acts (StayedAt m.elapsed) number at (id_at c.next (length c.waiting) at) p (Some mark))
     → WrittenDown plan commands scope acts piece m s.before s.request s.between r
@@ -140,7 +146,8 @@ answered plan commands scope acts piece m c front others line l number at p mark
     }
 
 -- the late reply that a line is
-late : (plan : Plan) (commands : List Task) (scope : Scope) (acts : List Act) (piece : List ℕ) (m : Moment) (c : ById) (front others : List (List ℕ)) (line : List ℕ) (number at : ℕ) (p : Pending) (mark : Mark) (r : Record)
+late : (plan : Plan) (commands : List Task) (scope : Scope) (acts : List Act) (piece : List ℕ) (m : Moment) (c : ById) (front others : List (List ℕ))
+    (line : List ℕ) (number at : ℕ) (p : Pending) (mark : Mark) (r : Record)
     → front ++ line ∷ others ≡ lines_behind (stood plan commands scope acts).rest piece → IsWindow c
     → (s : Asked plan commands scope acts (StayedAt m.elapsed) number at (id_at c.next (length c.waiting) at) p (Some mark))
     → WrittenDown plan commands scope acts piece m s.before s.request s.between r
@@ -155,13 +162,15 @@ late plan commands scope acts piece m c front others line number at p mark r spl
   behind = [];
   order = down.order;
   own = down.own;
-  too_late = subst (λ (d : ℕ). TellsPast d (s.between ++ Gave piece m ∷ [])) (s.deadline mark refl) (too_late m.elapsed p.deadline p.given_up s.between (Gave piece m) given (λ reached. reached) s.stays);
+  too_late = subst (λ (d : ℕ). TellsPast d (s.between ++ Gave piece m ∷ [])) (s.deadline mark refl)
+      (too_late m.elapsed p.deadline p.given_up s.between (Gave piece m) given (λ reached. reached) s.stays);
   came = brings plan commands scope acts piece c front others line at _ s.before s.request s.between split s.order w has s.id;
   written = down.written;
 }
 
 -- the one behind it whose reply came
-overtaken : (plan : Plan) (commands : List Task) (scope : Scope) (acts : List Act) (piece : List ℕ) (m : Moment) (c : ById) (front others : List (List ℕ)) (line : List ℕ) (number at there : ℕ) (p q : Pending) (mark mark' : Option Mark) (number' : ℕ)
+overtaken : (plan : Plan) (commands : List Task) (scope : Scope) (acts : List Act) (piece : List ℕ) (m : Moment) (c : ById) (front others : List (List ℕ))
+    (line : List ℕ) (number at there : ℕ) (p q : Pending) (mark mark' : Option Mark) (number' : ℕ)
     → front ++ line ∷ others ≡ lines_behind (stood plan commands scope acts).rest piece → IsWindow c
     → (s : Asked plan commands scope acts (StayedAt m.elapsed) number at (id_at c.next (length c.waiting) at) p mark)
     → WaitsAt plan commands scope acts (stood plan commands scope acts).client m.elapsed c.next (length c.waiting) number' there q mark'
@@ -178,7 +187,7 @@ overtaken plan commands scope acts piece m c front others line number at there p
       other = t.request;
       next = t.between;
       order = cut.splits;
-      asks = subst (λ (xs : List Act). IsAsking (order_at plan (stood plan commands scope xs))) on (t.asks above_none);
+      asks = subst (λ (xs : List Act). IsAsking (action_at plan (stood plan commands scope xs))) on (t.asks above_none);
       call = q.call;
       put = subst (λ (xs : List Act). Puts (request_text (stood plan commands scope xs).client q.call) t.request) on t.put;
       waits = subst (λ (xs : List Act). Waits (stood plan commands scope (s.before ++ s.request ∷ s.between)).client (stood plan commands scope xs).client.next) on
@@ -187,7 +196,8 @@ overtaken plan commands scope acts piece m c front others line number at there p
       piece = piece;
       moment = m;
       reads = refl;
-      came = brings plan commands scope acts piece c front others line there _ s.before s.request s.between split s.order w has (t.id ∙ ap (λ (xs : List Act). (stood plan commands scope xs).client.next) on);
+      came = brings plan commands scope acts piece c front others line there _ s.before s.request s.between split s.order w has
+          (t.id ∙ ap (λ (xs : List Act). (stood plan commands scope xs).client.next) on);
     }
 
 -- what a record of a line says
@@ -205,7 +215,8 @@ line_written plan commands scope acts reads now utc c marks line waits =
     (λ i y mark ended. (i, mark, y, refl, refl, refl, record { reads = reads; command = refl; ended = refl }, ended)) (heard_ended W c marks line (heard line) waits)
 
 -- it is true
-line_true : (plan : Plan) (commands : List Task) (scope : Scope) (acts : List Act) (piece : List ℕ) (m : Moment) (c : ById) (front others : List (List ℕ)) (line : List ℕ) (r : Record) (news earlier later more : List Record)
+line_true : (plan : Plan) (commands : List Task) (scope : Scope) (acts : List Act) (piece : List ℕ) (m : Moment) (c : ById) (front others : List (List ℕ))
+    (line : List ℕ) (r : Record) (news earlier later more : List Record)
     → front ++ line ∷ others ≡ lines_behind (stood plan commands scope acts).rest piece → IsWindow c
     → (stood plan commands scope (acts ++ Gave piece m ∷ [])).records ≡ (((stood plan commands scope acts).records ++ news) ++ (earlier ++ r ∷ later)) ++ more
     → IsRecorded plan commands scope acts m.elapsed c line r → IsTrue plan commands scope (acts ++ Gave piece m ∷ []) r
@@ -236,7 +247,7 @@ line_true plan commands scope acts piece m c front others line r news earlier la
           };
     }
 
-pub hear_all : (plan : Plan) (commands : List Task) (scope : Scope) (acts : List Act) (piece : List ℕ) (m : Moment) (front lines : List (List ℕ)) (x : Standing) (tail : List Record)
+pub hear_all : (plan : Plan) (commands : List Task) (scope : Scope) (acts : List Act) (piece : List ℕ) (m : Moment) (front lines : List (List ℕ)) (x : Model) (tail : List Record)
     → front ++ lines ≡ lines_behind (stood plan commands scope acts).rest piece
     → (stood plan commands scope (acts ++ Gave piece m ∷ [])).records ≡ (lines_came x lines).records ++ tail
     → Hears plan commands scope acts piece m x → Hears plan commands scope acts piece m (lines_came x lines)
@@ -266,13 +277,14 @@ hear_all plan commands scope acts piece m front (line ∷ others) x tail split e
     })
 
 -- and then they wait behind that act
-pub behind_piece : (plan : Plan) (commands : List Task) (scope : Scope) (acts : List Act) (piece : List ℕ) (m : Moment) (x : Standing) → Hears plan commands scope acts piece m x → IsHonest plan commands scope (acts ++ Gave piece m ∷ []) (acts ++ Gave piece m ∷ []) x
+pub behind_piece : (plan : Plan) (commands : List Task) (scope : Scope) (acts : List Act) (piece : List ℕ) (m : Moment) (x : Model)
+    → Hears plan commands scope acts piece m x → IsHonest plan commands scope (acts ++ Gave piece m ∷ []) (acts ++ Gave piece m ∷ []) x
 behind_piece plan commands scope acts piece m x h = record {
   waiting = behind_moment plan commands scope acts (Gave piece m) (stood plan commands scope acts).client m.elapsed _ _ x.client.waiting x.marks (λ d low. low) (λ d past. past) h.waiting;
   written = h.written;
 }
 
-abbrev pub piece_before : Moment → Standing → Standing
+abbrev pub piece_before : Moment → Model → Model
 piece_before m s = with_moment m (with_progress (told m) (with_progress turned s))
 
 pub piece_honest : (plan : Plan) (commands : List Task) (scope : Scope) (acts : List Act) (piece : List ℕ) (m : Moment) (b : Bool) (word : List ℕ) (tail : List Record)

@@ -9,8 +9,8 @@ use Rattle.gc_links.specs.declared.link.Moment.{Moment}
 use Rattle.gc_station.specs.declared.plan.Plan.{Plan}
 use Rattle.gc_station.specs.declared.progress.Phase.{Phase}
 use Rattle.gc_station.specs.declared.progress.Phase.TheVariants as phase
-use Rattle.gc_station.specs.declared.progress.Order.{Order}
-use Rattle.gc_station.specs.declared.progress.Order.TheVariants as orders
+use Rattle.gc_station.specs.declared.progress.Action.{Action}
+use Rattle.gc_station.specs.declared.progress.Action.TheVariants as actions
 use Rattle.gc_station.specs.declared.progress.Progress.{Progress}
 use Rattle.gc_station.specs.declared.progress.Until.{Until}
 use Rattle.gc_links.specs.Acts.{Act, Told, Put, Gave, Silent, Closed, Opened}
@@ -20,11 +20,11 @@ use Rattle.gc_station.specs.Progressing.{turned, told, time_passed, drained}
 use Rattle.gc_station.specs.Quiet.{IsRequest, TellsMoment, IsListening, IsSilent, StaysConnected}
 use Rattle.gc_station.specs.Reasons.{IsFor}
 use Rattle.gc_station.specs.Runs.{stood}
-use Rattle.gc_station.specs.Standing.{Standing, null_text, request_text, first_text, place_next, opening, order_at, waiting_of, with_progress, with_moment, lines_behind, is_heard, Obeys, moved, Runs}
+use Rattle.gc_station.specs.Model.{Model, null_text, request_text, first_text, place_next, opening, action_at, waiting_of, with_progress, with_moment, lines_behind, is_heard, Performs, moved, Runs}
 use Rattle.gc_station.proofs.Closings.{runs_split}
 use Rattle.gc_station.proofs.Always.{always_far}
 use Rattle.gc_station.proofs.Connected.{is_in_use, OnLine, on_line}
-use Rattle.gc_station.proofs.Facts.{order_for, order_timely, Timely}
+use Rattle.gc_station.proofs.Facts.{action_for, order_timely, Timely}
 use Rattle.gc_station.proofs.Lists.{all_append, all_on}
 use Rattle.gc_station.proofs.Midway.{clash}
 use Rattle.gc_station.proofs.Since.{Since, since_now, since_on, cut_on}
@@ -100,7 +100,8 @@ module _ (plan : Plan) (commands : List Task) (scope : Scope) where
         before = o.0;
         behind = c.behind ++ d.start ∷ tail;
         order = cut_on acts c.before o.0 (Opened ∷ []) (c.start ∷ (c.behind ++ d.start ∷ (d.behind ++ q.start ∷ q.behind)))
-            (cut_on acts d.before c.before (c.start ∷ c.behind) (d.start ∷ (d.behind ++ q.start ∷ q.behind)) (cut_on acts q.before d.before (d.start ∷ d.behind) (q.start ∷ q.behind) q.order d.order) c.order) o.1
+            (cut_on acts d.before c.before (c.start ∷ c.behind) (d.start ∷ (d.behind ++ q.start ∷ q.behind))
+            (cut_on acts q.before d.before (d.start ∷ d.behind) (q.start ∷ q.behind) q.order d.order) c.order) o.1
             ∙ ap (λ (x : Act). o.0 ++ Opened ∷ x ∷ (c.behind ++ d.start ∷ (d.behind ++ q.start ∷ q.behind))) c.holds.1
             ∙ ap (λ (x : Act). o.0 ++ Opened ∷ Put (10 ∷ []) ∷ (c.behind ++ d.start ∷ (d.behind ++ x ∷ q.behind))) q.holds.3;
         stays = all_append StaysConnected c.behind (d.start ∷ tail) (all_on IsListening StaysConnected c.behind listening_stays c.holds.2) (
@@ -210,7 +211,8 @@ module _ (plan : Plan) (commands : List Task) (scope : Scope) where
       inr (since_on (Begins plan commands scope) (Begins plan commands scope) acts (act ∷ []) (λ before start behind order h. (h.0, h.1, all_append StaysConnected behind (act ∷ []) h.2 (on, tt))) b)
 
   -- a moment was told
-  stage_on : (begun begun' stale : Bool) (since now : ℕ) (at : Phase) (acts : List Act) (act : Act) → StaysConnected act → (at ≡ phase.Clearing → stale ≡ false → ⊥) → (IsDraining stale since acts → IsDrained now (acts ++ act ∷ []))
+  stage_on : (begun begun' stale : Bool) (since now : ℕ) (at : Phase) (acts : List Act) (act : Act) → StaysConnected act
+      → (at ≡ phase.Clearing → stale ≡ false → ⊥) → (IsDraining stale since acts → IsDrained now (acts ++ act ∷ []))
       → Here begun stale since at acts → Here begun' false now at (acts ++ act ∷ [])
   stage_on begun begun' stale since now phase.Clearing acts act calm never drains st = absurd (never refl st.0)
   stage_on begun begun' stale since now phase.Draining acts act calm never drains st = drains st
@@ -218,12 +220,14 @@ module _ (plan : Plan) (commands : List Task) (scope : Scope) where
   stage_on begun begun' stale since now at acts act calm never drains st = tt
 
   -- where requests go out, the connection stays
-  stage_ready : (begun begun' stale stale' : Bool) (since since' : ℕ) (at : Phase) (acts : List Act) (act : Act) → StaysConnected act → at ≡ phase.Ready → Here begun stale since at acts → Here begun' stale' since' at (acts ++ act ∷ [])
+  stage_ready : (begun begun' stale stale' : Bool) (since since' : ℕ) (at : Phase) (acts : List Act) (act : Act) → StaysConnected act → at ≡ phase.Ready
+      → Here begun stale since at acts → Here begun' stale' since' at (acts ++ act ∷ [])
   stage_ready begun begun' stale stale' since since' at acts act stays is st =
       subst (λ (x : Phase). Here begun' stale' since' x (acts ++ act ∷ [])) (sym is) (more acts act stays (subst (λ (x : Phase). Here begun stale since x acts) is st))
 
   -- a drain was long enough
-  stage_drained : (until : Until) (m : Moment) (p : Progress) (acts : List Act) → is_quiet plan (time_passed until m p) ≡ true → IsDrained p.since acts → HereAt (drained (time_passed until m p)) (acts ++ Silent m ∷ [])
+  stage_drained : (until : Until) (m : Moment) (p : Progress) (acts : List Act) → is_quiet plan (time_passed until m p) ≡ true → IsDrained p.since acts
+      → HereAt (drained (time_passed until m p)) (acts ++ Silent m ∷ [])
   stage_drained until m p acts past d =
       let long = leb-true plan.quiet (m.elapsed - min p.since m.elapsed) past in
       let same = not_longer m.elapsed p.since (nat_le p.since m.elapsed) refl in
@@ -231,7 +235,8 @@ module _ (plan : Plan) (commands : List Task) (scope : Scope) where
       inl (quiet_now plan.quiet p.since acts m quiet d)
 
   -- it was cleared: and is drained, or begins
-  stage_cleared : (begun : Bool) (since : ℕ) (acts : List Act) → IsOpenedSo plan commands scope begun acts → Here begun true since (if begun then phase.Draining else phase.Ready) (acts ++ Put (10 ∷ []) ∷ [])
+  stage_cleared : (begun : Bool) (since : ℕ) (acts : List Act) → IsOpenedSo plan commands scope begun acts
+      → Here begun true since (if begun then phase.Draining else phase.Ready) (acts ++ Put (10 ∷ []) ∷ [])
   stage_cleared true since acts o = since_now Clears acts (Put (10 ∷ [])) ((o.0, o.1), refl, tt)
   stage_cleared false since acts o = inr (since_now (Begins plan commands scope) acts (Put (10 ∷ [])) (o, refl, tt))
 
@@ -239,14 +244,14 @@ module _ (plan : Plan) (commands : List Task) (scope : Scope) where
   stage_in : (p : Progress) (at : Phase) (acts : List Act) → p.phase ≡ at → HereAt p acts → Here (has_begun p) p.stale p.since at acts
   stage_in p at acts is st = subst (λ (x : Phase). Here (has_begun p) p.stale p.since x acts) is st
 
-  stage_line : (next : Order) (s : Standing) (acts : List Act) → has_begun (stood plan commands scope acts).progress ≡ has_begun s.progress
+  stage_line : (next : Action) (s : Model) (acts : List Act) → has_begun (stood plan commands scope acts).progress ≡ has_begun s.progress
       → IsFor plan s.progress (waiting_of s) next → Timely s.progress next → HereAt s.progress acts → OnLine plan commands HereAt next (with_progress turned s) acts
-  stage_line orders.ReadClock s acts there needs time st =
+  stage_line actions.ReadClock s acts there needs time st =
       let p = s.progress in
       λ m. stage_on (has_begun p) (has_begun p) p.stale p.since m.elapsed p.phase acts (Told m) tt (λ is now. clash p.stale time now) (draining_told p.stale p.since m acts time) st
-  stage_line orders.Open s acts there needs time st = λ m. (time, (acts, refl, there))
-  stage_line orders.Clear s acts there needs time st = λ m. stage_cleared (has_begun s.progress) s.progress.since acts (stage_in s.progress phase.Clearing acts needs st).1
-  stage_line (orders.Read until) s acts there needs time st =
+  stage_line actions.Open s acts there needs time st = λ m. (time, (acts, refl, there))
+  stage_line actions.Clear s acts there needs time st = λ m. stage_cleared (has_begun s.progress) s.progress.since acts (stage_in s.progress phase.Clearing acts needs st).1
+  stage_line (actions.Read until) s acts there needs time st =
       let p = s.progress in
       let begun = has_begun p in
       let heard = λ (later : Bool) (bytes : List ℕ) (m : Moment). stage_on begun later p.stale p.since m.elapsed p.phase acts (Gave bytes m) tt (λ is now. time.1 is)
@@ -254,68 +259,77 @@ module _ (plan : Plan) (commands : List Task) (scope : Scope) where
         λ bytes m.
             let mid = with_moment m (with_progress (told m) (with_progress turned s)) in
             let always = λ (later : Bool). heard later bytes m in
-            came_along (λ (t : Standing). HereAt t.progress (acts ++ Gave bytes m ∷ [])) (λ t line on. on) (is_heard p.phase) p.word bytes mid (always begun)
-            ((asked_along (λ (q : Progress). (later : Bool) → Here later q.stale q.since q.phase (acts ++ Gave bytes m ∷ [])) (λ q line on. on) mid.progress (lines_behind s.rest bytes) always) _) (always begun),
+            came_along (λ (t : Model). HereAt t.progress (acts ++ Gave bytes m ∷ [])) (λ t line on. on) (is_heard p.phase) p.word bytes mid (always begun)
+            ((asked_along (λ (q : Progress). (later : Bool) → Here later q.stale q.since q.phase (acts ++ Gave bytes m ∷ [])) (λ q line on. on) mid.progress
+            (lines_behind s.rest bytes) always) _) (always begun),
         λ m. (
           stage_on begun begun p.stale p.since (min p.since m.elapsed) p.phase acts (Silent m) tt (λ is now. time.1 is)
               (λ d. silent_on p.since m acts (nat_le p.since m.elapsed) refl (draining_read p.stale p.since acts time.0 d)) st,
           λ is past. stage_drained until m (turned p) acts past (draining_read p.stale p.since acts time.0 (stage_in p phase.Draining acts is st)),
         ),
       )
-  stage_line (orders.Close why) s acts there needs time st = tt
-  stage_line (orders.Stop why) s acts there needs time st = tt
-  stage_line orders.Ask s acts there needs time st = let p = s.progress in λ m. stage_ready (has_begun p) (has_begun p) p.stale true p.since p.since p.phase acts (Put (null_text p.word)) tt needs.0 st
-  stage_line orders.Send s acts there needs time st =
+  stage_line (actions.Close why) s acts there needs time st = tt
+  stage_line (actions.Stop why) s acts there needs time st = tt
+  stage_line actions.Ask s acts there needs time st = let p = s.progress in
+      λ m. stage_ready (has_begun p) (has_begun p) p.stale true p.since p.since p.phase acts (Put (null_text p.word)) tt needs.0 st
+  stage_line actions.Send s acts there needs time st =
       let p = s.progress in λ m. stage_ready (has_begun p) (has_begun p) p.stale true p.since p.since p.phase acts (Put (first_text s.client (drop (place_next commands p) commands))) tt needs.0 st
-  stage_line orders.Flush s acts there needs time st = let p = s.progress in λ m. stage_ready (has_begun p) (has_begun p) p.stale true p.since p.since p.phase acts (Put (request_text s.client NullProc)) tt needs.0 st
-  stage_line orders.Renew s acts there needs time st = let p = s.progress in λ m. stage_ready (has_begun p) false p.stale false p.since m.elapsed p.phase acts (Told m) tt needs.0 st
+  stage_line actions.Flush s acts there needs time st = let p = s.progress in
+      λ m. stage_ready (has_begun p) (has_begun p) p.stale true p.since p.since p.phase acts (Put (request_text s.client NullProc)) tt needs.0 st
+  stage_line actions.Renew s acts there needs time st = let p = s.progress in λ m. stage_ready (has_begun p) false p.stale false p.since m.elapsed p.phase acts (Told m) tt needs.0 st
   stage_line next s acts there needs time st = let p = s.progress in λ m. stage_ready (has_begun p) (has_begun p) p.stale false p.since m.elapsed p.phase acts (Told m) tt needs.0 st
 
   -- Whole runs.
 
   stage_stood : (acts : List Act) → Runs plan commands (opening plan scope) acts → HereAt (stood plan commands scope acts).progress acts
   stage_stood acts runs = always_far plan commands (opening plan scope) HereAt step tt acts runs where
-    step : (done : List Act) (act : Act) → Runs plan commands (opening plan scope) done → Obeys commands (stood plan commands scope done) (order_at plan (stood plan commands scope done)) act → HereAt (stood plan commands scope done).progress done
-        → HereAt (moved plan commands (order_at plan (stood plan commands scope done)) (with_progress turned (stood plan commands scope done)) act).progress (done ++ act ∷ [])
+    step : (done : List Act) (act : Act) → Runs plan commands (opening plan scope) done
+        → Performs commands (stood plan commands scope done) (action_at plan (stood plan commands scope done)) act
+        → HereAt (stood plan commands scope done).progress done
+        → HereAt (moved plan commands (action_at plan (stood plan commands scope done)) (with_progress turned (stood plan commands scope done)) act).progress (done ++ act ∷ [])
     step done act runs o st =
         let s = stood plan commands scope done in
         let p = s.progress in
-        on_line plan commands HereAt (λ q acts none. stage_none (has_begun q) q.stale q.since q.phase acts none) (order_at plan s) s act done o
-        (stage_line (order_at plan s) s done refl (order_for plan p (waiting_of s)) (order_timely plan p (waiting_of s)) st)
+        on_line plan commands HereAt (λ q acts none. stage_none (has_begun q) q.stale q.since q.phase acts none) (action_at plan s) s act done o
+        (stage_line (action_at plan s) s done refl (action_for plan p (waiting_of s)) (order_timely plan p (waiting_of s)) st)
 
 -- A request goes out where requests may.
 
 not_closing : (act : Act) → act ≡ Closed → IsRequest act → ⊥
 not_closing act o asks = subst IsRequest o asks
 
--- no request goes out by any other order
-asks_not : (plan : Plan) (commands : List Task) (next : Order) (s : Standing) (act : Act) → Obeys commands s next act → (next ≡ orders.Ask → ⊥) × (next ≡ orders.Send → ⊥) × (next ≡ orders.Flush → ⊥) → IsRequest act → ⊥
-asks_not plan commands orders.Ask s act o other = absurd (other.0 refl)
-asks_not plan commands orders.Send s act o other = absurd (other.1 refl)
-asks_not plan commands orders.Flush s act o other = absurd (other.2 refl)
-asks_not plan commands orders.Clear s act o other = walk plan commands (λ a (t : Standing). IsRequest a → ⊥) orders.Clear s act o (λ m asks. asks refl, λ n asks. asks refl)
-asks_not plan commands (orders.Read until) s act o other =
-    walk plan commands (λ a (t : Standing). IsRequest a → ⊥) (orders.Read until) s act o (λ bytes m asks. asks, λ m asks. asks, λ asks. asks, λ asks. asks, λ asks. asks)
-asks_not plan commands (orders.Close why) s act o other = not_closing act o
-asks_not plan commands (orders.Stop why) s act o other = absurd o
-asks_not plan commands next s act o other = walk plan commands (λ a (t : Standing). IsRequest a → ⊥) next s act o (λ m asks. asks, λ n asks. asks)
+-- no request goes out by any other action
+asks_not : (plan : Plan) (commands : List Task) (next : Action) (s : Model) (act : Act) → Performs commands s next act
+    → (next ≡ actions.Ask → ⊥) × (next ≡ actions.Send → ⊥) × (next ≡ actions.Flush → ⊥) → IsRequest act → ⊥
+asks_not plan commands actions.Ask s act o other = absurd (other.0 refl)
+asks_not plan commands actions.Send s act o other = absurd (other.1 refl)
+asks_not plan commands actions.Flush s act o other = absurd (other.2 refl)
+asks_not plan commands actions.Clear s act o other = walk plan commands (λ a (t : Model). IsRequest a → ⊥) actions.Clear s act o (λ m asks. asks refl, λ n asks. asks refl)
+asks_not plan commands (actions.Read until) s act o other =
+    walk plan commands (λ a (t : Model). IsRequest a → ⊥) (actions.Read until) s act o (λ bytes m asks. asks, λ m asks. asks, λ asks. asks, λ asks. asks, λ asks. asks)
+asks_not plan commands (actions.Close why) s act o other = not_closing act o
+asks_not plan commands (actions.Stop why) s act o other = absurd o
+asks_not plan commands next s act o other = walk plan commands (λ a (t : Model). IsRequest a → ⊥) next s act o (λ m asks. asks, λ n asks. asks)
 
 -- while it begins it is the null procedure that is asked for
-pub asks_only : (plan : Plan) (commands : List Task) (next : Order) (s : Standing) (act : Act) → Obeys commands s next act → IsRequest act → IsFor plan s.progress (waiting_of s) next → has_begun s.progress ≡ false → next ≡ orders.Ask
-asks_only plan commands orders.Ask s act o asks needs begins = refl
-asks_only plan commands orders.Send s act o asks needs begins = absurd (clash (has_begun s.progress) needs.1 begins)
-asks_only plan commands orders.Flush s act o asks needs begins = absurd (clash (has_begun s.progress) needs.1 begins)
+pub asks_only : (plan : Plan) (commands : List Task) (next : Action) (s : Model) (act : Act) → Performs commands s next act → IsRequest act
+    → IsFor plan s.progress (waiting_of s) next → has_begun s.progress ≡ false → next ≡ actions.Ask
+asks_only plan commands actions.Ask s act o asks needs begins = refl
+asks_only plan commands actions.Send s act o asks needs begins = absurd (clash (has_begun s.progress) needs.1 begins)
+asks_only plan commands actions.Flush s act o asks needs begins = absurd (clash (has_begun s.progress) needs.1 begins)
 asks_only plan commands next s act o asks needs begins = absurd (asks_not plan commands next s act o (λ is. cc, λ is. cc, λ is. cc) asks)
 
-asks_there : (plan : Plan) (commands : List Task) (next : Order) (s : Standing) (act : Act) → Obeys commands s next act → IsRequest act → IsFor plan s.progress (waiting_of s) next → s.progress.phase ≡ phase.Ready
-asks_there plan commands orders.Ask s act o asks needs = needs.0
-asks_there plan commands orders.Send s act o asks needs = needs.0
-asks_there plan commands orders.Flush s act o asks needs = needs.0
+asks_there : (plan : Plan) (commands : List Task) (next : Action) (s : Model) (act : Act) → Performs commands s next act → IsRequest act
+    → IsFor plan s.progress (waiting_of s) next → s.progress.phase ≡ phase.Ready
+asks_there plan commands actions.Ask s act o asks needs = needs.0
+asks_there plan commands actions.Send s act o asks needs = needs.0
+asks_there plan commands actions.Flush s act o asks needs = needs.0
 asks_there plan commands next s act o asks needs = absurd (asks_not plan commands next s act o (λ is. cc, λ is. cc, λ is. cc) asks)
 
-pub cleared_and_quiet : (plan : Plan) (commands : List Task) (scope : Scope) (earlier later : List Act) (act : Act) → Runs plan commands (opening plan scope) (earlier ++ act ∷ later) → IsRequest act → IsClearedAndQuiet plan commands scope earlier
+pub cleared_and_quiet : (plan : Plan) (commands : List Task) (scope : Scope) (earlier later : List Act) (act : Act)
+    → Runs plan commands (opening plan scope) (earlier ++ act ∷ later) → IsRequest act → IsClearedAndQuiet plan commands scope earlier
 cleared_and_quiet plan commands scope earlier later act runs asks =
     let s = stood plan commands scope earlier in
     let split = runs_split plan commands (opening plan scope) earlier later act runs in
-    let ready = asks_there plan commands (order_at plan s) s act split.1 asks (order_for plan s.progress (waiting_of s)) in
+    let ready = asks_there plan commands (action_at plan s) s act split.1 asks (action_for plan s.progress (waiting_of s)) in
     was_cleared plan commands scope earlier (stage_in plan commands scope s.progress phase.Ready earlier ready (stage_stood plan commands scope earlier split.0))

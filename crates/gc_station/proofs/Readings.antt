@@ -8,37 +8,37 @@ use Rattle.gc_catalogue.specs.Readings.{IsReading}
 use Rattle.gc_catalogue.proofs.AnswerLaws.{one_reading}
 use Rattle.gc_texts.specs.declared.tasks.Task.{Task}
 use Rattle.gc_station.specs.declared.plan.Plan.{Plan}
-use Rattle.gc_station.specs.declared.progress.Order.{Order}
+use Rattle.gc_station.specs.declared.progress.Action.{Action}
 use Rattle.gc_links.specs.Acts.{Act}
 use Rattle.gc_station.specs.Progressing.{turned, loses_all}
 use Rattle.gc_station.specs.Runs.{stood}
 use Rattle.gc_station.specs.Scopes.{Scope, AreReadings, OneReadingForALine}
 use Rattle.gc_station.proofs.Walk.{lines_along, moved_changed}
-use Rattle.gc_station.specs.Standing.{Standing, opening, order_at, with_progress, lines_came, moved, losing, after, after_all}
+use Rattle.gc_station.specs.Model.{Model, opening, action_at, with_progress, lines_came, moved, losing, after, after_all}
 
-pub lines_reads : (s : Standing) (lines : List (List ℕ)) → (lines_came s lines).reads ≡ s.reads
-lines_reads s lines = lines_along (λ (t : Standing). t.reads ≡ s.reads) (λ t line e. e) s lines refl
+pub lines_reads : (s : Model) (lines : List (List ℕ)) → (lines_came s lines).reads ≡ s.reads
+lines_reads s lines = lines_along (λ (t : Model). t.reads ≡ s.reads) (λ t line e. e) s lines refl
 
-pub moved_reads : (plan : Plan) (commands : List Task) (order : Order) (s : Standing) (act : Act) → (moved plan commands order s act).reads ≡ s.reads
-moved_reads plan commands order s act = ap (λ (x : Standing). x.reads) (moved_changed plan commands order s act)
+pub moved_reads : (plan : Plan) (commands : List Task) (action : Action) (s : Model) (act : Act) → (moved plan commands action s act).reads ≡ s.reads
+moved_reads plan commands action s act = ap (λ (x : Model). x.reads) (moved_changed plan commands action s act)
 
-pub ended_reads : (b : Bool) (s : Standing) → (losing b s).reads ≡ s.reads
+pub ended_reads : (b : Bool) (s : Model) → (losing b s).reads ≡ s.reads
 ended_reads true s = refl
 ended_reads false s = refl
 
-pub after_reads : (plan : Plan) (commands : List Task) (s : Standing) (act : Act) → (after plan commands s act).reads ≡ s.reads
+pub after_reads : (plan : Plan) (commands : List Task) (s : Model) (act : Act) → (after plan commands s act).reads ≡ s.reads
 after_reads plan commands s act =
-    let t = moved plan commands (order_at plan s) (with_progress turned s) act in
-    ended_reads (loses_all t.progress) t ∙ moved_reads plan commands (order_at plan s) (with_progress turned s) act
+    let t = moved plan commands (action_at plan s) (with_progress turned s) act in
+    ended_reads (loses_all t.progress) t ∙ moved_reads plan commands (action_at plan s) (with_progress turned s) act
 
-all_reads : (plan : Plan) (commands : List Task) (s : Standing) (acts : List Act) → (after_all plan commands s acts).reads ≡ s.reads
+all_reads : (plan : Plan) (commands : List Task) (s : Model) (acts : List Act) → (after_all plan commands s acts).reads ≡ s.reads
 all_reads plan commands s [] = refl
 all_reads plan commands s (act ∷ acts) = all_reads plan commands (after plan commands s act) acts ∙ after_reads plan commands s act
 
 pub stood_reads : (plan : Plan) (commands : List Task) (scope : Scope) (acts : List Act) → (stood plan commands scope acts).reads ≡ scope.reads
 stood_reads plan commands scope acts = all_reads plan commands (opening plan scope) acts
 
--- so what replies say of a later standing they say of an earlier one
+-- so what replies say of a later model they say of an earlier one
 pub are_same : (a b : Call → List ℕ → Reading) → a ≡ b → AreReadings b → AreReadings a
 are_same a b e are = subst (λ (r : Call → List ℕ → Reading). AreReadings r) (sym e) are
 

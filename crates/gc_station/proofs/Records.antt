@@ -43,16 +43,19 @@ records-none reads utc [] = refl
 records-none reads utc (mark ∷ marks) = refl
 
 -- the oldest request's mark is that of its record
-mark_here : (reads : Call → List ℕ → Reading) (utc : ℕ) (mark : Option Mark) (marks : List (Option Mark)) (x : Rule.Settlement) → records_of reads utc (mark ∷ marks) (x ∷ []) ≡ records_of reads utc (mark ∷ []) (x ∷ [])
+mark_here : (reads : Call → List ℕ → Reading) (utc : ℕ) (mark : Option Mark) (marks : List (Option Mark)) (x : Rule.Settlement)
+    → records_of reads utc (mark ∷ marks) (x ∷ []) ≡ records_of reads utc (mark ∷ []) (x ∷ [])
 mark_here reads utc None marks x = records-none reads utc marks
 mark_here reads utc (Some mark) marks x = ap (λ rs. record_of reads utc mark x ∷ rs) (records-none reads utc marks)
 
-pub mark_first : (reads : Call → List ℕ → Reading) (utc : ℕ) (marks : List (Option Mark)) (mark : Option Mark) (x : Rule.Settlement) → Some mark ≡ slice_get marks 0 → records_of reads utc marks (x ∷ []) ≡ records_of reads utc (mark ∷ []) (x ∷ [])
+pub mark_first : (reads : Call → List ℕ → Reading) (utc : ℕ) (marks : List (Option Mark)) (mark : Option Mark) (x : Rule.Settlement)
+    → Some mark ≡ slice_get marks 0 → records_of reads utc marks (x ∷ []) ≡ records_of reads utc (mark ∷ []) (x ∷ [])
 mark_first reads utc [] mark x e = cc
 mark_first reads utc (m ∷ marks) mark x e = let same : m ≡ mark = cc in mark_here reads utc m marks x ∙ ap (λ k. records_of reads utc (k ∷ []) (x ∷ [])) same
 
 -- the records of some settlements, and of those behind them
-pub records-append : (reads : Call → List ℕ → Reading) (utc : ℕ) (marks : List (Option Mark)) (xs ys : List Rule.Settlement) → records_of reads utc marks (xs ++ ys) ≡ records_of reads utc marks xs ++ records_of reads utc (drop (length xs) marks) ys
+pub records-append : (reads : Call → List ℕ → Reading) (utc : ℕ) (marks : List (Option Mark)) (xs ys : List Rule.Settlement)
+    → records_of reads utc marks (xs ++ ys) ≡ records_of reads utc marks xs ++ records_of reads utc (drop (length xs) marks) ys
 records-append reads utc [] [] ys = refl
 records-append reads utc [] (x ∷ xs) ys = refl
 records-append reads utc (mark ∷ marks) [] ys = refl
@@ -73,7 +76,8 @@ front_more reads utc marks ss i s mark below is here =
 
 -- those in front of place i, and the others
 pub front_left : (reads : Call → List ℕ → Reading) (utc : ℕ) (marks : List (Option Mark)) (ss : List Settlement) (i : ℕ)
-    → records_of reads utc marks (map settlement_seen ss) ≡ records_of reads utc marks (map settlement_seen (take i ss)) ++ records_of reads utc (drop (length (map settlement_seen (take i ss))) marks) (map settlement_seen (drop i ss))
+    → records_of reads utc marks (map settlement_seen ss) ≡ records_of reads utc marks (map settlement_seen (take i ss)) ++ records_of reads utc
+    (drop (length (map settlement_seen (take i ss))) marks) (map settlement_seen (drop i ss))
 front_left reads utc marks ss i =
     ap (λ xs. records_of reads utc marks (map settlement_seen xs)) (sym (take-append-drop i ss))
     ∙ ap (records_of reads utc marks) (map-append settlement_seen (take i ss) (drop i ss))
@@ -97,7 +101,8 @@ pub grew_then : (a b c : List Record) → Grew a b → Grew b c → Grew a c
 grew_then a b c g h = (g.0 ++ h.0, h.1 ∙ ap (λ rs. rs ++ h.0) g.1 ∙ append_assoc a g.0 h.0)
 
 -- a part of one record, behind those that stood there before
-pub part_one : (text : Record → List ℕ) (before : List Record) (r : Record) (start old new : Option (List ℕ)) (part : ℕ) → Appends start old (texts_of text before) → part < length (text r) → Appends old new (take part (text r))
+pub part_one : (text : Record → List ℕ) (before : List Record) (r : Record) (start old new : Option (List ℕ)) (part : ℕ)
+    → Appends start old (texts_of text before) → part < length (text r) → Appends old new (take part (text r))
     → WritesPart text before (before ++ r ∷ []) start new
 part_one text before r start old new part so not_all took = record {
   earlier = [];
@@ -106,7 +111,8 @@ part_one text before r start old new part so not_all took = record {
   order = refl;
   part = part;
   not_all = not_all;
-  took = subst (λ (rs : List Record). Appends start new (texts_of text rs ++ take part (text r))) (sym (append-nil before)) (Appends-append start old new (texts_of text before) (take part (text r)) so took);
+  took = subst (λ (rs : List Record). Appends start new (texts_of text rs ++ take part (text r))) (sym (append-nil before))
+      (Appends-append start old new (texts_of text before) (take part (text r)) so took);
 }
 
 -- a part of some records is a part of more
@@ -145,7 +151,8 @@ pub part_behind : (text : Record → List ℕ) (before front next more all later
     → WritesPart text (before ++ front) ((before ++ front) ++ more) start new → WritesPart text before (before ++ all) start new
 part_behind text before front next more all later start new is whole w =
     let order : before ++ all ≡ ((before ++ front) ++ more) ++ later =
-    ap (λ rs. before ++ rs) (whole ∙ ap (λ rs. rs ++ later) is) ∙ ap (λ rs. before ++ rs) (append_assoc front more later) ∙ sym (append_assoc before front (more ++ later)) ∙ sym (append_assoc (before ++ front) more later) in
+    ap (λ rs. before ++ rs) (whole ∙ ap (λ rs. rs ++ later) is) ∙ ap (λ rs. before ++ rs) (append_assoc front more later)
+    ∙ sym (append_assoc before front (more ++ later)) ∙ sym (append_assoc (before ++ front) more later) in
     part_since text before front (before ++ all) start new (part_grows text (before ++ front) ((before ++ front) ++ more) (before ++ all) start new (later, order) w)
 
 -- counting goes on
@@ -161,12 +168,14 @@ pub last-append : (reads : Call → List ℕ → Reading) (b : Bool) (xs ys : Li
 last-append reads b [] ys = refl
 last-append reads b (x ∷ xs) ys = last-append reads (is_well reads x.command.call x.end) xs ys
 
-pub last_more : (reads : Call → List ℕ → Reading) (a b c : Bool) (front one next : List Record) → b ≡ last_well reads a front → c ≡ last_well reads b one → next ≡ front ++ one → c ≡ last_well reads a next
+pub last_more : (reads : Call → List ℕ → Reading) (a b c : Bool) (front one next : List Record) → b ≡ last_well reads a front → c ≡ last_well reads b one
+    → next ≡ front ++ one → c ≡ last_well reads a next
 last_more reads a b c front one next so more is = more ∙ ap (λ x. last_well reads x one) so ∙ sym (last-append reads a front one) ∙ sym (ap (last_well reads a) is)
 
 -- a record by how its command ended
 abbrev pub record_as : ℕ → Mark → Rule.Settlement → End → Record
 record_as utc mark settlement end = record { sent = Some mark.sent; utc = utc; cycle = mark.cycle; place = mark.place; command = command_of settlement; end = end }
 
-pub record_same : (reads : Call → List ℕ → Reading) (utc : ℕ) (mark : Mark) (x : Rule.Settlement) (end : End) → end ≡ end_of reads x.call x.outcome → record_as utc mark x end ≡ record_of reads utc mark x
+pub record_same : (reads : Call → List ℕ → Reading) (utc : ℕ) (mark : Mark) (x : Rule.Settlement) (end : End) → end ≡ end_of reads x.call x.outcome
+    → record_as utc mark x end ≡ record_of reads utc mark x
 record_same reads utc mark x end is = ap (record_as utc mark x) is

@@ -2,20 +2,20 @@
 use Rattle.std.proofs.Common.{◌≡◌, ◌⊎◌, inl, inr, ◌<◌, arith}
 use Rattle.std.proofs.lemmas.Bool.Decides.{leb_tells}
 use Rattle.gc_station.specs.declared.plan.Plan.{Plan}
-use Rattle.gc_station.specs.declared.progress.Order.{Order}
-use Rattle.gc_station.specs.declared.progress.Order.TheVariants as orders
+use Rattle.gc_station.specs.declared.progress.Action.{Action}
+use Rattle.gc_station.specs.declared.progress.Action.TheVariants as actions
 use Rattle.gc_station.specs.declared.progress.Progress.{Progress}
 use Rattle.gc_station.specs.declared.progress.Waiting.{Waiting}
 use Rattle.gc_station.specs.Reasons.{IsFor, HasRoom}
 use Rattle.gc_station.specs.Quiet.{IsAsking}
 use Rattle.gc_station.specs.Room.{RequestsHaveRoom}
 use Rattle.gc_station.specs.Runs.{stood}
-use Rattle.gc_station.specs.Standing.{order_at, waiting_of}
-use Rattle.gc_station.proofs.Facts.{order_for}
+use Rattle.gc_station.specs.Model.{action_at, waiting_of}
+use Rattle.gc_station.proofs.Facts.{action_for}
 
-room_of : (plan : Plan) (p : Progress) (w : Waiting) (next : Order) → IsAsking next → IsFor plan p w next → HasRoom plan w
-room_of plan p w orders.Send puts is = is.3
-room_of plan p w orders.Flush puts is = is.5
+room_of : (plan : Plan) (p : Progress) (w : Waiting) (next : Action) → IsAsking next → IsFor plan p w next → HasRoom plan w
+room_of plan p w actions.Send puts is = is.3
+room_of plan p w actions.Flush puts is = is.5
 room_of plan p w next puts is = absurd puts
 
 few : (plan : Plan) (w : Waiting) → HasRoom plan w → (w.current ≡ 0) ⊎ (w.current < plan.width)
@@ -27,5 +27,5 @@ few plan w room = elim (leb_tells plan.width 0) as (λ _. (w.current ≡ 0) ⊎ 
 pub have_room : RequestsHaveRoom
 have_room plan commands scope acts puts =
     let s = stood plan commands scope acts in
-    let room = room_of plan s.progress (waiting_of s) (order_at plan s) puts (order_for plan s.progress (waiting_of s)) in
+    let room = room_of plan s.progress (waiting_of s) (action_at plan s) puts (action_for plan s.progress (waiting_of s)) in
     (few plan (waiting_of s) room, room.1)

@@ -5,8 +5,8 @@ use Rattle.gc_station.specs.declared.plan.Plan.{Plan}
 use Rattle.gc_station.specs.declared.cause.Cause.{Cause}
 use Rattle.gc_station.specs.declared.progress.Phase.{Phase}
 use Rattle.gc_station.specs.declared.progress.Phase.TheVariants as phase
-use Rattle.gc_station.specs.declared.progress.Order.{Order}
-use Rattle.gc_station.specs.declared.progress.Order.TheVariants as orders
+use Rattle.gc_station.specs.declared.progress.Action.{Action}
+use Rattle.gc_station.specs.declared.progress.Action.TheVariants as actions
 use Rattle.gc_station.specs.declared.progress.Progress.{Progress}
 use Rattle.gc_links.specs.Acts.{Act, Told, Gave, Silent}
 use Rattle.gc_station.specs.Closing.{Shows}
@@ -17,7 +17,7 @@ use Rattle.gc_station.specs.Reasons.{IsAtItsEnd}
 use Rattle.gc_station.specs.Runs.{stood}
 use Rattle.gc_station.specs.Scopes.{Scope}
 use Rattle.gc_station.specs.Silences.{latest}
-use Rattle.gc_station.specs.Standing.{Standing, opening, order_at, waiting_of, with_progress, with_moment, lines_behind, is_heard, Obeys, moved, Runs}
+use Rattle.gc_station.specs.Model.{Model, opening, action_at, waiting_of, with_progress, with_moment, lines_behind, is_heard, Performs, moved, Runs}
 use Rattle.gc_station.proofs.Closings.{closing_shown, needs_of}
 use Rattle.gc_station.proofs.Always.{always_far}
 use Rattle.gc_station.proofs.Connected.{is_in_use, OnLine, on_line}
@@ -76,46 +76,50 @@ fresh_stale now phase.Ready acts = λ e. cc
 fresh_stale now at acts = tt
 
 module _ (plan : Plan) (commands : List Task) where
-  fresh_line : (next : Order) (s : Standing) (acts : List Act) → OnLine plan commands FreshAt next (with_progress turned s) acts
-  fresh_line orders.Open s acts = λ m. tt
-  fresh_line orders.Clear s acts = λ m. fresh_stale s.progress.moment.elapsed (cleared s.progress).phase _
-  fresh_line orders.Ask s acts = λ m. fresh_stale s.progress.moment.elapsed s.progress.phase _
-  fresh_line orders.Send s acts = λ m. fresh_stale s.progress.moment.elapsed s.progress.phase _
-  fresh_line orders.Flush s acts = λ m. fresh_stale s.progress.moment.elapsed s.progress.phase _
-  fresh_line (orders.Read until) s acts =
+  fresh_line : (next : Action) (s : Model) (acts : List Act) → OnLine plan commands FreshAt next (with_progress turned s) acts
+  fresh_line actions.Open s acts = λ m. tt
+  fresh_line actions.Clear s acts = λ m. fresh_stale s.progress.moment.elapsed (cleared s.progress).phase _
+  fresh_line actions.Ask s acts = λ m. fresh_stale s.progress.moment.elapsed s.progress.phase _
+  fresh_line actions.Send s acts = λ m. fresh_stale s.progress.moment.elapsed s.progress.phase _
+  fresh_line actions.Flush s acts = λ m. fresh_stale s.progress.moment.elapsed s.progress.phase _
+  fresh_line (actions.Read until) s acts =
       let at = s.progress.phase in (
         λ bytes m.
             let mid = with_moment m (with_progress (told m) (with_progress turned s)) in
             let here = fresh_told false m.elapsed at acts (Gave bytes m) refl in
-            came_along (λ (t : Standing). FreshAt t.progress (acts ++ Gave bytes m ∷ [])) (λ t line on. on) (is_heard at) s.progress.word bytes mid here
+            came_along (λ (t : Model). FreshAt t.progress (acts ++ Gave bytes m ∷ [])) (λ t line on. on) (is_heard at) s.progress.word bytes mid here
             (asked_along (λ (q : Progress). FreshAt q (acts ++ Gave bytes m ∷ [])) (λ q line on. on) mid.progress (lines_behind s.rest bytes) here) here,
         λ m. (fresh_told false m.elapsed at acts (Silent m) refl, λ draining past. fresh_told false m.elapsed phase.Ready acts (Silent m) refl),
       )
-  fresh_line (orders.Close why) s acts = tt
-  fresh_line (orders.Stop why) s acts = tt
+  fresh_line (actions.Close why) s acts = tt
+  fresh_line (actions.Stop why) s acts = tt
   fresh_line next s acts = λ m. fresh_told false m.elapsed s.progress.phase acts (Told m) refl
 
   fresh_stood : (scope : Scope) (acts : List Act) → Runs plan commands (opening plan scope) acts → FreshAt (stood plan commands scope acts).progress acts
   fresh_stood scope acts runs = always_far plan commands (opening plan scope) FreshAt step tt acts runs where
-    step : (done : List Act) (act : Act) → Runs plan commands (opening plan scope) done → Obeys commands (stood plan commands scope done) (order_at plan (stood plan commands scope done)) act → FreshAt (stood plan commands scope done).progress done
-        → FreshAt (moved plan commands (order_at plan (stood plan commands scope done)) (with_progress turned (stood plan commands scope done)) act).progress (done ++ act ∷ [])
+    step : (done : List Act) (act : Act) → Runs plan commands (opening plan scope) done
+        → Performs commands (stood plan commands scope done) (action_at plan (stood plan commands scope done)) act
+        → FreshAt (stood plan commands scope done).progress done
+        → FreshAt (moved plan commands (action_at plan (stood plan commands scope done)) (with_progress turned (stood plan commands scope done)) act).progress (done ++ act ∷ [])
     step done act runs o h =
         let s = stood plan commands scope done in
-        on_line plan commands FreshAt (λ p acts none. fresh_none p.stale p.moment.elapsed p.phase acts none) (order_at plan s) s act done o (fresh_line (order_at plan s) s done)
+        on_line plan commands FreshAt (λ p acts none. fresh_none p.stale p.moment.elapsed p.phase acts none) (action_at plan s) s act done o (fresh_line (action_at plan s) s done)
 
   -- where requests may go out, behind a moment that was told
-  pub awake_last : (scope : Scope) (acts : List Act) → Runs plan commands (opening plan scope) acts → Awake (stood plan commands scope acts).progress → LastTells (stood plan commands scope acts).progress.moment.elapsed acts
+  pub awake_last : (scope : Scope) (acts : List Act) → Runs plan commands (opening plan scope) acts → Awake (stood plan commands scope acts).progress
+      → LastTells (stood plan commands scope acts).progress.moment.elapsed acts
   awake_last scope acts runs awake =
       let p = (stood plan commands scope acts).progress in
       (subst (λ (x : Phase). Fresh p.stale p.moment.elapsed x acts) awake.1 (fresh_stood scope acts runs)) awake.0
 
 -- A close that no act shows is decided where it is made.
 
-pub not_closing : (plan : Plan) (commands : List Task) (scope : Scope) (acts : List Act) (why : Cause) → Runs plan commands (opening plan scope) acts → ((act : Act) → Shows why act → ⊥) → (stood plan commands scope acts).progress.phase ≡ phase.Closing why → ⊥
+pub not_closing : (plan : Plan) (commands : List Task) (scope : Scope) (acts : List Act) (why : Cause) → Runs plan commands (opening plan scope) acts
+    → ((act : Act) → Shows why act → ⊥) → (stood plan commands scope acts).progress.phase ≡ phase.Closing why → ⊥
 not_closing plan commands scope acts why runs none is = let shown = closing_shown plan commands scope acts why runs is in none shown.1 shown.3
 
-pub end_here : (plan : Plan) (s : Standing) (why : Cause) → order_at plan s ≡ orders.Close why → (s.progress.phase ≡ phase.Closing why → ⊥) → IsAtItsEnd plan s.progress (waiting_of s) why
-end_here plan s why is never = by_needs (needs_of plan s (orders.Close why) is).1 where
+pub end_here : (plan : Plan) (s : Model) (why : Cause) → action_at plan s ≡ actions.Close why → (s.progress.phase ≡ phase.Closing why → ⊥) → IsAtItsEnd plan s.progress (waiting_of s) why
+end_here plan s why is never = by_needs (needs_of plan s (actions.Close why) is).1 where
   by_needs : (s.progress.phase ≡ phase.Closing why) ⊎ IsAtItsEnd plan s.progress (waiting_of s) why → IsAtItsEnd plan s.progress (waiting_of s) why
   by_needs (inl closing) = absurd (never closing)
   by_needs (inr end) = end

@@ -14,7 +14,8 @@ pub since_now : {A : Type 0} (P : List A → A → List A → Type 0) (all : Lis
 since_now P all last p = record { before = all; start = last; behind = []; order = refl; holds = p }
 
 -- it goes on
-pub since_on : {A : Type 0} (P Q : List A → A → List A → Type 0) (all more : List A) → ((before : List A) (start : A) (behind : List A) → all ≡ before ++ start ∷ behind → P before start behind → Q before start (behind ++ more))
+pub since_on : {A : Type 0} (P Q : List A → A → List A → Type 0) (all more : List A)
+    → ((before : List A) (start : A) (behind : List A) → all ≡ before ++ start ∷ behind → P before start behind → Q before start (behind ++ more))
     → Since P all → Since Q (all ++ more)
 since_on P Q all more step s = record {
   before = s.before;
@@ -26,4 +27,4 @@ since_on P Q all more step s = record {
 
 -- a front that is cut itself
 pub cut_on : {A : Type 0} (all front before rest tail : List A) → all ≡ front ++ tail → front ≡ before ++ rest → all ≡ before ++ (rest ++ tail)
-cut_on all front before rest tail order inner = order ∙ ap (λ xs. xs ++ tail) inner ∙ append_assoc before rest tail
+cut_on all front before rest tail action inner = action ∙ ap (λ xs. xs ++ tail) inner ∙ append_assoc before rest tail

@@ -12,8 +12,8 @@ use Rattle.gc_station.specs.declared.cause.Cause.{Cause}
 use Rattle.gc_station.specs.declared.cause.Cause.TheVariants as cause
 use Rattle.gc_station.specs.declared.progress.Phase.{Phase}
 use Rattle.gc_station.specs.declared.progress.Phase.TheVariants as phase
-use Rattle.gc_station.specs.declared.progress.Order.{Order}
-use Rattle.gc_station.specs.declared.progress.Order.TheVariants as orders
+use Rattle.gc_station.specs.declared.progress.Action.{Action}
+use Rattle.gc_station.specs.declared.progress.Action.TheVariants as actions
 use Rattle.gc_station.specs.declared.progress.Progress.{Progress}
 use Rattle.gc_station.specs.declared.progress.Until.{Until}
 use Rattle.gc_station.specs.declared.progress.Waiting.{Waiting}
@@ -25,14 +25,14 @@ use Rattle.gc_station.specs.Marks.{commands_in}
 use Rattle.gc_station.specs.Progressing.{is_spared, turned, told, time_passed, quieted, closed, is_over, loses_all}
 use Rattle.gc_station.specs.Records.{Record}
 use Rattle.gc_station.specs.Runs.{stood}
-use Rattle.gc_station.specs.Standing.{Standing, opening, order_at, waiting_of, place_next, with_progress, with_moment, lines_behind, came, is_heard, piece_at, Obeys, moved, losing, after, after_all, Runs}
+use Rattle.gc_station.specs.Model.{Model, opening, action_at, waiting_of, place_next, with_progress, with_moment, lines_behind, came, is_heard, piece_at, Performs, moved, losing, after, after_all, Runs}
 use Rattle.gc_station.specs.Tries.{IsTried, IsEnding, ends_in, opens_in, SettlesNone, NoneSettled, EndsSettled, AllTried}
 use Rattle.gc_station.proofs.Closings.{runs_split, needs_of, end_of, Decided, after_decided, done_sent}
 use Rattle.gc_station.proofs.Counts.{ended_progress}
 use Rattle.gc_station.proofs.Always.{always}
 use Rattle.gc_station.proofs.EachRun.{fine_after, fine_stood}
-use Rattle.gc_station.proofs.Facts.{either_true, order_for}
-use Rattle.gc_station.proofs.Fine.{Fine}
+use Rattle.gc_station.proofs.Facts.{either_true, action_for}
+use Rattle.gc_station.proofs.Invariant.{Invariant}
 use Rattle.gc_station.proofs.Going.{after_all-append}
 use Rattle.gc_station.proofs.Growing.{losing_records, moved_grew}
 use Rattle.gc_station.proofs.Opens.{Counted, counted_moved}
@@ -45,32 +45,33 @@ use Rattle.gc_station.specs.Scopes.{Scope}
 -- Each end of a connection takes a try at most, and only a read gives tries back.
 
 -- what a piece leaves: the counts of commands that went out, whether it has begun, and the tries, by whether fewer commands wait
-record Hears (plan : Plan) (s t : Standing) : Type 0 where
+record Hears (plan : Plan) (s t : Model) : Type 0 where
   left : t.progress.left ≡ s.progress.left
   unsent : t.progress.unsent ≡ s.progress.unsent
   begins : has_begun t.progress ≡ false → has_begun s.progress ≡ false
   tries : ((commands_in t.marks < commands_in s.marks) × (t.progress.tries ≡ plan.retries)) ⊎ ((commands_in s.marks ≤ commands_in t.marks) × (t.progress.tries ≡ s.progress.tries))
 
-abbrev Took : Plan → Standing → Act → Standing → Type 0
+abbrev Took : Plan → Model → Act → Model → Type 0
 Took plan s (Gave bytes m) t = Hears plan s t
 Took plan s act t = s.progress.tries ≤ t.progress.tries + ends_in (act ∷ [])
 
-given_back : (b : Bool) (after before retries new old : ℕ) → nat_lt after before ≡ b → new ≡ old → ((after < before) × ((if b then retries else new) ≡ retries)) ⊎ ((before ≤ after) × ((if b then retries else new) ≡ old))
+given_back : (b : Bool) (after before retries new old : ℕ) → nat_lt after before ≡ b → new ≡ old
+    → ((after < before) × ((if b then retries else new) ≡ retries)) ⊎ ((before ≤ after) × ((if b then retries else new) ≡ old))
 given_back true after before retries new old e same = inl (ltb-true after before e, refl)
 given_back false after before retries new old e same = inr (ltb-false after before e, same)
 
-gave_took : (plan : Plan) (until : Until) (s : Standing) (bytes : List ℕ) (m : Moment) → Hears plan s (piece_at plan until bytes m s)
+gave_took : (plan : Plan) (until : Until) (s : Model) (bytes : List ℕ) (m : Moment) → Hears plan s (piece_at plan until bytes m s)
 gave_took plan until s bytes m =
     let heard = is_heard s.progress.phase in
     let mid = with_moment m (with_progress (told m) s) in
-    let is = moved_changed plan [] (orders.Read until) s (Gave bytes m) in
+    let is = moved_changed plan [] (actions.Read until) s (Gave bytes m) in
     let t = came heard s.progress.word bytes mid in
     record {
-      left = ap (λ (x : Standing). x.progress.left) is;
-      unsent = ap (λ (x : Standing). x.progress.unsent) is;
+      left = ap (λ (x : Model). x.progress.left) is;
+      unsent = ap (λ (x : Model). x.progress.unsent) is;
       begins = λ e. begins_before heard s.progress.word bytes mid refl e;
       tries = given_back (nat_lt (commands_in t.marks) (commands_in s.marks)) (commands_in t.marks) (commands_in s.marks) plan.retries t.progress.tries s.progress.tries refl
-          (came_along (λ (x : Standing). x.progress.tries ≡ s.progress.tries) (λ x line e. e) heard s.progress.word bytes mid refl
+          (came_along (λ (x : Model). x.progress.tries ≡ s.progress.tries) (λ x line e. e) heard s.progress.word bytes mid refl
           (asked_along (λ (q : Progress). q.tries ≡ s.progress.tries) (λ q line e. e) mid.progress (lines_behind s.rest bytes) refl) refl);
     }
 
@@ -85,16 +86,24 @@ close_took : (plan : Plan) (w : Waiting) (why : Cause) (p : Progress) → p.trie
 close_took plan w why p =
     closed_along (λ (q : Progress). p.tries ≤ q.tries + 1) plan w why p (omega arith) (one_less (is_spared plan why p) p.tries)
 
-took_moved : (plan : Plan) (commands : List Task) (next : Order) (s : Standing) (act : Act) → Obeys commands s next act → Took plan (with_progress turned s) act (moved plan commands next (with_progress turned s) act)
-took_moved plan commands (orders.Read until) s act o =
-    walk plan commands (Took plan (with_progress turned s)) (orders.Read until) (with_progress turned s) act o
-    (λ bytes m. gave_took plan until (with_progress turned s) bytes m, λ m. let same = silent_took plan s.progress.phase (time_passed until m (turned s.progress)) in omega (arith, same), omega arith, omega arith, omega arith)
-took_moved plan commands (orders.Close why) s act o = walk plan commands (Took plan (with_progress turned s)) (orders.Close why) (with_progress turned s) act o (close_took plan (waiting_of s) why (turned s.progress))
-took_moved plan commands (orders.Stop why) s act o = absurd o
+took_moved : (plan : Plan) (commands : List Task) (next : Action) (s : Model) (act : Act) → Performs commands s next act
+    → Took plan (with_progress turned s) act (moved plan commands next (with_progress turned s) act)
+took_moved plan commands (actions.Read until) s act o =
+    walk plan commands (Took plan (with_progress turned s)) (actions.Read until) (with_progress turned s) act o (
+      λ bytes m. gave_took plan until (with_progress turned s) bytes m,
+      λ m. let same =
+          silent_took plan s.progress.phase (time_passed until m (turned s.progress)) in omega (arith, same),
+      omega arith,
+      omega arith,
+      omega arith,
+    )
+took_moved plan commands (actions.Close why) s act o = walk plan commands (Took plan (with_progress turned s)) (actions.Close why)
+    (with_progress turned s) act o (close_took plan (waiting_of s) why (turned s.progress))
+took_moved plan commands (actions.Stop why) s act o = absurd o
 took_moved plan commands next s act o = walk plan commands (Took plan (with_progress turned s)) next (with_progress turned s) act o (λ m. omega arith, λ n. omega arith)
 
 -- a turn takes no try
-untook : (plan : Plan) (s t : Standing) (act : Act) → Took plan (with_progress turned s) act t → Took plan s act t
+untook : (plan : Plan) (s t : Model) (act : Act) → Took plan (with_progress turned s) act t → Took plan s act t
 untook plan s t (Gave bytes m) h = record { left = h.left; unsent = h.unsent; begins = h.begins; tries = h.tries }
 untook plan s t act h = h
 
@@ -108,7 +117,8 @@ waiting_count (None ∷ marks) (w ∷ waits) e = waiting_count marks waits (omeg
 waiting_count (Some mark ∷ marks) (w ∷ waits) e = ap suc (waiting_count marks waits (omega (arith, e)))
 
 -- how many commands were sent
-counted_out : (plan : Plan) (commands : List Task) (s : Standing) → Fine plan commands s → length s.records + commands_in s.marks ≡ length (sent_by commands (plan.cycles - s.progress.left) (place_next commands s.progress))
+counted_out : (plan : Plan) (commands : List Task) (s : Model) → Invariant plan commands s
+    → length s.records + commands_in s.marks ≡ length (sent_by commands (plan.cycles - s.progress.left) (place_next commands s.progress))
 counted_out plan commands s fine =
     let a = length-append (map of_record s.records) (still_waiting s.marks s.client.waiting) in
     let b = length-map s.records of_record in
@@ -116,7 +126,7 @@ counted_out plan commands s fine =
     let d = ap length fine.each in
     omega (arith, a, b, c, d)
 
-same_out : (plan : Plan) (commands : List Task) (s t : Standing) → Fine plan commands s → Fine plan commands t → t.progress.left ≡ s.progress.left → t.progress.unsent ≡ s.progress.unsent
+same_out : (plan : Plan) (commands : List Task) (s t : Model) → Invariant plan commands s → Invariant plan commands t → t.progress.left ≡ s.progress.left → t.progress.unsent ≡ s.progress.unsent
     → length t.records + commands_in t.marks ≡ length s.records + commands_in s.marks
 same_out plan commands s t fine fine' left unsent =
     counted_out plan commands t fine'
@@ -132,11 +142,11 @@ grew_none old new more is few =
     is ∙ ap (λ xs. old ++ xs) (nil_from_length more none) ∙ append-nil old
 
 -- what is told of a read that gave bytes: it settled a command, and all tries are left; or none, and no try was given back
-abbrev Settling : Plan → Standing → Standing → Type 0
+abbrev Settling : Plan → Model → Model → Type 0
 Settling plan s t = ((t.records ≢ s.records) × (t.progress.tries ≡ plan.retries)) ⊎ ((t.records ≡ s.records) × (t.progress.tries ≡ s.progress.tries))
 
 -- the tries, whatever is lost then
-settling_by : (plan : Plan) (s t : Standing) (mid old : ℕ) → Grew s.records t.records → length t.records + commands_in t.marks ≡ length s.records + old → (commands_in t.marks ≡ mid) ⊎ (old ≡ 0)
+settling_by : (plan : Plan) (s t : Model) (mid old : ℕ) → Grew s.records t.records → length t.records + commands_in t.marks ≡ length s.records + old → (commands_in t.marks ≡ mid) ⊎ (old ≡ 0)
     → ((mid < old) × (t.progress.tries ≡ plan.retries)) ⊎ ((old ≤ mid) × (t.progress.tries ≡ s.progress.tries)) → Settling plan s t
 settling_by plan s t mid old grew same kept (inl fewer) = inl (λ e. by_kept kept (ap length e), fewer.1) where
   by_kept : ((commands_in t.marks ≡ mid) ⊎ (old ≡ 0)) → length t.records ≡ length s.records → ⊥
@@ -148,7 +158,8 @@ settling_by plan s t mid old grew same kept (inr more) = inr (grew_none s.record
   by_kept (inr none) = omega (arith, none, same)
 
 -- what waits is lost only where the run is over, or it begins anew, and then nothing waits
-kept_marks : (plan : Plan) (commands : List Task) (s t : Standing) (b : Bool) → loses_all t.progress ≡ b → is_over t.progress ≡ false → (has_begun t.progress ≡ false → has_begun s.progress ≡ false) → Fine plan commands s
+kept_marks : (plan : Plan) (commands : List Task) (s t : Model) (b : Bool) → loses_all t.progress ≡ b → is_over t.progress ≡ false
+    → (has_begun t.progress ≡ false → has_begun s.progress ≡ false) → Invariant plan commands s
     → (commands_in (losing b t).marks ≡ commands_in t.marks) ⊎ (commands_in s.marks ≡ 0)
 kept_marks plan commands s t false e goes begins fine = inl refl
 kept_marks plan commands s t true e goes begins fine =
@@ -159,12 +170,13 @@ kept_marks plan commands s t true e goes begins fine =
       negated true e = cc
       negated false e = refl
 
-gave_settles : (plan : Plan) (commands : List Task) (s t u : Standing) → Fine plan commands s → Fine plan commands u → Hears plan s t → Grew s.records u.records → u.progress ≡ t.progress
+gave_settles : (plan : Plan) (commands : List Task) (s t u : Model) → Invariant plan commands s → Invariant plan commands u → Hears plan s t → Grew s.records u.records → u.progress ≡ t.progress
     → (commands_in u.marks ≡ commands_in t.marks) ⊎ (commands_in s.marks ≡ 0) → Settling plan s u
 gave_settles plan commands s t u fine fine' h grew same kept =
     settling_by plan s u (commands_in t.marks) (commands_in s.marks) grew
     (same_out plan commands s u fine fine' (ap (λ (p : Progress). p.left) same ∙ h.left) (ap (λ (p : Progress). p.unsent) same ∙ h.unsent)) kept
-    (subst (λ n. ((commands_in t.marks < commands_in s.marks) × (n ≡ plan.retries)) ⊎ ((commands_in s.marks ≤ commands_in t.marks) × (n ≡ s.progress.tries))) (sym (ap (λ (p : Progress). p.tries) same)) h.tries)
+    (subst (λ n. ((commands_in t.marks < commands_in s.marks) × (n ≡ plan.retries)) ⊎ ((commands_in s.marks ≤ commands_in t.marks) × (n ≡ s.progress.tries)))
+    (sym (ap (λ (p : Progress). p.tries) same)) h.tries)
 
 -- So the tries are counted along a run.
 
@@ -180,7 +192,8 @@ opens_more (Opened ∷ xs) act = let e = opens_more xs act in omega (arith, e)
 opens_more (Unopened ∷ xs) act = let e = opens_more xs act in omega (arith, e)
 opens_more (x ∷ xs) act = opens_more xs act
 
-none_more : (plan : Plan) (commands : List Task) (s : Standing) (xs : List Act) (act : Act) → NoneSettled plan commands s xs → SettlesNone (after_all plan commands s xs) act (after plan commands (after_all plan commands s xs) act)
+none_more : (plan : Plan) (commands : List Task) (s : Model) (xs : List Act) (act : Act) → NoneSettled plan commands s xs
+    → SettlesNone (after_all plan commands s xs) act (after plan commands (after_all plan commands s xs) act)
     → NoneSettled plan commands s (xs ++ act ∷ [])
 none_more plan commands s [] act none here = (here, tt)
 none_more plan commands s (x ∷ xs) act none here = (none.0, none_more plan commands (after plan commands s x) xs act none.1 here)
@@ -204,7 +217,8 @@ abbrev trying_on : (plan : Plan) (commands : List Task) (scope : Scope) (tries t
 trying_on plan commands scope tries tries' up up' acts act took counted settles t =
     let ends = ends_more t.behind act in
     let opens = opens_more t.behind act in
-    let there : stood plan commands scope acts ≡ after_all plan commands (stood plan commands scope t.before) t.behind = ap (stood plan commands scope) t.order ∙ after_all-append plan commands (opening plan scope) t.before t.behind in
+    let there : stood plan commands scope acts ≡ after_all plan commands (stood plan commands scope t.before) t.behind =
+    ap (stood plan commands scope) t.order ∙ after_all-append plan commands (opening plan scope) t.before t.behind in
     let enough = t.left in
     let even = t.opens in
     let least : plan.retries ≤ tries' + ends_in (t.behind ++ act ∷ []) = omega (arith, ends, took, enough) in
@@ -215,7 +229,7 @@ trying_on plan commands scope tries tries' up up' acts act took counted settles 
       held = t.held;
       order = ap (λ xs. xs ++ act ∷ []) t.order ∙ append_assoc t.before t.behind (act ∷ []);
       since = t.since;
-      none = none_more plan commands (stood plan commands scope t.before) t.behind act t.none (subst (λ (x : Standing). SettlesNone x act (after plan commands x act)) there settles);
+      none = none_more plan commands (stood plan commands scope t.before) t.behind act t.none (subst (λ (x : Model). SettlesNone x act (after plan commands x act)) there settles);
       left = least;
       most = t.most;
       first = t.first;
@@ -245,56 +259,63 @@ trying_anew plan commands scope tries up acts bytes m all settled = record {
   some [] e = cc
   some (x ∷ xs) e = cc
 
-abbrev Try : Plan → List Task → Scope → List Act → Standing → Type 0
+abbrev Try : Plan → List Task → Scope → List Act → Model → Type 0
 Try plan commands scope acts s = is_over s.progress ≡ false → Trying plan commands scope s.progress.tries (is_up s.progress.phase) acts
 
 goes_on : (b : Bool) → (b ≡ true → ⊥) → b ≡ false
 goes_on true never = absurd (never refl)
 goes_on false never = refl
 
-after_grew : (plan : Plan) (commands : List Task) (s : Standing) (act : Act) → Grew s.records (after plan commands s act).records
+after_grew : (plan : Plan) (commands : List Task) (s : Model) (act : Act) → Grew s.records (after plan commands s act).records
 after_grew plan commands s act =
-    let t = moved plan commands (order_at plan s) (with_progress turned s) act in
-    let a = moved_grew plan commands (order_at plan s) (with_progress turned s) act in
+    let t = moved plan commands (action_at plan s) (with_progress turned s) act in
+    let a = moved_grew plan commands (action_at plan s) (with_progress turned s) act in
     let b = losing_records (loses_all t.progress) t in
     (a.0 ++ b.0, b.1 ∙ ap (λ xs. xs ++ b.0) a.1 ∙ append_assoc s.records a.0 b.0)
 
 -- one act more
-try_step : (plan : Plan) (commands : List Task) (scope : Scope) (acts : List Act) (act : Act) (s u : Standing) (t : Standing) → stood plan commands scope acts ≡ s → stood plan commands scope (acts ++ act ∷ []) ≡ u → u ≡ after plan commands s act
-    → u.progress ≡ t.progress → Took plan s act t → Counted (is_up s.progress.phase) act (is_up t.progress.phase) → (((bytes : List ℕ) × (m : Moment) × (act ≡ Gave bytes m)) → Hears plan s t → Settling plan s u)
+try_step : (plan : Plan) (commands : List Task) (scope : Scope) (acts : List Act) (act : Act) (s u : Model) (t : Model) → stood plan commands scope acts ≡ s
+    → stood plan commands scope (acts ++ act ∷ []) ≡ u → u ≡ after plan commands s act
+    → u.progress ≡ t.progress → Took plan s act t → Counted (is_up s.progress.phase) act (is_up t.progress.phase)
+    → (((bytes : List ℕ) × (m : Moment) × (act ≡ Gave bytes m)) → Hears plan s t → Settling plan s u)
     → Trying plan commands scope s.progress.tries (is_up s.progress.phase) acts → Trying plan commands scope u.progress.tries (is_up u.progress.phase) (acts ++ act ∷ [])
 try_step plan commands scope acts (Gave bytes m) s u t before behind does same took counted settling trying = by_settling (settling (bytes, m, refl) took) where
   up_same : Counted (is_up s.progress.phase) (Gave bytes m) (is_up u.progress.phase)
   up_same = subst (λ (p : Progress). Counted (is_up s.progress.phase) (Gave bytes m) (is_up p.phase)) (sym same) counted
 
   by_settling : Settling plan s u → Trying plan commands scope u.progress.tries (is_up u.progress.phase) (acts ++ Gave bytes m ∷ [])
-  by_settling (inl some) = trying_anew plan commands scope u.progress.tries (is_up u.progress.phase) acts bytes m some.1 (λ e. some.0 (sym (ap (λ (x : Standing). x.records) behind) ∙ e ∙ ap (λ (x : Standing). x.records) before))
+  by_settling (inl some) = trying_anew plan commands scope u.progress.tries (is_up u.progress.phase) acts bytes m some.1
+      (λ e. some.0 (sym (ap (λ (x : Model). x.records) behind) ∙ e ∙ ap (λ (x : Model). x.records) before))
   by_settling (inr none) =
       let kept = none.1 in
       let tries : s.progress.tries ≤ u.progress.tries + 0 = omega (arith, kept) in
       trying_on plan commands scope s.progress.tries u.progress.tries (is_up s.progress.phase) (is_up u.progress.phase) acts (Gave bytes m) tries up_same
-      (subst (λ (x : Standing). (after plan commands x (Gave bytes m)).records ≡ x.records) (sym before) (sym (ap (λ (x : Standing). x.records) does) ∙ none.0)) trying
+      (subst (λ (x : Model). (after plan commands x (Gave bytes m)).records ≡ x.records) (sym before) (sym (ap (λ (x : Model). x.records) does) ∙ none.0)) trying
 try_step plan commands scope acts act s u t before behind does same took counted settling trying =
     trying_on plan commands scope s.progress.tries u.progress.tries (is_up s.progress.phase) (is_up u.progress.phase) acts act
     (subst (λ (p : Progress). s.progress.tries ≤ p.tries + ends_in (act ∷ [])) (sym same) took)
     (subst (λ (p : Progress). Counted (is_up s.progress.phase) act (is_up p.phase)) (sym same) counted) tt trying
 
-behind_one : (plan : Plan) (commands : List Task) (scope : Scope) (done : List Act) (act : Act) → stood plan commands scope (done ++ act ∷ []) ≡ after plan commands (stood plan commands scope done) act
+behind_one : (plan : Plan) (commands : List Task) (scope : Scope) (done : List Act) (act : Act)
+    → stood plan commands scope (done ++ act ∷ []) ≡ after plan commands (stood plan commands scope done) act
 behind_one plan commands scope done act = after_all-append plan commands (opening plan scope) done (act ∷ [])
 
-try_after : (plan : Plan) (commands : List Task) (scope : Scope) (done : List Act) (act : Act) → Obeys commands (stood plan commands scope done) (order_at plan (stood plan commands scope done)) act → Try plan commands scope done (stood plan commands scope done)
+try_after : (plan : Plan) (commands : List Task) (scope : Scope) (done : List Act) (act : Act)
+    → Performs commands (stood plan commands scope done) (action_at plan (stood plan commands scope done)) act
+    → Try plan commands scope done (stood plan commands scope done)
     → Try plan commands scope (done ++ act ∷ []) (after plan commands (stood plan commands scope done) act)
 try_after plan commands scope done act o trying not_over =
     let s = stood plan commands scope done in
     let u = after plan commands s act in
-    let t = moved plan commands (order_at plan s) (with_progress turned s) act in
+    let t = moved plan commands (action_at plan s) (with_progress turned s) act in
     let same = ended_progress t in
     let goes = goes_on (is_over s.progress) (λ over. over_stays plan commands s act over o) in
     let fine = fine_stood plan commands scope done in
     let not_over_mid : is_over t.progress ≡ false = sym (ap is_over same) ∙ not_over in
-    try_step plan commands scope done act s u t refl (behind_one plan commands scope done act) refl same (untook plan s t act (took_moved plan commands (order_at plan s) s act o))
-    (counted_moved plan commands (order_at plan s) s act o (order_for plan s.progress (waiting_of s)))
-    (λ gave h. gave_settles plan commands s t u fine (fine_after plan commands s act fine) h (after_grew plan commands s act) same (kept_marks plan commands s t (loses_all t.progress) refl not_over_mid h.begins fine))
+    try_step plan commands scope done act s u t refl (behind_one plan commands scope done act) refl same (untook plan s t act (took_moved plan commands (action_at plan s) s act o))
+    (counted_moved plan commands (action_at plan s) s act o (action_for plan s.progress (waiting_of s)))
+    (λ gave h. gave_settles plan commands s t u fine (fine_after plan commands s act fine) h (after_grew plan commands s act) same
+    (kept_marks plan commands s t (loses_all t.progress) refl not_over_mid h.begins fine))
     (trying goes)
 
 try_stood : (plan : Plan) (commands : List Task) (scope : Scope) (acts : List Act) → Runs plan commands (opening plan scope) acts → Try plan commands scope acts (stood plan commands scope acts)
@@ -332,7 +353,7 @@ no_try plan p n cause.Turns why tried ends = absurd (subst IsTried ends tried)
 no_try plan p n other why tried (inl done) = absurd (not_done p n why tried done)
 no_try plan p n other why tried (inr used) = used.3
 
-settles_none : (s t : Standing) (act : Act) → IsEnding act → SettlesNone s act t
+settles_none : (s t : Model) (act : Act) → IsEnding act → SettlesNone s act t
 settles_none s t Closed o = tt
 settles_none s t Unopened o = tt
 settles_none s t act o = absurd o
@@ -368,26 +389,26 @@ all_tried plan commands scope acts last ending counted t =
     }
 
 pub stop_tried : (plan : Plan) (commands : List Task) (scope : Scope) (acts : List Act) (last : Act) (why : Cause) → Runs plan commands (opening plan scope) (acts ++ last ∷ [])
-    → order_at plan (stood plan commands scope (acts ++ last ∷ [])) ≡ orders.Stop why → IsTried why → IsEnding last → AllTried plan commands scope (acts ++ last ∷ [])
+    → action_at plan (stood plan commands scope (acts ++ last ∷ [])) ≡ actions.Stop why → IsTried why → IsEnding last → AllTried plan commands scope (acts ++ last ∷ [])
 stop_tried plan commands scope acts last why runs stop tried ending = by_decided decided where
-  s : Standing
+  s : Model
   s = stood plan commands scope acts
 
-  t : Standing
-  t = moved plan commands (order_at plan s) (with_progress turned s) last
+  t : Model
+  t = moved plan commands (action_at plan s) (with_progress turned s) last
 
-  split : Runs plan commands (opening plan scope) acts × Obeys commands s (order_at plan s) last
+  split : Runs plan commands (opening plan scope) acts × Performs commands s (action_at plan s) last
   split = runs_split plan commands (opening plan scope) acts [] last runs
 
   over : (stood plan commands scope (acts ++ last ∷ [])).progress.phase ≡ phase.Over why
-  over = by_needs (needs_of plan (stood plan commands scope (acts ++ last ∷ [])) (orders.Stop why) stop).1 where
+  over = by_needs (needs_of plan (stood plan commands scope (acts ++ last ∷ [])) (actions.Stop why) stop).1 where
     by_needs : ((stood plan commands scope (acts ++ last ∷ [])).progress.phase ≡ phase.Over why) ⊎ ((why ≡ cause.Turns) × ((stood plan commands scope (acts ++ last ∷ [])).progress.turns ≡ 0))
         → (stood plan commands scope (acts ++ last ∷ [])).progress.phase ≡ phase.Over why
     by_needs (inl is) = is
     by_needs (inr turns) = absurd (subst IsTried turns.0 tried)
 
   there : (after plan commands s last).progress.phase ≡ phase.Over why
-  there = sym (ap (λ (x : Standing). x.progress.phase) (behind_one plan commands scope acts last)) ∙ over
+  there = sym (ap (λ (x : Model). x.progress.phase) (behind_one plan commands scope acts last)) ∙ over
 
   decided : Decided plan s (after plan commands s last).progress.phase why last
   decided = after_decided plan commands s last why split.1 (done_sent plan commands scope acts) (ap end_of there)
@@ -399,7 +420,7 @@ stop_tried plan commands scope acts last why runs stop tried ending = by_decided
   goes = goes_on (is_over s.progress) (λ gone. over_stays plan commands s last gone split.1)
 
   counted : Counted (is_up s.progress.phase) last false
-  counted = subst (λ (b : Bool). Counted (is_up s.progress.phase) last b) down (counted_moved plan commands (order_at plan s) s last split.1 (order_for plan s.progress (waiting_of s)))
+  counted = subst (λ (b : Bool). Counted (is_up s.progress.phase) last b) down (counted_moved plan commands (action_at plan s) s last split.1 (action_for plan s.progress (waiting_of s)))
 
   used : s.progress.tries ≡ 0 → AllTried plan commands scope (acts ++ last ∷ [])
   used none = all_tried plan commands scope acts last ending counted (subst (λ n. Trying plan commands scope n (is_up s.progress.phase) acts) none (try_stood plan commands scope acts split.0 goes))

@@ -6,14 +6,14 @@ use Rattle.gc_station.specs.declared.cause.Cause.{Cause}
 use Rattle.gc_station.specs.declared.cause.Cause.TheVariants as cause
 use Rattle.gc_station.specs.declared.progress.Phase.{Phase}
 use Rattle.gc_station.specs.declared.progress.Phase.TheVariants as phase
-use Rattle.gc_station.specs.declared.progress.Order.{Order}
-use Rattle.gc_station.specs.declared.progress.Order.TheVariants as orders
+use Rattle.gc_station.specs.declared.progress.Action.{Action}
+use Rattle.gc_station.specs.declared.progress.Action.TheVariants as actions
 use Rattle.gc_station.specs.declared.progress.Progress.{Progress}
 use Rattle.gc_station.specs.declared.progress.Waiting.{Waiting}
 use Rattle.gc_links.specs.Acts.{Act}
-use Rattle.gc_station.specs.Deciding.{is_up, order_in, order_on, order_of, order_up}
+use Rattle.gc_station.specs.Deciding.{is_up, action_in, action_on, action_of, action_up}
 use Rattle.gc_station.specs.Progressing.{turned, is_finished, is_spared, again, closed, is_over_in, is_over}
-use Rattle.gc_station.specs.Standing.{Standing, waiting_of, order_at, Obeys, moved, after, with_progress}
+use Rattle.gc_station.specs.Model.{Model, waiting_of, action_at, Performs, moved, with_progress}
 use Rattle.gc_station.specs.Stations.{stepped}
 use Rattle.gc_station.proofs.Counts.{turns_kept, ended_progress}
 use Rattle.gc_station.proofs.Walk.{closed_along}
@@ -43,19 +43,19 @@ pub closed_down : (plan : Plan) (w : Waiting) (why : Cause) (p : Progress) → i
 closed_down plan w why p = closed_along (λ (q : Progress). is_up q.phase ≡ false) plan w why p refl (again_down plan w.commands why p)
 
 -- once all turns are used up, an act closes the connection
-up_closes : (plan : Plan) (commands : List Task) (s t : Standing) (up : Bool) (act : Act) → Obeys commands t (order_up up) act
-    → (up ≡ true) × (is_up (moved plan commands (order_up up) s act).progress.phase ≡ false)
+up_closes : (plan : Plan) (commands : List Task) (s t : Model) (up : Bool) (act : Act) → Performs commands t (action_up up) act
+    → (up ≡ true) × (is_up (moved plan commands (action_up up) s act).progress.phase ≡ false)
 up_closes plan commands s t true act obeys = (refl, refl)
 up_closes plan commands s t false act obeys = absurd obeys
 
-on_closes : (plan : Plan) (commands : List Task) (s t : Standing) (p : Progress) (z : Bool) (act : Act) (other : Order) → z ≡ true
-    → Obeys commands t (if z then order_up (is_up p.phase) else other) act
-    → (is_up p.phase ≡ true) × (is_up (moved plan commands (if z then order_up (is_up p.phase) else other) s act).progress.phase ≡ false)
+on_closes : (plan : Plan) (commands : List Task) (s t : Model) (p : Progress) (z : Bool) (act : Act) (other : Action) → z ≡ true
+    → Performs commands t (if z then action_up (is_up p.phase) else other) act
+    → (is_up p.phase ≡ true) × (is_up (moved plan commands (if z then action_up (is_up p.phase) else other) s act).progress.phase ≡ false)
 on_closes plan commands s t p true act other e obeys = up_closes plan commands s t (is_up p.phase) act obeys
 on_closes plan commands s t p false act other e obeys = cc
 
-phase_closes : (plan : Plan) (commands : List Task) (s t : Standing) (p : Progress) (phase : Phase) (w : Waiting) (act : Act) → nat_eq p.turns 0 ≡ true → p.phase ≡ phase
-    → Obeys commands t (order_in phase plan p w) act → (is_up phase ≡ true) × (is_up (moved plan commands (order_in phase plan p w) s act).progress.phase ≡ false)
+phase_closes : (plan : Plan) (commands : List Task) (s t : Model) (p : Progress) (phase : Phase) (w : Waiting) (act : Act) → nat_eq p.turns 0 ≡ true → p.phase ≡ phase
+    → Performs commands t (action_in phase plan p w) act → (is_up phase ≡ true) × (is_up (moved plan commands (action_in phase plan p w) s act).progress.phase ≡ false)
 phase_closes plan commands s t p (phase.Closing cause) w act none is obeys = (refl, closed_down plan (waiting_of s) cause s.progress)
 phase_closes plan commands s t p (phase.Over cause) w act none is obeys = absurd obeys
 phase_closes plan commands s t p phase w act none is obeys = let c = on_closes plan commands s t p (nat_eq p.turns 0) act _ none obeys in (ap is_up (sym is) ∙ c.0, c.1)
@@ -69,36 +69,37 @@ less zero t' u u' e closes =
 less (suc t) t' u u' e closes = omega (arith, e, up_least u', up_least u)
 
 -- each act leaves less to be done, whatever waits
-pub less_stepped : (plan : Plan) (commands : List Task) (s : Standing) (w : Waiting) (act : Act) → Obeys commands s (order_of plan s.progress w) act
-    → left_to_do (stepped plan commands (order_of plan s.progress w) s act).progress < left_to_do s.progress
+pub less_stepped : (plan : Plan) (commands : List Task) (s : Model) (w : Waiting) (act : Act) → Performs commands s (action_of plan s.progress w) act
+    → left_to_do (stepped plan commands (action_of plan s.progress w) s act).progress < left_to_do s.progress
 less_stepped plan commands s w act obeys =
-    let order = order_of plan s.progress w in
-    let mid = moved plan commands order (with_progress turned s) act in
+    let action = action_of plan s.progress w in
+    let mid = moved plan commands action (with_progress turned s) act in
     let same = ended_progress mid in
     let fewer : left_to_do mid.progress < left_to_do s.progress =
     less s.progress.turns mid.progress.turns (is_up s.progress.phase) (is_up mid.progress.phase)
-    (turns_kept plan commands order (with_progress turned s) act)
+    (turns_kept plan commands action (with_progress turned s) act)
     (λ none. phase_closes plan commands (with_progress turned s) s s.progress s.progress.phase w act none refl obeys) in
-    let e : left_to_do (stepped plan commands order s act).progress ≡ left_to_do mid.progress = ap left_to_do same in
+    let e : left_to_do (stepped plan commands action s act).progress ≡ left_to_do mid.progress = ap left_to_do same in
     omega (arith, e, fewer)
 
 -- Where it is over no act follows.
 
 module _ (plan : Plan) (commands : List Task) where
-  pub over_stops : (s : Standing) (act : Act) → Obeys commands s (order_at plan s) act → (why : Cause) → s.progress.phase ≡ phase.Over why → ⊥
-  over_stops s act o why is = subst (λ (at : Phase). Obeys commands s (order_in at plan s.progress (waiting_of s)) act) is o
+  pub over_stops : (s : Model) (act : Act) → Performs commands s (action_at plan s) act → (why : Cause) → s.progress.phase ≡ phase.Over why → ⊥
+  over_stops s act o why is = subst (λ (at : Phase). Performs commands s (action_in at plan s.progress (waiting_of s)) act) is o
 
-  pub over_stays : (s : Standing) (act : Act) → is_over s.progress ≡ true → Obeys commands s (order_at plan s) act → ⊥
+  pub over_stays : (s : Model) (act : Act) → is_over s.progress ≡ true → Performs commands s (action_at plan s) act → ⊥
   over_stays s act over obeys = by_phase s.progress.phase refl over where
-    none_left : (up zero_left : Bool) → is_up s.progress.phase ≡ up → nat_eq s.progress.turns 0 ≡ zero_left → (not up && zero_left) ≡ true → order_on plan s.progress (waiting_of s) ≡ orders.Stop cause.Turns
+    none_left : (up zero_left : Bool) → is_up s.progress.phase ≡ up → nat_eq s.progress.turns 0 ≡ zero_left → (not up && zero_left) ≡ true
+        → action_on plan s.progress (waiting_of s) ≡ actions.Stop cause.Turns
     none_left true z e f both = cc
     none_left false false e f both = cc
     none_left false true e f both = rw (f, e) refl
 
-    stops : order_at plan s ≡ order_on plan s.progress (waiting_of s) → (not (is_up s.progress.phase) && nat_eq s.progress.turns 0) ≡ true → ⊥
-    stops e both = subst (λ (o : Order). Obeys commands s o act) (e ∙ none_left (is_up s.progress.phase) (nat_eq s.progress.turns 0) refl refl both) obeys
+    stops : action_at plan s ≡ action_on plan s.progress (waiting_of s) → (not (is_up s.progress.phase) && nat_eq s.progress.turns 0) ≡ true → ⊥
+    stops e both = subst (λ (o : Action). Performs commands s o act) (e ∙ none_left (is_up s.progress.phase) (nat_eq s.progress.turns 0) refl refl both) obeys
 
     by_phase : (at : Phase) → s.progress.phase ≡ at → (is_over_in s.progress.phase || (not (is_up s.progress.phase) && nat_eq s.progress.turns 0)) ≡ true → ⊥
     by_phase (phase.Closing why) is o = let never : false ≡ true = sym (ap (λ at. is_over_in at || (not (is_up at) && nat_eq s.progress.turns 0)) is) ∙ o in cc
     by_phase (phase.Over why) is o = over_stops s act obeys why is
-    by_phase other is o = stops (ap (λ at. order_in at plan s.progress (waiting_of s)) is) (sym (ap (λ at. is_over_in at || (not (is_up s.progress.phase) && nat_eq s.progress.turns 0)) is) ∙ o)
+    by_phase other is o = stops (ap (λ at. action_in at plan s.progress (waiting_of s)) is) (sym (ap (λ at. is_over_in at || (not (is_up s.progress.phase) && nat_eq s.progress.turns 0)) is) ∙ o)

@@ -10,21 +10,21 @@ use Rattle.gc_client.specs.Rule.{ById, expired}
 use Rattle.gc_texts.specs.declared.tasks.Task.{Task}
 use Rattle.gc_station.specs.declared.mark.Mark.{Mark}
 use Rattle.gc_station.specs.declared.plan.Plan.{Plan}
-use Rattle.gc_station.specs.declared.progress.Order.{Order}
-use Rattle.gc_station.specs.declared.progress.Order.TheVariants as orders
+use Rattle.gc_station.specs.declared.progress.Action.{Action}
+use Rattle.gc_station.specs.declared.progress.Action.TheVariants as actions
 use Rattle.gc_links.specs.Acts.{Act, Gave}
 use Rattle.gc_station.specs.Answers.{IsBefore, deadline_behind, IsTrueRecord}
 use Rattle.gc_station.specs.Ends.{IsPast, TellsPast, IsTrulyLate, IsTrulyLost, IsOvertaken, BeginsAnew, IsLast, IsLostIn}
 use Rattle.gc_station.specs.Quiet.{IsAsking}
 use Rattle.gc_station.specs.Records.{Record}
 use Rattle.gc_station.specs.Runs.{stood}
-use Rattle.gc_station.specs.Standing.{Standing, order_at, cycles_begun, place_next, request_text, Puts, Obeys}
+use Rattle.gc_station.specs.Model.{Model, action_at, cycles_begun, place_next, request_text, Puts, Performs}
 use Rattle.gc_station.proofs.Lists.{all_append, all_on, Rows, rows_same, rows_map}
 use Rattle.gc_station.specs.Scopes.{Scope}
 
 -- behind these acts, the command with this mark goes out
 pub record Marked (plan : Plan) (commands : List Task) (scope : Scope) (acts : List Act) (mark : Mark) : Type 0 where
-  pub sends : order_at plan (stood plan commands scope acts) ≡ orders.Send
+  pub sends : action_at plan (stood plan commands scope acts) ≡ actions.Send
   pub cycle : mark.cycle ≡ cycles_begun plan (stood plan commands scope acts).progress
   pub place : mark.place ≡ place_next commands (stood plan commands scope acts).progress
   pub sent : mark.sent ≡ (stood plan commands scope acts).progress.moment.utc
@@ -36,7 +36,7 @@ pub record Asked (plan : Plan) (commands : List Task) (scope : Scope) (acts : Li
   pub between : List Act
   pub order : acts ≡ before ++ request ∷ between
   pub many : length before ≡ number
-  pub asks : 0 < at → IsAsking (order_at plan (stood plan commands scope before))
+  pub asks : 0 < at → IsAsking (action_at plan (stood plan commands scope before))
   pub its : (m : Mark) → mark ≡ Some m → Marked plan commands scope before m
   pub id : with_id ≡ (stood plan commands scope before).client.next
   pub put : Puts (request_text (stood plan commands scope before).client p.call) request
@@ -68,12 +68,12 @@ pub record IsTrue (plan : Plan) (commands : List Task) (scope : Scope) (acts : L
   pub late : IsTrulyLate plan commands scope acts r
   pub lost : IsTrulyLost plan commands scope acts r
 
--- what every run keeps, of the standing's parts: of the requests that wait among these acts, and of the records among those
+-- what every run keeps, of the parts of the model: of the requests that wait among these acts, and of the records among those
 pub record Honest (plan : Plan) (commands : List Task) (scope : Scope) (acts all : List Act) (c : ById) (marks : List (Option Mark)) (records : List Record) : Type 0 where
   pub waiting : Rows (Waits plan commands scope acts c.next (length c.waiting)) 0 0 c.waiting marks
   pub written : AllByRecursion (IsTrue plan commands scope all) records
 
-abbrev pub IsHonest : Plan → List Task → Scope → List Act → List Act → Standing → Type 0
+abbrev pub IsHonest : Plan → List Task → Scope → List Act → List Act → Model → Type 0
 IsHonest plan commands scope acts all s = Honest plan commands scope acts all s.client s.marks s.records
 
 -- a request that was put is still among them where there is one act more
@@ -95,7 +95,8 @@ asked_more plan commands scope acts act S T number at id p mark step s = record 
 }
 
 -- at another place, with the same id
-pub asked_as : (plan : Plan) (commands : List Task) (scope : Scope) (acts : List Act) (S : Bool → ℕ → List Act → Type 0) (number at at' id id' : ℕ) (p : Pending) (mark : Option Mark) → (0 < at' → 0 < at) → id' ≡ id
+pub asked_as : (plan : Plan) (commands : List Task) (scope : Scope) (acts : List Act) (S : Bool → ℕ → List Act → Type 0) (number at at' id id' : ℕ)
+    (p : Pending) (mark : Option Mark) → (0 < at' → 0 < at) → id' ≡ id
     → Asked plan commands scope acts S number at id p mark → Asked plan commands scope acts S number at' id' p mark
 asked_as plan commands scope acts S number at at' id id' p mark places ids s = record {
   before = s.before;
@@ -127,11 +128,14 @@ pub past_here : (d : ℕ) (xs : List Act) (act : Act) → IsPast d act → Tells
 past_here d xs act on = record { earlier = xs; telling = act; later = []; at = refl; past = on }
 
 -- what is recorded stays true; where a run stopped no act follows
-true_more : (plan : Plan) (commands : List Task) (scope : Scope) (acts : List Act) (act : Act) (r : Record) → Obeys commands (stood plan commands scope acts) (order_at plan (stood plan commands scope acts)) act
+true_more : (plan : Plan) (commands : List Task) (scope : Scope) (acts : List Act) (act : Act) (r : Record)
+    → Performs commands (stood plan commands scope acts) (action_at plan (stood plan commands scope acts)) act
     → IsTrue plan commands scope acts r → IsTrue plan commands scope (acts ++ act ∷ []) r
 true_more plan commands scope acts act r obeys is = record { answered = answered_more; late = late_more; lost = lost_more } where
-  longer : (before : List Act) (request : Act) (between : List Act) (then : Act) (behind : List Act) → acts ≡ before ++ request ∷ (between ++ then ∷ behind) → acts ++ act ∷ [] ≡ before ++ request ∷ (between ++ then ∷ (behind ++ act ∷ []))
-  longer before request between then behind order = ap (λ xs. xs ++ act ∷ []) order ∙ append_assoc before (request ∷ (between ++ then ∷ behind)) (act ∷ []) ∙ ap (λ xs. before ++ request ∷ xs) (append_assoc between (then ∷ behind) (act ∷ []))
+  longer : (before : List Act) (request : Act) (between : List Act) (then : Act) (behind : List Act) → acts ≡ before ++ request ∷ (between ++ then ∷ behind)
+      → acts ++ act ∷ [] ≡ before ++ request ∷ (between ++ then ∷ (behind ++ act ∷ []))
+  longer before request between then behind order = ap (λ xs. xs ++ act ∷ []) order ∙ append_assoc before (request ∷ (between ++ then ∷ behind)) (act ∷ [])
+      ∙ ap (λ xs. before ++ request ∷ xs) (append_assoc between (then ∷ behind) (act ∷ []))
 
   answered_more : IsTrueRecord plan commands scope (acts ++ act ∷ []) r
   answered_more line e =
@@ -177,12 +181,13 @@ true_more plan commands scope acts act r obeys is = record { answered = answered
         written = a.written;
       }
 
-  not_last : (before : List Act) (request : Act) (between : List Act) (then : Act) (behind : List Act) → acts ≡ before ++ request ∷ (between ++ then ∷ behind) → IsLast plan commands scope (before ++ request ∷ between) then behind → ⊥
-  not_last before request between then behind order last =
+  not_last : (before : List Act) (request : Act) (between : List Act) (then : Act) (behind : List Act) → acts ≡ before ++ request ∷ (between ++ then ∷ behind)
+      → IsLast plan commands scope (before ++ request ∷ between) then behind → ⊥
+  not_last before request between then behind action last =
       let whole : acts ≡ (before ++ request ∷ between) ++ then ∷ [] =
-      order ∙ ap (λ xs. before ++ request ∷ (between ++ then ∷ xs)) last.none ∙ sym (append_assoc before (request ∷ between) (then ∷ [])) in
-      let stopped : order_at plan (stood plan commands scope acts) ≡ orders.Stop last.why = ap (λ xs. order_at plan (stood plan commands scope xs)) whole ∙ last.stops in
-      subst (λ (o : Order). Obeys commands (stood plan commands scope acts) o act) stopped obeys
+      action ∙ ap (λ xs. before ++ request ∷ (between ++ then ∷ xs)) last.none ∙ sym (append_assoc before (request ∷ between) (then ∷ [])) in
+      let stopped : action_at plan (stood plan commands scope acts) ≡ actions.Stop last.why = ap (λ xs. action_at plan (stood plan commands scope xs)) whole ∙ last.stops in
+      subst (λ (o : Action). Performs commands (stood plan commands scope acts) o act) stopped obeys
 
   lost_more : IsTrulyLost plan commands scope (acts ++ act ∷ []) r
   lost_more e =
@@ -206,9 +211,11 @@ true_more plan commands scope acts act r obeys is = record { answered = answered
         on a (inr (inl anew)) = inr (inl anew)
         on a (inr (inr last)) = absurd (not_last a.before a.request a.between a.act a.behind a.order last)
 
-pub more_true : (plan : Plan) (commands : List Task) (scope : Scope) (acts : List Act) (act : Act) (rs : List Record) → Obeys commands (stood plan commands scope acts) (order_at plan (stood plan commands scope acts)) act
+pub more_true : (plan : Plan) (commands : List Task) (scope : Scope) (acts : List Act) (act : Act) (rs : List Record)
+    → Performs commands (stood plan commands scope acts) (action_at plan (stood plan commands scope acts)) act
     → AllByRecursion (IsTrue plan commands scope acts) rs → AllByRecursion (IsTrue plan commands scope (acts ++ act ∷ [])) rs
-more_true plan commands scope acts act rs obeys all = all_on (IsTrue plan commands scope acts) (IsTrue plan commands scope (acts ++ act ∷ [])) rs (λ r is. true_more plan commands scope acts act r obeys is) all
+more_true plan commands scope acts act rs obeys all = all_on (IsTrue plan commands scope acts) (IsTrue plan commands scope (acts ++ act ∷ [])) rs
+    (λ r is. true_more plan commands scope acts act r obeys is) all
 
 -- an act that tells no moment
 pub stays_still : (act : Act) → ((d : ℕ) → IsBefore d act) → (b : Bool) (d : ℕ) (xs : List Act) → Stayed b d xs → Stayed b d (xs ++ act ∷ [])
@@ -232,7 +239,8 @@ stays_at now false d xs all = by_test (nat_le d now) refl where
   by_test true e = let past : d ≤ now = grind (arith, nat_tests, e) in inr past
   by_test false e = let low : now < d = grind (arith, nat_tests, e) in (all, low)
 
-pub at_moment : (plan : Plan) (commands : List Task) (scope : Scope) (acts : List Act) (now number at id : ℕ) (p : Pending) (mark : Option Mark) → Asked plan commands scope acts Stayed number at id p mark
+pub at_moment : (plan : Plan) (commands : List Task) (scope : Scope) (acts : List Act) (now number at id : ℕ) (p : Pending) (mark : Option Mark)
+    → Asked plan commands scope acts Stayed number at id p mark
     → Asked plan commands scope acts (StayedAt now) number at id (expired now p) mark
 at_moment plan commands scope acts now number at id p mark s = record {
   before = s.before;
@@ -252,7 +260,8 @@ abbrev pub at_expired : ById → ℕ → ById
 at_expired c now = record { next = c.next; waiting = map (expired now) c.waiting }
 
 -- as many wait
-pub expired_waits : (plan : Plan) (commands : List Task) (scope : Scope) (acts : List Act) (now : ℕ) (c : ById) (marks : List (Option Mark)) → Rows (Waits plan commands scope acts c.next (length c.waiting)) 0 0 c.waiting marks
+pub expired_waits : (plan : Plan) (commands : List Task) (scope : Scope) (acts : List Act) (now : ℕ) (c : ById) (marks : List (Option Mark))
+    → Rows (Waits plan commands scope acts c.next (length c.waiting)) 0 0 c.waiting marks
     → Rows (WaitsAt plan commands scope acts c now c.next (length (map (expired now) c.waiting))) 0 0 (map (expired now) c.waiting) marks
 expired_waits plan commands scope acts now c marks all =
     subst (λ (n : ℕ). Rows (WaitsAt plan commands scope acts c now c.next n) 0 0 (map (expired now) c.waiting) marks) (sym (length-map c.waiting (expired now)))
@@ -263,7 +272,8 @@ pub expired_window : (c : ById) (now : ℕ) → IsWindow c → IsWindow (at_expi
 expired_window c now w = record { digit = w.digit; few = let n : length (map (expired now) c.waiting) ≡ length c.waiting = length-map c.waiting (expired now) in omega (arith, n, w.few) }
 
 -- the requests that wait behind an act that tells this moment
-stays_behind : (act : Act) (now : ℕ) → ((d : ℕ) → now < d → IsBefore d act) → ((d : ℕ) → d ≤ now → IsPast d act) → (b : Bool) (d : ℕ) (xs : List Act) → StayedAt now b d xs → Stayed b d (xs ++ act ∷ [])
+stays_behind : (act : Act) (now : ℕ) → ((d : ℕ) → now < d → IsBefore d act) → ((d : ℕ) → d ≤ now → IsPast d act) → (b : Bool) (d : ℕ) (xs : List Act)
+    → StayedAt now b d xs → Stayed b d (xs ++ act ∷ [])
 stays_behind act now on past true d xs (inl told) = past_more d xs (act ∷ []) told
 stays_behind act now on past true d xs (inr reached) = past_here d xs act (past d reached)
 stays_behind act now on past false d xs both = all_append (IsBefore d) xs (act ∷ []) both.0 (on d both.1, tt)
@@ -275,7 +285,8 @@ behind_moment plan commands scope acts act client now next count ps marks on pas
     rows_same (WaitsAt plan commands scope acts client now next count) (Waits plan commands scope (acts ++ act ∷ []) next count) 0 0 ps marks
     (λ n j p mark w. asked_more plan commands scope acts act (StayedAt now) Stayed n j _ p mark (stays_behind act now on past) w.0) all
 
-pub moment_told : (plan : Plan) (commands : List Task) (scope : Scope) (acts : List Act) (act : Act) (now : ℕ) (c : ById) (marks : List (Option Mark)) (rs : List Record) → ((d : ℕ) → now < d → IsBefore d act) → ((d : ℕ) → d ≤ now → IsPast d act)
+pub moment_told : (plan : Plan) (commands : List Task) (scope : Scope) (acts : List Act) (act : Act) (now : ℕ) (c : ById) (marks : List (Option Mark))
+    (rs : List Record) → ((d : ℕ) → now < d → IsBefore d act) → ((d : ℕ) → d ≤ now → IsPast d act)
     → Honest plan commands scope acts (acts ++ act ∷ []) c marks rs → Honest plan commands scope (acts ++ act ∷ []) (acts ++ act ∷ []) (at_expired c now) marks rs
 moment_told plan commands scope acts act now c marks rs on past h = record {
   waiting = behind_moment plan commands scope acts act c now _ _ (map (expired now) c.waiting) marks on past (expired_waits plan commands scope acts now c marks h.waiting);

@@ -1,5 +1,5 @@
--- One walk over the orders: which fields an act of each order changes, and what has to hold for a fact to hold behind it. A new order is a
--- row in each of these tables; a fact about all orders is an instance.
+-- One walk over the actions: which fields an act of each action changes, and what has to hold for a fact to hold behind it. A new action is a
+-- row in each of these tables; a fact about all actions is an instance.
 use Rattle.std.proofs.Common.{◌≡◌, ℕ, Bool, true, false, List, [], ◌∷◌, drop, length, if◌then◌else◌, refl, sym, subst}
 use Rattle.gc_lines.specs.Frames.{rest_behind}
 use Rattle.gc_catalogue.specs.declared.call.Call.TheVariants.{NullProc}
@@ -11,8 +11,8 @@ use Rattle.gc_station.specs.declared.cause.Cause.{Cause}
 use Rattle.gc_station.specs.declared.cause.Cause.TheVariants as cause
 use Rattle.gc_station.specs.declared.progress.Phase.{Phase}
 use Rattle.gc_station.specs.declared.progress.Phase.TheVariants.{Pausing, Draining}
-use Rattle.gc_station.specs.declared.progress.Order.{Order}
-use Rattle.gc_station.specs.declared.progress.Order.TheVariants.{ReadClock, Renew, Begin, Open, Clear, Ask, Send, Skip, Flush, Read, Close, Stop}
+use Rattle.gc_station.specs.declared.progress.Action.{Action}
+use Rattle.gc_station.specs.declared.progress.Action.TheVariants.{ReadClock, Renew, Begin, Open, Clear, Ask, Send, Skip, Flush, Read, Close, Stop}
 use Rattle.gc_station.specs.declared.progress.Progress.{Progress}
 use Rattle.gc_station.specs.declared.progress.Until.{Until}
 use Rattle.gc_station.specs.declared.progress.Waiting.{Waiting}
@@ -20,12 +20,12 @@ use Rattle.gc_links.specs.Acts.{Act, Told, Untold, Put, Cut, Gave, Silent, Ended
 use Rattle.gc_station.specs.Deciding.{is_quiet}
 use Rattle.gc_station.specs.Marks.{commands_in}
 use Rattle.gc_station.specs.Progressing.{told, begun, skipped, failing, opened, again, cleared, asking, null_sent, renewed, sent, line_asked, lines_asked, pause_ended, drained, quieted, time_passed, reckoned_early, ended_for, closed}
-use Rattle.gc_station.specs.Standing.{Standing, waiting_of, place_next, mark_next, requests_out, request_text, null_text, first_text, bound_next, Puts, Obeys, is_heard, with_progress, with_moment, with_rest, with_records, asks_null, asks_first, asks_next, skips, line_came, lines_came, lines_behind, piece_asked, came, reckoned, piece_at, after_read, after_put, after_close, moved}
+use Rattle.gc_station.specs.Model.{Model, waiting_of, place_next, mark_next, requests_out, request_text, null_text, first_text, is_chained_behind_next, Puts, Performs, is_heard, with_progress, with_moment, with_rest, with_records, asks_null, asks_first, asks_next, skips, line_came, lines_came, lines_behind, piece_asked, came, reckoned, piece_at, after_read, after_put, after_close, moved}
 
 -- Parts of an act.
 
 -- what holds before lines, and behind each line, holds behind them
-pub lines_along : (P : Standing → Type 0) → ((t : Standing) (line : List ℕ) → P t → P (line_came t line)) → (s : Standing) (lines : List (List ℕ)) → P s → P (lines_came s lines)
+pub lines_along : (P : Model → Type 0) → ((t : Model) (line : List ℕ) → P t → P (line_came t line)) → (s : Model) (lines : List (List ℕ)) → P s → P (lines_came s lines)
 lines_along P step s [] p = p
 lines_along P step s (line ∷ others) p = lines_along P step (line_came s line) others (step s line p)
 
@@ -35,7 +35,7 @@ asked_along P step p [] h = h
 asked_along P step p (line ∷ others) h = asked_along P step (line_asked p line) others (step p line h)
 
 -- a piece is heard, once it has begun or while it begins, or dropped
-pub came_along : (P : Standing → Type 0) → ((t : Standing) (line : List ℕ) → P t → P (line_came t line)) → (heard : Bool) (word piece : List ℕ) (s : Standing)
+pub came_along : (P : Model → Type 0) → ((t : Model) (line : List ℕ) → P t → P (line_came t line)) → (heard : Bool) (word piece : List ℕ) (s : Model)
     → P (with_rest (rest_behind s.rest piece) s) → P (piece_asked piece s) → P s → P (came heard word piece s)
 came_along P step true [] piece s hears begins drops = lines_along P step (with_rest (rest_behind s.rest piece) s) (lines_behind s.rest piece) hears
 came_along P step true (asked ∷ others) piece s hears begins drops = begins
@@ -59,16 +59,17 @@ closed_along P plan w why p ends on = on
 
 -- The next command was sent, whatever it is.
 
-abbrev pub sending : Plan → List Task → Standing → Standing
-sending plan commands s = record s { progress = sent (bound_next commands s.progress) s.progress; client = (asks_next plan commands s).client; marks = (asks_next plan commands s).marks }
+abbrev pub sending : Plan → List Task → Model → Model
+sending plan commands s = record s { progress = sent (is_chained_behind_next commands s.progress) s.progress; client = (asks_next plan commands s).client; marks = (asks_next plan commands s).marks }
 
-first_sent : (bound : Bool) (mark : Mark) (left : List Task) (s : Standing)
-    → record s { progress = sent bound s.progress; client = (asks_first mark left s).client; marks = (asks_first mark left s).marks } ≡ with_progress (sent bound) (asks_first mark left s)
-first_sent bound mark [] s = refl
-first_sent bound mark (task ∷ others) s = refl
+first_sent : (next_is_chained : Bool) (mark : Mark) (left : List Task) (s : Model)
+    → record s { progress = sent next_is_chained s.progress; client = (asks_first mark left s).client; marks = (asks_first mark left s).marks }
+    ≡ with_progress (sent next_is_chained) (asks_first mark left s)
+first_sent next_is_chained mark [] s = refl
+first_sent next_is_chained mark (task ∷ others) s = refl
 
-pub is_sent : (plan : Plan) (commands : List Task) (s : Standing) → sending plan commands s ≡ with_progress (sent (bound_next commands s.progress)) (asks_next plan commands s)
-is_sent plan commands s = first_sent (bound_next commands s.progress) (mark_next plan commands s.progress) (drop (place_next commands s.progress) commands) s
+pub is_sent : (plan : Plan) (commands : List Task) (s : Model) → sending plan commands s ≡ with_progress (sent (is_chained_behind_next commands s.progress)) (asks_next plan commands s)
+is_sent plan commands s = first_sent (is_chained_behind_next commands s.progress) (mark_next plan commands s.progress) (drop (place_next commands s.progress) commands) s
 
 -- Which fields change.
 
@@ -79,21 +80,21 @@ abbrev asking_of : Progress → Progress → Progress
 asking_of p q = record p { phase = q.phase; alive = q.alive; asked = q.asked; stale = q.stale }
 
 -- how far a station is behind an act, and before it
-abbrev progress_of : Order → Progress → Progress → Progress
+abbrev progress_of : Action → Progress → Progress → Progress
 progress_of ReadClock p q = told_of p q
-progress_of Renew p q = record (told_of p q) { word = q.word; again = q.again; asked = q.asked; whole = q.whole }
-progress_of Begin p q = record (told_of p q) { due = q.due; missed = q.missed; left = q.left; unsent = q.unsent; bound = q.bound; whole = q.whole }
-progress_of Open p q = record p { phase = q.phase; stale = q.stale; tries = q.tries; pause = q.pause; whole = q.whole }
+progress_of Renew p q = record (told_of p q) { word = q.word; again = q.again; asked = q.asked; chain_unbroken = q.chain_unbroken }
+progress_of Begin p q = record (told_of p q) { due = q.due; missed = q.missed; left = q.left; unsent = q.unsent; next_is_chained = q.next_is_chained; chain_unbroken = q.chain_unbroken }
+progress_of Open p q = record p { phase = q.phase; stale = q.stale; tries = q.tries; pause = q.pause; chain_unbroken = q.chain_unbroken }
 progress_of Clear p q = record p { phase = q.phase; again = q.again; asked = q.asked; stale = q.stale }
 progress_of Ask p q = record (asking_of p q) { again = q.again }
-progress_of Send p q = record (asking_of p q) { unsent = q.unsent; bound = q.bound; whole = q.whole }
-progress_of Skip p q = record (told_of p q) { unsent = q.unsent; bound = q.bound; whole = q.whole }
+progress_of Send p q = record (asking_of p q) { unsent = q.unsent; next_is_chained = q.next_is_chained; chain_unbroken = q.chain_unbroken }
+progress_of Skip p q = record (told_of p q) { unsent = q.unsent; next_is_chained = q.next_is_chained; chain_unbroken = q.chain_unbroken }
 progress_of Flush p q = asking_of p q
 progress_of (Read until) p q = record (told_of p q) { word = q.word; again = q.again; asked = q.asked; tries = q.tries; pause = q.pause }
-progress_of (Close why) p q = record p { phase = q.phase; stale = q.stale; tries = q.tries; pause = q.pause; whole = q.whole }
+progress_of (Close why) p q = record p { phase = q.phase; stale = q.stale; tries = q.tries; pause = q.pause; chain_unbroken = q.chain_unbroken }
 progress_of (Stop why) p q = p
 
-abbrev changed_by : Order → Standing → Standing → Standing
+abbrev changed_by : Action → Model → Model → Model
 changed_by ReadClock s t = record s { client = t.client }
 changed_by Renew s t = record s { client = t.client }
 changed_by Begin s t = record s { client = t.client }
@@ -107,9 +108,9 @@ changed_by (Read until) s t = record s { rest = t.rest; client = t.client; marks
 changed_by (Close why) s t = record s { rest = t.rest }
 changed_by (Stop why) s t = s
 
--- What an act of an order changes is as behind it, and all else as before it. No act but a turn changes the turns, and none what replies say.
-abbrev pub changed : Order → Standing → Standing → Standing
-changed order s t = record (changed_by order s t) { progress = record (progress_of order s.progress t.progress) { turns = s.progress.turns }; reads = s.reads }
+-- What an act of an action changes is as behind it, and all else as before it. No act but a turn changes the turns, and none what replies say.
+abbrev pub changed : Action → Model → Model → Model
+changed action s t = record (changed_by action s t) { progress = record (progress_of action s.progress t.progress) { turns = s.progress.turns }; reads = s.reads }
 
 -- behind lines that were heard while it begins
 abbrev asked_of : Progress → Progress → Progress
@@ -119,28 +120,31 @@ lines_changed : (p : Progress) (lines : List (List ℕ)) → lines_asked p lines
 lines_changed p lines = asked_along (λ (q : Progress). q ≡ asked_of p q) (λ q line e. subst (λ (r : Progress). line_asked r line ≡ asked_of p (line_asked r line)) (sym e) refl) p lines refl
 
 -- behind a read that gave bytes
-abbrev piece_of : Standing → Standing → Standing
+abbrev piece_of : Model → Model → Model
 piece_of s t = record s { progress = asked_of s.progress t.progress; rest = t.rest; client = t.client; marks = t.marks; records = t.records }
 
-gave_changed : (plan : Plan) (until : Until) (s : Standing) (bytes : List ℕ) (m : Moment) → piece_at plan until bytes m s ≡ changed (Read until) s (piece_at plan until bytes m s)
+gave_changed : (plan : Plan) (until : Until) (s : Model) (bytes : List ℕ) (m : Moment) → piece_at plan until bytes m s ≡ changed (Read until) s (piece_at plan until bytes m s)
 gave_changed plan until s bytes m =
     let mid = with_moment m (with_progress (told m) s) in
     let heard = is_heard s.progress.phase in
     let n = commands_in s.marks in
-    let is = came_along (λ (t : Standing). t ≡ piece_of mid t) (λ t line e. subst (λ (u : Standing). line_came u line ≡ piece_of mid (line_came u line)) (sym e) refl) heard s.progress.word bytes mid refl (begins mid (lines_behind s.rest bytes) (rest_behind s.rest bytes)) refl in
-    subst (λ (u : Standing). reckoned plan until n u ≡ changed (Read until) s (reckoned plan until n u)) (sym is) refl where
-      begins : (t : Standing) (lines : List (List ℕ)) (rest : List ℕ) → record t { progress = lines_asked t.progress lines; rest = rest } ≡ piece_of t (record t { progress = lines_asked t.progress lines; rest = rest })
+    let is = came_along (λ (t : Model). t ≡ piece_of mid t) (λ t line e. subst (λ (u : Model). line_came u line ≡ piece_of mid (line_came u line))
+    (sym e) refl) heard s.progress.word bytes mid refl (begins mid (lines_behind s.rest bytes) (rest_behind s.rest bytes)) refl in
+    subst (λ (u : Model). reckoned plan until n u ≡ changed (Read until) s (reckoned plan until n u)) (sym is) refl where
+      begins : (t : Model) (lines : List (List ℕ)) (rest : List ℕ) → record t { progress = lines_asked t.progress lines; rest = rest } ≡ piece_of t
+          (record t { progress = lines_asked t.progress lines; rest = rest })
       begins t lines rest = subst (λ (q : Progress). record t { progress = q; rest = rest } ≡ piece_of t (record t { progress = q; rest = rest })) (sym (lines_changed t.progress lines)) refl
 
-silent_changed : (plan : Plan) (until : Until) (s : Standing) (m : Moment) → after_read plan until s (Silent m) ≡ changed (Read until) s (after_read plan until s (Silent m))
+silent_changed : (plan : Plan) (until : Until) (s : Model) (m : Moment) → after_read plan until s (Silent m) ≡ changed (Read until) s (after_read plan until s (Silent m))
 silent_changed plan until s m =
-    quieted_along (λ (q : Progress). with_moment m (record s { progress = q }) ≡ changed (Read until) s (with_moment m (record s { progress = q }))) plan s.progress.phase (time_passed until m s.progress) refl refl refl
+    quieted_along (λ (q : Progress). with_moment m (record s { progress = q }) ≡ changed (Read until) s (with_moment m (record s { progress = q }))) plan
+    s.progress.phase (time_passed until m s.progress) refl refl refl
 
-closed_changed : (plan : Plan) (why : Cause) (s : Standing) → after_close plan why s ≡ changed (Close why) s (after_close plan why s)
+closed_changed : (plan : Plan) (why : Cause) (s : Model) → after_close plan why s ≡ changed (Close why) s (after_close plan why s)
 closed_changed plan why s =
     closed_along (λ (q : Progress). record s { progress = q; rest = [] } ≡ changed (Close why) s (record s { progress = q; rest = [] })) plan (waiting_of s) why s.progress refl refl
 
-pub moved_changed : (plan : Plan) (commands : List Task) (order : Order) (s : Standing) (act : Act) → moved plan commands order s act ≡ changed order s (moved plan commands order s act)
+pub moved_changed : (plan : Plan) (commands : List Task) (action : Action) (s : Model) (act : Act) → moved plan commands action s act ≡ changed action s (moved plan commands action s act)
 moved_changed plan commands ReadClock s (Told m) = refl
 moved_changed plan commands ReadClock s act = refl
 moved_changed plan commands Renew s (Told m) = refl
@@ -155,8 +159,8 @@ moved_changed plan commands Ask s (Cut bytes n) = refl
 moved_changed plan commands Ask s act = refl
 moved_changed plan commands Send s (Cut bytes n) =
     let cut = with_progress (failing (cause.Write (requests_out plan commands s.progress) n)) in
-    subst (λ (u : Standing). cut u ≡ changed Send s (cut u)) (is_sent plan commands s) refl
-moved_changed plan commands Send s act = subst (λ (u : Standing). u ≡ changed Send s u) (is_sent plan commands s) refl
+    subst (λ (u : Model). cut u ≡ changed Send s (cut u)) (is_sent plan commands s) refl
+moved_changed plan commands Send s act = subst (λ (u : Model). u ≡ changed Send s u) (is_sent plan commands s) refl
 moved_changed plan commands Skip s (Told m) = refl
 moved_changed plan commands Skip s act = refl
 moved_changed plan commands Flush s (Cut bytes n) = refl
@@ -167,24 +171,26 @@ moved_changed plan commands (Read until) s act = refl
 moved_changed plan commands (Close why) s act = closed_changed plan why s
 moved_changed plan commands (Stop why) s act = refl
 
--- What has to hold for a fact to hold behind an act of an order: where it goes well, and where it doesn't. The former is given a moment and
--- the latter a number, also where no clock is read and no bytes are cut, so that one row serves many orders.
+-- What has to hold for a fact to hold behind an act of an action: where it goes well, and where it doesn't. The former is given a moment and
+-- the latter a number, also where no clock is read and no bytes are cut, so that one row serves many actions.
 
 -- bytes are put, whole or in part
-abbrev pub Putting : (Act → Standing → Type 0) → ℕ → List ℕ → Standing → Type 0
+abbrev pub Putting : (Act → Model → Type 0) → ℕ → List ℕ → Model → Type 0
 Putting P requests bytes t = ((m : Moment) → P (Put bytes) t) × ((n : ℕ) → P (Cut bytes n) (with_progress (failing (cause.Write requests n)) t))
 
-abbrev pub Behind : Plan → List Task → (Act → Standing → Type 0) → Order → Standing → Type 0
+abbrev pub Behind : Plan → List Task → (Act → Model → Type 0) → Action → Model → Type 0
 Behind plan commands P ReadClock s =
     ((m : Moment) → P (Told m) (with_moment m (with_progress (λ p. reckoned_early plan (commands_in s.marks) (told m p)) s))) × ((n : ℕ) → P Untold (with_progress (failing cause.Clock) s))
-Behind plan commands P Renew s = ((m : Moment) → P (Told m) (with_moment m (with_progress (λ p. reckoned_early plan 0 (renewed plan m p)) s))) × ((n : ℕ) → P Untold (with_progress (failing cause.Clock) s))
+Behind plan commands P Renew s = ((m : Moment) → P (Told m) (with_moment m
+    (with_progress (λ p. reckoned_early plan 0 (renewed plan m p)) s))) × ((n : ℕ) → P Untold (with_progress (failing cause.Clock) s))
 Behind plan commands P Begin s = ((m : Moment) → P (Told m) (with_moment m (with_progress (begun plan (length commands) m) s))) × ((n : ℕ) → P Untold (with_progress (failing cause.Clock) s))
 Behind plan commands P Open s = ((m : Moment) → P Opened (with_progress opened s)) × ((n : ℕ) → P Unopened (with_progress (again plan (commands_in s.marks) cause.Open) s))
 Behind plan commands P Clear s = Putting P (requests_out plan commands s.progress) (10 ∷ []) (with_progress cleared s)
 Behind plan commands P Ask s = Putting P (requests_out plan commands s.progress) (null_text s.progress.word) (with_progress (null_sent plan) s)
 Behind plan commands P Send s = Putting P (requests_out plan commands s.progress) (first_text s.client (drop (place_next commands s.progress) commands)) (sending plan commands s)
 Behind plan commands P Skip s =
-    ((m : Moment) → P (Told m) (with_moment m (with_progress (λ p. reckoned_early plan (commands_in s.marks) (skipped (bound_next commands s.progress) m p)) (with_records (skips plan commands s.progress (Told m)) s))))
+    ((m : Moment) → P (Told m) (with_moment m (with_progress (λ p. reckoned_early plan (commands_in s.marks)
+    (skipped (is_chained_behind_next commands s.progress) m p)) (with_records (skips plan commands s.progress (Told m)) s))))
     × ((n : ℕ) → P Untold (with_progress (failing cause.Clock) (with_records [] s)))
 Behind plan commands P Flush s = Putting P (requests_out plan commands s.progress) (request_text s.client NullProc) (with_progress asking (asks_null plan s))
 Behind plan commands P (Read until) s =
@@ -193,12 +199,13 @@ Behind plan commands P (Read until) s =
 Behind plan commands P (Close why) s = P Closed (after_close plan why s)
 Behind plan commands P (Stop why) s = Unit {0}
 
-put_walk : (P : Act → Standing → Type 0) (requests : ℕ) (bytes : List ℕ) (f : Standing → Standing) (s : Standing) (act : Act) → Puts bytes act → Putting P requests bytes (f s) → P act (after_put requests f s act)
+put_walk : (P : Act → Model → Type 0) (requests : ℕ) (bytes : List ℕ) (f : Model → Model) (s : Model) (act : Act) → Puts bytes act → Putting P requests bytes (f s) → P act (after_put requests f s act)
 put_walk P requests bytes f s (Put out) o h = subst (λ (xs : List ℕ). P (Put xs) (f s)) (sym o) (h.0 (record { elapsed = 0; utc = 0 }))
 put_walk P requests bytes f s (Cut out n) o h = subst (λ (xs : List ℕ). P (Cut xs n) (with_progress (failing (cause.Write requests n)) (f s))) (sym o.0) (h.1 n)
 put_walk P requests bytes f s act o h = absurd o
 
-pub walk : (plan : Plan) (commands : List Task) (P : Act → Standing → Type 0) (order : Order) (s : Standing) (act : Act) → Obeys commands s order act → Behind plan commands P order s → P act (moved plan commands order s act)
+pub walk : (plan : Plan) (commands : List Task) (P : Act → Model → Type 0) (action : Action) (s : Model) (act : Act) → Performs commands s action act
+    → Behind plan commands P action s → P act (moved plan commands action s act)
 walk plan commands P ReadClock s (Told m) o h = h.0 m
 walk plan commands P ReadClock s Untold o h = h.1 0
 walk plan commands P ReadClock s act o h = absurd o
@@ -212,16 +219,16 @@ walk plan commands P Open s Opened o h = h.0 (record { elapsed = 0; utc = 0 })
 walk plan commands P Open s Unopened o h = h.1 0
 walk plan commands P Open s act o h = absurd o
 walk plan commands P Clear s act o h = put_walk P (requests_out plan commands s.progress) (10 ∷ []) (with_progress cleared) s act o h
-walk plan commands P Ask s act o h = put_walk P (requests_out plan commands s.progress) (null_text s.progress.word) (λ (x : Standing). with_progress (null_sent plan) x) s act o h
+walk plan commands P Ask s act o h = put_walk P (requests_out plan commands s.progress) (null_text s.progress.word) (λ (x : Model). with_progress (null_sent plan) x) s act o h
 walk plan commands P Send s act o h =
     let requests = requests_out plan commands s.progress in
     let text = first_text s.client (drop (place_next commands s.progress) commands) in
-    put_walk P requests text (λ (x : Standing). with_progress (sent (bound_next commands s.progress)) (asks_next plan commands x)) s act o
-    (subst (λ (u : Standing). Putting P requests text u) (is_sent plan commands s) h)
+    put_walk P requests text (λ (x : Model). with_progress (sent (is_chained_behind_next commands s.progress)) (asks_next plan commands x)) s act o
+    (subst (λ (u : Model). Putting P requests text u) (is_sent plan commands s) h)
 walk plan commands P Skip s (Told m) o h = h.0 m
 walk plan commands P Skip s Untold o h = h.1 0
 walk plan commands P Skip s act o h = absurd o
-walk plan commands P Flush s act o h = put_walk P (requests_out plan commands s.progress) (request_text s.client NullProc) (λ (x : Standing). with_progress asking (asks_null plan x)) s act o h
+walk plan commands P Flush s act o h = put_walk P (requests_out plan commands s.progress) (request_text s.client NullProc) (λ (x : Model). with_progress asking (asks_null plan x)) s act o h
 walk plan commands P (Read until) s (Gave bytes m) o h = h.0 bytes m
 walk plan commands P (Read until) s (Silent m) o h = h.1 m
 walk plan commands P (Read until) s Ended o h = h.2

@@ -8,15 +8,15 @@ use Rattle.gc_texts.specs.declared.tasks.Task.{Task}
 use Rattle.gc_links.specs.declared.link.Moment.{Moment}
 use Rattle.gc_links.specs.Acts.{Act, Told}
 use Rattle.gc_station.specs.declared.plan.Plan.{Plan}
-use Rattle.gc_station.specs.declared.progress.Order.{Order}
-use Rattle.gc_station.specs.declared.progress.Order.TheVariants as orders
+use Rattle.gc_station.specs.declared.progress.Action.{Action}
+use Rattle.gc_station.specs.declared.progress.Action.TheVariants as actions
 use Rattle.gc_station.specs.declared.progress.Progress.{Progress}
 use Rattle.gc_station.specs.Beginnings.{heard_at, left_behind}
 use Rattle.gc_station.specs.Deciding.{has_begun, is_none_left}
 use Rattle.gc_station.specs.Progressing.{turned, told, line_asked, lines_asked, time_passed}
 use Rattle.gc_station.specs.Reasons.{IsFor}
-use Rattle.gc_station.specs.Standing.{Standing, waiting_of, with_progress, with_moment, with_rest, lines_behind, is_heard, came, Obeys, moved}
-use Rattle.gc_station.proofs.Fine.{Fine}
+use Rattle.gc_station.specs.Model.{Model, waiting_of, with_progress, with_moment, with_rest, lines_behind, is_heard, came, Performs, moved}
+use Rattle.gc_station.proofs.Invariant.{Invariant}
 use Rattle.gc_station.proofs.Midway.{clash}
 use Rattle.gc_station.proofs.Walk.{lines_along, quieted_along, closed_along, walk}
 
@@ -29,63 +29,65 @@ word_asked : (p : Progress) (lines : List (List ℕ)) → (lines_asked p lines).
 word_asked p [] = refl
 word_asked p (line ∷ others) = word_asked (line_asked p line) others
 
-word_came : (h : Bool) (word piece : List ℕ) (s : Standing) → s.progress.word ≡ word → (came h word piece s).progress.word ≡ left_behind word (if h then lines_behind s.rest piece else [])
+word_came : (h : Bool) (word piece : List ℕ) (s : Model) → s.progress.word ≡ word → (came h word piece s).progress.word ≡ left_behind word (if h then lines_behind s.rest piece else [])
 word_came true [] piece s e =
-    lines_along (λ (t : Standing). t.progress.word ≡ []) (λ t line same. same) (with_rest (rest_behind s.rest piece) s) (lines_behind s.rest piece) e ∙ sym (left_none (lines_behind s.rest piece))
+    lines_along (λ (t : Model). t.progress.word ≡ []) (λ t line same. same) (with_rest (rest_behind s.rest piece) s) (lines_behind s.rest piece) e ∙ sym (left_none (lines_behind s.rest piece))
 word_came true (asked ∷ others) piece s e = word_asked s.progress (lines_behind s.rest piece) ∙ ap (λ (w : List ℕ). left_behind w (lines_behind s.rest piece)) e
 word_came false word piece s e = e
 
 -- where it begins behind a piece, it did before
-pub begins_before : (h : Bool) (word piece : List ℕ) (s : Standing) → s.progress.word ≡ word → has_begun (came h word piece s).progress ≡ false → is_none_left word ≡ false
+pub begins_before : (h : Bool) (word piece : List ℕ) (s : Model) → s.progress.word ≡ word → has_begun (came h word piece s).progress ≡ false → is_none_left word ≡ false
 begins_before h [] piece s e f =
     let lines = if h then lines_behind s.rest piece else [] in absurd (clash (has_begun (came h [] piece s).progress) (ap is_none_left (word_came h [] piece s e ∙ left_none lines)) f)
 begins_before h (asked ∷ others) piece s e f = refl
 
 module _ (plan : Plan) (commands : List Task) where
-  abbrev Leaves : Standing → Act → Standing → Type 0
+  abbrev Leaves : Model → Act → Model → Type 0
   Leaves s act t = t.progress.word ≡ left_behind s.progress.word (heard_at s act)
 
-  pub word_moved : (s : Standing) (o : Order) (act : Act) → Obeys commands s o act → (o ≡ orders.Renew → ⊥)
+  pub word_moved : (s : Model) (o : Action) (act : Act) → Performs commands s o act → (o ≡ actions.Renew → ⊥)
       → (moved plan commands o (with_progress turned s) act).progress.word ≡ left_behind s.progress.word (heard_at s act)
-  word_moved s orders.Renew act obeys other = absurd (other refl)
-  word_moved s (orders.Read until) act obeys other =
-      walk plan commands (Leaves s) (orders.Read until) (with_progress turned s) act obeys (
+  word_moved s actions.Renew act obeys other = absurd (other refl)
+  word_moved s (actions.Read until) act obeys other =
+      walk plan commands (Leaves s) (actions.Read until) (with_progress turned s) act obeys (
         λ bytes m. word_came (is_heard s.progress.phase) s.progress.word bytes (with_moment m (with_progress (told m) (with_progress turned s))) refl,
         λ m. quieted_along (λ (q : Progress). q.word ≡ s.progress.word) plan s.progress.phase (time_passed until m (turned s.progress)) refl refl refl,
         refl,
         refl,
         refl,
       )
-  word_moved s (orders.Close why) act obeys other =
-      walk plan commands (Leaves s) (orders.Close why) (with_progress turned s) act obeys
+  word_moved s (actions.Close why) act obeys other =
+      walk plan commands (Leaves s) (actions.Close why) (with_progress turned s) act obeys
       (closed_along (λ (q : Progress). q.word ≡ s.progress.word) plan (waiting_of (with_rest [] (with_progress turned s))) why (turned s.progress) refl refl)
-  word_moved s (orders.Stop why) act obeys other = absurd obeys
+  word_moved s (actions.Stop why) act obeys other = absurd obeys
   word_moved s o act obeys other = walk plan commands (Leaves s) o (with_progress turned s) act obeys (λ m. refl, λ n. refl)
 
-  begun_other : (s : Standing) (o : Order) (act : Act) → Obeys commands s o act → (o ≡ orders.Renew → ⊥) → has_begun s.progress ≡ true → has_begun (moved plan commands o (with_progress turned s) act).progress ≡ true
+  begun_other : (s : Model) (o : Action) (act : Act) → Performs commands s o act → (o ≡ actions.Renew → ⊥) → has_begun s.progress ≡ true
+      → has_begun (moved plan commands o (with_progress turned s) act).progress ≡ true
   begun_other s o act obeys other begun = by_word s.progress.word refl begun where
     by_word : (word : List ℕ) → s.progress.word ≡ word → is_none_left word ≡ true → has_begun (moved plan commands o (with_progress turned s) act).progress ≡ true
     by_word [] e b = ap is_none_left (word_moved s o act obeys other ∙ ap (λ (w : List ℕ). left_behind w (heard_at s act)) e ∙ left_none (heard_at s act))
     by_word (asked ∷ others) e b = cc
 
   -- once it has begun it begins anew only where a chain doesn't go on
-  pub begun_kept : (s : Standing) (o : Order) (act : Act) → Obeys commands s o act → has_begun s.progress ≡ true → (moved plan commands o (with_progress turned s) act).progress.whole ≡ true
+  pub begun_kept : (s : Model) (o : Action) (act : Act) → Performs commands s o act → has_begun s.progress ≡ true → (moved plan commands o (with_progress turned s) act).progress.chain_unbroken ≡ true
       → has_begun (moved plan commands o (with_progress turned s) act).progress ≡ true
-  begun_kept s orders.Renew (Told m) obeys begun whole = cc
-  begun_kept s orders.Renew act obeys begun whole = begun
+  begun_kept s actions.Renew (Told m) obeys begun whole = cc
+  begun_kept s actions.Renew act obeys begun whole = begun
   begun_kept s o act obeys begun whole = begun_other s o act obeys (λ e. cc) begun
 
   -- it begins anew only where it reads the clock for that
-  pub renews_only : (s : Standing) (o : Order) (act : Act) → Obeys commands s o act → has_begun s.progress ≡ true → has_begun (moved plan commands o (with_progress turned s) act).progress ≡ false
-      → (o ≡ orders.Renew) × (m : Moment) × (act ≡ Told m)
-  renews_only s orders.Renew (Told m) obeys begun begins = (refl, m, refl)
-  renews_only s orders.Renew act obeys begun begins = absurd (clash (has_begun s.progress) begun begins)
+  pub renews_only : (s : Model) (o : Action) (act : Act) → Performs commands s o act → has_begun s.progress ≡ true → has_begun (moved plan commands o (with_progress turned s) act).progress ≡ false
+      → (o ≡ actions.Renew) × (m : Moment) × (act ≡ Told m)
+  renews_only s actions.Renew (Told m) obeys begun begins = (refl, m, refl)
+  renews_only s actions.Renew act obeys begun begins = absurd (clash (has_begun s.progress) begun begins)
   renews_only s o act obeys begun begins = absurd (clash (has_begun (moved plan commands o (with_progress turned s) act).progress) (begun_other s o act obeys (λ e. cc) begun) begins)
 
 -- what it needs: seven wait, which are all given up
-pub renews_needs : (plan : Plan) (commands : List Task) (s : Standing) (o : Order) → Fine plan commands s → o ≡ orders.Renew → IsFor plan s.progress (waiting_of s) o → (length s.client.waiting ≡ WINDOW) × (deadlines s.client.waiting ≡ [])
+pub renews_needs : (plan : Plan) (commands : List Task) (s : Model) (o : Action) → Invariant plan commands s → o ≡ actions.Renew
+    → IsFor plan s.progress (waiting_of s) o → (length s.client.waiting ≡ WINDOW) × (deadlines s.client.waiting ≡ [])
 renews_needs plan commands s o fine is needs =
-    let it = subst (λ (x : Order). IsFor plan s.progress (waiting_of s) x) is needs in
+    let it = subst (λ (x : Action). IsFor plan s.progress (waiting_of s) x) is needs in
     let most = fine.window in
     let least = it.3 in
     (omega (arith, most, least), nil_from_length (deadlines s.client.waiting) it.2)

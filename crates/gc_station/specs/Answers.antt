@@ -7,12 +7,12 @@ use Rattle.gc_texts.specs.Endings.{End, Answered, Unreadable, Late, Lost, Skippe
 use Rattle.gc_texts.specs.declared.tasks.Task.{Task}
 use Rattle.gc_links.specs.declared.link.Moment.{Moment}
 use Rattle.gc_station.specs.declared.plan.Plan.{Plan}
-use Rattle.gc_station.specs.declared.progress.Order.TheVariants.{Send}
+use Rattle.gc_station.specs.declared.progress.Action.TheVariants.{Send}
 use Rattle.gc_links.specs.Acts.{Act, Told, Gave, Silent}
 use Rattle.gc_station.specs.Deciding.{later}
 use Rattle.gc_station.specs.Records.{Record}
 use Rattle.gc_station.specs.Runs.{stood}
-use Rattle.gc_station.specs.Standing.{Puts, order_at, cycles_begun, place_next, request_text, lines_behind}
+use Rattle.gc_station.specs.Model.{Puts, action_at, cycles_begun, place_next, request_text, lines_behind}
 use Rattle.gc_station.specs.Scopes.{Scope}
 
 -- an act tells no moment at or past this one
@@ -43,7 +43,7 @@ pub record IsAnsweredIn (plan : Plan) (commands : List Task) (scope : Scope) (ac
   pub moment : Moment
   pub behind : List Act
   pub order : acts ≡ before ++ request ∷ (between ++ Gave piece moment ∷ behind)
-  pub sends : order_at plan (stood plan commands scope before) ≡ Send
+  pub sends : action_at plan (stood plan commands scope before) ≡ Send
   pub cycle : r.cycle ≡ cycles_begun plan (stood plan commands scope before).progress
   pub place : r.place ≡ place_next commands (stood plan commands scope before).progress
   pub sent : r.sent ≡ Some (stood plan commands scope before).progress.moment.utc

@@ -7,22 +7,22 @@ use Rattle.gc_client.specs.Rule.{deadlines, fresh, heard}
 use Rattle.gc_client.specs.declared.window.TheConstants.{WINDOW}
 use Rattle.gc_texts.specs.declared.tasks.Task.{Task}
 use Rattle.gc_station.specs.declared.plan.Plan.{Plan}
-use Rattle.gc_station.specs.declared.progress.Order.TheVariants.{Renew}
+use Rattle.gc_station.specs.declared.progress.Action.TheVariants.{Renew}
 use Rattle.gc_links.specs.declared.link.Moment.{Moment}
 use Rattle.gc_links.specs.Acts.{Act, Told, Put, Gave, Opened}
 use Rattle.gc_station.specs.Deciding.{has_begun}
 use Rattle.gc_station.specs.Quiet.{IsAsking, IsRequest, IsQuietFirst, StaysConnected}
 use Rattle.gc_station.specs.Runs.{stood}
 use Rattle.gc_station.specs.Scopes.{Scope}
-use Rattle.gc_station.specs.Standing.{Standing, Puts, Runs, after, is_heard, lines_behind, null_text, opening, order_at}
+use Rattle.gc_station.specs.Model.{Model, Puts, Runs, after, is_heard, lines_behind, null_text, opening, action_at}
 
 -- the lines that an act brings, where they are heard
-abbrev pub heard_at : Standing → Act → List (List ℕ)
+abbrev pub heard_at : Model → Act → List (List ℕ)
 heard_at s (Gave piece m) = if is_heard s.progress.phase then lines_behind s.rest piece else []
 heard_at s act = []
 
 -- the lines that these acts bring, in order, from where a station stands
-abbrev pub heard_behind : Plan → List Task → Standing → List Act → List (List ℕ)
+abbrev pub heard_behind : Plan → List Task → Model → List Act → List (List ℕ)
 heard_behind plan commands s [] = []
 heard_behind plan commands s (act ∷ acts) = heard_at s act ++ heard_behind plan commands (after plan commands s act) acts
 
@@ -36,7 +36,7 @@ left_behind word (line ∷ others) = left_behind (left_by word (heard line)) oth
 abbrev pub NoneBeforeTheLastAnswer : Type 0
 NoneBeforeTheLastAnswer =
     (plan : Plan) (commands : List Task) (scope : Scope) (earlier between : List Act) → Runs plan commands (opening plan scope) (earlier ++ between)
-    → IsAsking (order_at plan (stood plan commands scope (earlier ++ between)))
+    → IsAsking (action_at plan (stood plan commands scope (earlier ++ between)))
     → IsSubsequence (stood plan commands scope earlier).progress.word (filter_map heard (heard_behind plan commands (stood plan commands scope earlier) between))
 
 -- an act while it begins: nothing waits, and the client is new; what goes out is the null procedure of the first id that isn't answered;
@@ -51,7 +51,7 @@ pub record IsOfBeginning (plan : Plan) (commands : List Task) (scope : Scope) (a
 -- at an act a station begins anew: it reads the clock where seven wait, all of them given up; then nothing waits, and no null procedure is
 -- answered
 pub record IsAnew (plan : Plan) (commands : List Task) (scope : Scope) (acts : List Act) (act : Act) : Type 0 where
-  pub renews : order_at plan (stood plan commands scope acts) ≡ Renew
+  pub renews : action_at plan (stood plan commands scope acts) ≡ Renew
   pub moment : Moment
   pub told : act ≡ Told moment
   pub seven : length (stood plan commands scope acts).client.waiting ≡ WINDOW

@@ -6,7 +6,7 @@ use Rattle.gc_catalogue.specs.declared.answer.Answer.{Answer}
 use Rattle.gc_texts.specs.Endings.{Answered}
 use Rattle.gc_texts.specs.declared.tasks.Task.{Task}
 use Rattle.gc_station.specs.declared.plan.Plan.{Plan}
-use Rattle.gc_station.specs.declared.progress.Order.TheVariants.{Send}
+use Rattle.gc_station.specs.declared.progress.Action.TheVariants.{Send}
 use Rattle.gc_links.specs.Acts.{Act}
 use Rattle.gc_station.specs.Answers.{IsAnsweredIn}
 use Rattle.gc_station.specs.Marks.{is_value}
@@ -14,10 +14,10 @@ use Rattle.gc_station.specs.Quiet.{KeepsOpen}
 use Rattle.gc_station.specs.Records.{Record}
 use Rattle.gc_station.specs.Runs.{stood}
 use Rattle.gc_station.specs.Scopes.{Scope}
-use Rattle.gc_station.specs.Standing.{Standing, order_at, cycles_begun, place_next, is_chained}
+use Rattle.gc_station.specs.Model.{Model, action_at, cycles_begun, place_next, is_chained}
 
 -- the next command is not the first of its cycle, and is of a chain, and not its first
-abbrev pub IsChained : List Task → Standing → Type 0
+abbrev pub IsChained : List Task → Model → Type 0
 IsChained commands s = (0 < place_next commands s.progress) × (is_chained (drop (place_next commands s.progress) commands) ≡ true)
 
 -- behind these acts the command before the next one, of the same cycle, went out, and no connection was closed since; its record is the
@@ -27,7 +27,7 @@ pub record IsLinked (plan : Plan) (commands : List Task) (scope : Scope) (acts :
   pub request : Act
   pub between : List Act
   pub order : acts ≡ before ++ request ∷ between
-  pub sends : order_at plan (stood plan commands scope before) ≡ Send
+  pub sends : action_at plan (stood plan commands scope before) ≡ Send
   pub cycle : cycles_begun plan (stood plan commands scope acts).progress ≡ cycles_begun plan (stood plan commands scope before).progress
   pub place : place_next commands (stood plan commands scope acts).progress ≡ place_next commands (stood plan commands scope before).progress + 1
   pub stays : AllByRecursion KeepsOpen between

@@ -5,8 +5,8 @@ use Rattle.gc_texts.specs.declared.tasks.Task.{Task}
 use Rattle.gc_station.specs.declared.cause.Cause.{Cause}
 use Rattle.gc_station.specs.declared.cause.Cause.TheVariants as cause
 use Rattle.gc_station.specs.declared.plan.Plan.{Plan}
-use Rattle.gc_station.specs.declared.progress.Order.{Order}
-use Rattle.gc_station.specs.declared.progress.Order.TheVariants.{Ask, Close}
+use Rattle.gc_station.specs.declared.progress.Action.{Action}
+use Rattle.gc_station.specs.declared.progress.Action.TheVariants.{Ask, Close}
 use Rattle.gc_station.specs.declared.progress.Progress.{Progress}
 use Rattle.gc_station.specs.declared.progress.Waiting.{Waiting}
 use Rattle.gc_links.specs.Acts.{Act, Untold, Cut, Ended, Broke, Closed, Unopened}
@@ -14,19 +14,19 @@ use Rattle.gc_station.specs.Deciding.{is_up}
 use Rattle.gc_station.specs.Progressing.{is_finished, is_spared}
 use Rattle.gc_station.specs.Reasons.{IsFor, IsAtItsEnd}
 use Rattle.gc_station.specs.Runs.{stood}
-use Rattle.gc_station.specs.Standing.{Standing, waiting_of, order_at, Obeys}
+use Rattle.gc_station.specs.Model.{Model, waiting_of, action_at, Performs}
 use Rattle.gc_station.specs.Scopes.{Scope}
 
 -- the null procedures of a beginning go out where nothing waits, and the client is new: the first command behind them has id 0
-abbrev pub IsAlone : Order → Standing → Type 0
+abbrev pub IsAlone : Action → Model → Type 0
 IsAlone Ask s = (s.client ≡ fresh) × (s.marks ≡ [])
 IsAlone _ s = Unit {0}
 
--- an act is that of the order that is next, and what that order needs is so
-pub record IsReasoned (plan : Plan) (commands : List Task) (s : Standing) (act : Act) : Type 0 where
-  pub obeys : Obeys commands s (order_at plan s) act
-  pub needs : IsFor plan s.progress (waiting_of s) (order_at plan s)
-  pub alone : IsAlone (order_at plan s) s
+-- an act is that of the action that is next, and what that action needs is so
+pub record IsReasoned (plan : Plan) (commands : List Task) (s : Model) (act : Act) : Type 0 where
+  pub obeys : Performs commands s (action_at plan s) act
+  pub needs : IsFor plan s.progress (waiting_of s) (action_at plan s)
+  pub alone : IsAlone (action_at plan s) s
 
 -- an act shows a cause: the other end closed, a read failed, the clock couldn't be read, or a write was cut
 abbrev pub Shows : Cause → Act → Type 0
@@ -39,7 +39,7 @@ Shows _ act = ⊥
 -- a connection is closed for a cause: the run's end, a dead line, or what the last act shows
 pub record ClosesForACause (plan : Plan) (commands : List Task) (scope : Scope) (acts : List Act) : Type 0 where
   pub why : Cause
-  pub closes : order_at plan (stood plan commands scope acts) ≡ Close why
+  pub closes : action_at plan (stood plan commands scope acts) ≡ Close why
   pub shown : IsAtItsEnd plan (stood plan commands scope acts).progress (waiting_of (stood plan commands scope acts)) why
       ⊎ ((earlier : List Act) × (last : Act) × (acts ≡ earlier ++ last ∷ []) × Shows why last)
 
@@ -58,14 +58,14 @@ EndsBehind plan p commands other why =
     EndsDone p commands why ⊎ ((why ≡ other) × (is_finished commands p ≡ false) × (is_spared plan other p ≡ false) × (p.tries ≡ 0))
 
 -- the connection was closed for a cause, or none could be made, and no other is made
-abbrev pub EndsGone : Plan → Progress → Waiting → Order → Cause → Act → Type 0
+abbrev pub EndsGone : Plan → Progress → Waiting → Action → Cause → Act → Type 0
 EndsGone plan p w next why act =
     ((other : Cause) × (act ≡ Closed) × (next ≡ Close other) × EndsBehind plan p w.commands other why)
     ⊎ ((act ≡ Unopened) × EndsBehind plan p w.commands cause.Open why)
 
 -- an act ends a run for a cause: a call failed where there was no connection, or the connection is gone, and no other is made
-abbrev pub Ends : Plan → Standing → Cause → Act → Type 0
-Ends plan s why act = ((is_up s.progress.phase ≡ false) × Shows why act) ⊎ EndsGone plan s.progress (waiting_of s) (order_at plan s) why act
+abbrev pub Ends : Plan → Model → Cause → Act → Type 0
+Ends plan s why act = ((is_up s.progress.phase ≡ false) × Shows why act) ⊎ EndsGone plan s.progress (waiting_of s) (action_at plan s) why act
 
 -- a run stops without a connection, and for a cause: all turns are used up, or what the last act shows
 pub record StopsForACause (plan : Plan) (commands : List Task) (scope : Scope) (acts : List Act) (why : Cause) : Type 0 where

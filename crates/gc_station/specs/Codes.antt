@@ -22,4 +22,5 @@ pub record WellIsBothCodesZero : Type 0 where
   pub found : (reads : Call → List ℕ → Reading) (call : Call) (line : List ℕ) (r : ReplyFields) (answer : Answer) → AreReadings reads → IsReply line r
       → r.rc_com ≡ 0 → r.rc ≡ 0 → IsAnswer call r.params answer → is_well reads call (end_of reads call (Answered line)) ≡ true
   pub none : (reads : Call → List ℕ → Reading) (call : Call)
-      → (is_well reads call (end_of reads call Late) ≡ false) × (is_well reads call (end_of reads call Lost) ≡ false) × (is_well reads call end.Skipped ≡ false) × (is_well reads call end.Missed ≡ false)
+      → (is_well reads call (end_of reads call Late) ≡ false) × (is_well reads call (end_of reads call Lost) ≡ false)
+      × (is_well reads call end.Skipped ≡ false) × (is_well reads call end.Missed ≡ false)

@@ -10,9 +10,9 @@ use Rattle.gc_station.specs.Deciding.{may_go}
 use Rattle.gc_station.specs.Records.{Record}
 use Rattle.gc_station.specs.Runs.{stood}
 use Rattle.gc_station.specs.Scopes.{Scope}
-use Rattle.gc_station.specs.Standing.{opening, order_at, waiting_of, cycles_begun, place_next, is_chained, Runs}
+use Rattle.gc_station.specs.Model.{opening, action_at, waiting_of, cycles_begun, place_next, is_chained, Runs}
 use Rattle.gc_station.specs.declared.plan.Plan.{Plan}
-use Rattle.gc_station.specs.declared.progress.Order.TheVariants.{Begin, Send, Skip}
+use Rattle.gc_station.specs.declared.progress.Action.TheVariants.{Begin, Send, Skip}
 
 -- the clock doesn't go back: each moment that these acts tell is at or past the one before it, and has 64 bits
 abbrev pub Rises : ℕ → List Act → Type 0
@@ -32,7 +32,7 @@ pub record BeginsAt (plan : Plan) (commands : List Task) (scope : Scope) (acts :
   pub before : List Act
   pub behind : List Act
   pub order : acts ≡ before ++ Told m ∷ behind
-  pub begins : order_at plan (stood plan commands scope before) ≡ Begin
+  pub begins : action_at plan (stood plan commands scope before) ≡ Begin
   pub number : cycles_begun plan (stood plan commands scope before).progress ≡ n
 
 -- among these acts a cycle begins at this moment, which has so many before it, and so long behind its due moment
@@ -54,14 +54,14 @@ pub record LastBegan (plan : Plan) (commands : List Task) (scope : Scope) (acts 
 abbrev pub CyclesBeginWhenDue : Type 0
 CyclesBeginWhenDue =
     (plan : Plan) (commands : List Task) (scope : Scope) (acts later : List Act) (m : Moment) → 0 < plan.every → Runs plan commands (opening plan scope) (acts ++ Told m ∷ later)
-    → Rises 0 (acts ++ Told m ∷ []) → order_at plan (stood plan commands scope acts) ≡ Begin
+    → Rises 0 (acts ++ Told m ∷ []) → action_at plan (stood plan commands scope acts) ≡ Begin
     → (late : ℕ) × BeginsLate plan commands scope (acts ++ Told m ∷ []) (cycles_begun plan (stood plan commands scope acts).progress) m late
 
 -- where a command goes out, its cycle began before the next one was due
 abbrev pub SentOnlyInTime : Type 0
 SentOnlyInTime =
     (plan : Plan) (commands : List Task) (scope : Scope) (acts : List Act) → 0 < plan.every → Runs plan commands (opening plan scope) acts → Rises 0 acts
-    → order_at plan (stood plan commands scope acts) ≡ Send → (last : LastBegan plan commands scope acts) × (last.late < plan.every)
+    → action_at plan (stood plan commands scope acts) ≡ Send → (last : LastBegan plan commands scope acts) × (last.late < plan.every)
 
 -- the command of a record is missed: its cycle began when the next one was due, or later; it wasn't sent, and the record has the moment at
 -- which its cycle was due, by the clock of time stamps
@@ -83,7 +83,7 @@ pub record IsSkippedIn (plan : Plan) (commands : List Task) (scope : Scope) (act
   pub moment : Moment
   pub behind : List Act
   pub order : acts ≡ before ++ Told moment ∷ behind
-  pub skips : order_at plan (stood plan commands scope before) ≡ Skip
+  pub skips : action_at plan (stood plan commands scope before) ≡ Skip
   pub cycle : r.cycle ≡ cycles_begun plan (stood plan commands scope before).progress
   pub place : r.place ≡ place_next commands (stood plan commands scope before).progress
   pub not_first : 0 < place_next commands (stood plan commands scope before).progress

@@ -6,8 +6,8 @@ use Rattle.gc_station.specs.declared.plan.Plan.{Plan}
 use Rattle.gc_station.specs.declared.cause.Cause.TheVariants.{Done, Dead, Turns}
 use Rattle.gc_station.specs.declared.progress.Phase.{Phase}
 use Rattle.gc_station.specs.declared.progress.Phase.TheVariants as phase
-use Rattle.gc_station.specs.declared.progress.Order.{Order}
-use Rattle.gc_station.specs.declared.progress.Order.TheVariants.{ReadClock, Renew, Begin, Open, Clear, Ask, Send, Skip, Flush, Read, Close, Stop}
+use Rattle.gc_station.specs.declared.progress.Action.{Action}
+use Rattle.gc_station.specs.declared.progress.Action.TheVariants.{ReadClock, Renew, Begin, Open, Clear, Ask, Send, Skip, Flush, Read, Close, Stop}
 use Rattle.gc_station.specs.declared.progress.Progress.{Progress}
 use Rattle.gc_station.specs.declared.progress.Until.TheVariants.{Limit, Due}
 use Rattle.gc_station.specs.declared.progress.Waiting.{Waiting}
@@ -56,8 +56,8 @@ abbrev pub is_dead : Plan → Progress → Waiting → Bool
 is_dead plan p w = (nat_lt 0 w.all || nat_lt 0 p.again) && nat_le (patience_of plan) (p.moment.elapsed - p.alive)
 
 -- nothing may go out: a reply may still come, unless the line is dead; and where all that wait are given up, it begins anew
-abbrev pub order_waiting : Plan → Progress → Waiting → Order
-order_waiting plan p w = if is_dead plan p w then Close Dead else if nat_eq w.current 0 then Renew else Read Limit
+abbrev pub action_waiting : Plan → Progress → Waiting → Action
+action_waiting plan p w = if is_dead plan p w then Close Dead else if nat_eq w.current 0 then Renew else Read Limit
 
 -- the first cycle begins at once, and each other one so long after the one before it began
 abbrev pub is_due : Plan → Progress → Bool
@@ -76,8 +76,8 @@ abbrev pub is_finished : ℕ → Progress → Bool
 is_finished commands p = nat_eq p.left 0 && nat_eq p.unsent 0 && nat_eq commands 0
 
 -- it begins: the null procedure that is asked for goes out, and again at its deadline, unless nothing is left to be asked behind it
-abbrev pub order_beginning : Plan → Progress → Waiting → Order
-order_beginning plan p w =
+abbrev pub action_beginning : Plan → Progress → Waiting → Action
+action_beginning plan p w =
     if is_finished w.commands p then Close Done
     else if is_idle plan p then Read Due
     else if is_dead plan p w then Close Dead
@@ -85,72 +85,72 @@ order_beginning plan p w =
     else Read Limit
 
 -- each command of the cycle is settled
-abbrev pub order_done : Plan → Progress → Order
-order_done plan p = if nat_eq p.left 0 then Close Done else if is_due plan p then Begin else Read Due
+abbrev pub action_done : Plan → Progress → Action
+action_done plan p = if nat_eq p.left 0 then Close Done else if is_due plan p then Begin else Read Due
 
 -- another request may go out: fewer are under way than the plan has it, and fewer wait in all than the window is wide
 abbrev pub has_room : Plan → Waiting → Bool
 has_room plan w = nat_lt w.current (width_of plan) && nat_lt w.all WINDOW
 
 -- a request is to be sent, as soon as there is room
-abbrev pub order_room : Plan → Progress → Waiting → Order → Order
-order_room plan p w order = if has_room plan w then order else order_waiting plan p w
+abbrev pub action_room : Plan → Progress → Waiting → Action → Action
+action_room plan p w action = if has_room plan w then action else action_waiting plan p w
 
 -- the next command of a chain goes out where the one before it was answered well, and since that went out no connection was closed, and
 -- it didn't begin anew
 abbrev pub may_go : Progress → Waiting → Bool
-may_go p w = w.well && p.whole
+may_go p w = w.well && p.chain_unbroken
 
 -- each command that was sent is settled
-abbrev pub order_settled : Plan → Progress → Waiting → Order
-order_settled plan p w =
-    if nat_eq p.unsent 0 then order_done plan p
-    else if may_go p w then order_room plan p w Send
+abbrev pub action_settled : Plan → Progress → Waiting → Action
+action_settled plan p w =
+    if nat_eq p.unsent 0 then action_done plan p
+    else if may_go p w then action_room plan p w Send
     else Skip
 
 -- each command of the cycle was sent, or the next one goes out only behind those that were: where some wait, and all that wait are
 -- given up, a null procedure goes out, whose reply settles them
-abbrev pub order_sent : Plan → Progress → Waiting → Order
-order_sent plan p w =
-    if nat_eq w.commands 0 then order_settled plan p w
-    else if nat_eq w.current 0 then order_room plan p w Flush
-    else order_waiting plan p w
+abbrev pub action_sent : Plan → Progress → Waiting → Action
+action_sent plan p w =
+    if nat_eq w.commands 0 then action_settled plan p w
+    else if nat_eq w.current 0 then action_room plan p w Flush
+    else action_waiting plan p w
 
 -- it has begun: commands go out
-abbrev pub order_begun : Plan → Progress → Waiting → Order
-order_begun plan p w = if nat_lt 0 p.unsent && not p.bound then order_room plan p w Send else order_sent plan p w
+abbrev pub action_begun : Plan → Progress → Waiting → Action
+action_begun plan p w = if nat_lt 0 p.unsent && not p.next_is_chained then action_room plan p w Send else action_sent plan p w
 
 -- the null procedures of its beginning go out first
-abbrev pub order_ready : Plan → Progress → Waiting → Order
-order_ready plan p w = if has_begun p then order_begun plan p w else order_beginning plan p w
+abbrev pub action_ready : Plan → Progress → Waiting → Action
+action_ready plan p w = if has_begun p then action_begun plan p w else action_beginning plan p w
 
 -- with turns left, and a moment that was told after all that was done
-abbrev pub order_told : Plan → Phase → Progress → Waiting → Order
-order_told plan phase.Down p w = Open
-order_told plan phase.Pausing p w = Read Limit
-order_told plan phase.Clearing p w = Clear
-order_told plan phase.Draining p w = Read Limit
-order_told plan phase.Ready p w = order_ready plan p w
-order_told plan (phase.Closing cause) p w = Close cause
-order_told plan (phase.Over cause) p w = Stop cause
+abbrev pub action_told : Plan → Phase → Progress → Waiting → Action
+action_told plan phase.Down p w = Open
+action_told plan phase.Pausing p w = Read Limit
+action_told plan phase.Clearing p w = Clear
+action_told plan phase.Draining p w = Read Limit
+action_told plan phase.Ready p w = action_ready plan p w
+action_told plan (phase.Closing cause) p w = Close cause
+action_told plan (phase.Over cause) p w = Stop cause
 
 -- where all turns are used up
-abbrev pub order_up : Bool → Order
-order_up true = Close Turns
-order_up false = Stop Turns
+abbrev pub action_up : Bool → Action
+action_up true = Close Turns
+action_up false = Stop Turns
 
 -- where the end isn't decided
-abbrev pub order_on : Plan → Progress → Waiting → Order
-order_on plan p w =
-    if nat_eq p.turns 0 then order_up (is_up p.phase)
+abbrev pub action_on : Plan → Progress → Waiting → Action
+action_on plan p w =
+    if nat_eq p.turns 0 then action_up (is_up p.phase)
     else if p.stale then ReadClock
-    else order_told plan p.phase p w
+    else action_told plan p.phase p w
 
-abbrev pub order_in : Phase → Plan → Progress → Waiting → Order
-order_in (phase.Over cause) plan p w = Stop cause
-order_in (phase.Closing cause) plan p w = Close cause
-order_in _ plan p w = order_on plan p w
+abbrev pub action_in : Phase → Plan → Progress → Waiting → Action
+action_in (phase.Over cause) plan p w = Stop cause
+action_in (phase.Closing cause) plan p w = Close cause
+action_in _ plan p w = action_on plan p w
 
 -- what is next
-abbrev pub order_of : Plan → Progress → Waiting → Order
-order_of plan p w = order_in p.phase plan p w
+abbrev pub action_of : Plan → Progress → Waiting → Action
+action_of plan p w = action_in p.phase plan p w

@@ -8,11 +8,11 @@ use Rattle.gc_station.specs.declared.plan.Plan.{Plan}
 use Rattle.gc_station.specs.declared.cause.Cause.{Cause}
 use Rattle.gc_station.specs.declared.cause.Cause.TheVariants.{Done}
 use Rattle.gc_station.specs.declared.mark.Mark.{Mark}
-use Rattle.gc_station.specs.declared.progress.Order.TheVariants.{Stop}
+use Rattle.gc_station.specs.declared.progress.Action.TheVariants.{Stop}
 use Rattle.gc_links.specs.Acts.{Act}
 use Rattle.gc_station.specs.Records.{Record}
 use Rattle.gc_station.specs.Runs.{stood}
-use Rattle.gc_station.specs.Standing.{Standing, order_at, cycles_begun, place_next}
+use Rattle.gc_station.specs.Model.{Model, action_at, cycles_begun, place_next}
 use Rattle.gc_station.specs.Scopes.{Scope}
 use Rattle.gc_texts.specs.declared.commands.Command.{Command}
 
@@ -60,19 +60,20 @@ still_waiting (None ∷ marks) (p ∷ others) = still_waiting marks others
 still_waiting (Some mark ∷ marks) (p ∷ others) = of_waiting mark p ∷ still_waiting marks others
 
 -- the records, and behind them the commands that wait, are the commands that were sent
-abbrev pub IsEachOnce : Plan → List Task → Standing → Type 0
+abbrev pub IsEachOnce : Plan → List Task → Model → Type 0
 IsEachOnce plan commands s =
     map of_record s.records ++ still_waiting s.marks s.client.waiting ≡ sent_by commands (cycles_begun plan s.progress) (place_next commands s.progress)
 
 -- after each run, and where it stopped: nothing waits, and where it is done all commands of all cycles were sent
 pub record EachOnce (plan : Plan) (commands : List Task) (scope : Scope) (acts : List Act) : Type 0 where
   pub each : IsEachOnce plan commands (stood plan commands scope acts)
-  pub settled : (cause : Cause) → order_at plan (stood plan commands scope acts) ≡ Stop cause
-      → map of_record (stood plan commands scope acts).records ≡ sent_by commands (cycles_begun plan (stood plan commands scope acts).progress) (place_next commands (stood plan commands scope acts).progress)
-  pub done : order_at plan (stood plan commands scope acts) ≡ Stop Done → map of_record (stood plan commands scope acts).records ≡ all_cycles commands plan.cycles
+  pub settled : (cause : Cause) → action_at plan (stood plan commands scope acts) ≡ Stop cause
+      → map of_record (stood plan commands scope acts).records ≡ sent_by commands (cycles_begun plan (stood plan commands scope acts).progress)
+      (place_next commands (stood plan commands scope acts).progress)
+  pub done : action_at plan (stood plan commands scope acts) ≡ Stop Done → map of_record (stood plan commands scope acts).records ≡ all_cycles commands plan.cycles
 
 -- a station is further than it was: in a later cycle, or at a later place in the same
-abbrev pub IsFurther : Plan → List Task → Standing → Standing → Type 0
+abbrev pub IsFurther : Plan → List Task → Model → Model → Type 0
 IsFurther plan commands s t =
     (cycles_begun plan s.progress < cycles_begun plan t.progress)
     ⊎ ((cycles_begun plan s.progress ≡ cycles_begun plan t.progress) × (place_next commands s.progress < place_next commands t.progress))

@@ -12,13 +12,13 @@ use Rattle.gc_texts.specs.declared.tasks.Task.{Task}
 use Rattle.gc_station.specs.declared.cause.Cause.{Cause}
 use Rattle.gc_links.specs.declared.link.Moment.{Moment}
 use Rattle.gc_station.specs.declared.plan.Plan.{Plan}
-use Rattle.gc_station.specs.declared.progress.Order.TheVariants.{Renew, Send, Stop}
+use Rattle.gc_station.specs.declared.progress.Action.TheVariants.{Renew, Send, Stop}
 use Rattle.gc_links.specs.Acts.{Act, Told, Gave, Silent}
 use Rattle.gc_station.specs.Answers.{deadline_behind}
 use Rattle.gc_station.specs.Quiet.{IsAsking}
 use Rattle.gc_station.specs.Records.{Record}
 use Rattle.gc_station.specs.Runs.{stood}
-use Rattle.gc_station.specs.Standing.{Puts, order_at, cycles_begun, place_next, request_text, lines_behind}
+use Rattle.gc_station.specs.Model.{Puts, action_at, cycles_begun, place_next, request_text, lines_behind}
 use Rattle.gc_station.specs.Scopes.{Scope}
 
 -- an act tells a moment at or past this one
@@ -39,7 +39,7 @@ pub record TellsPast (deadline : ℕ) (acts : List Act) : Type 0 where
 -- behind these acts, this act puts the very request of a record: of its cycle and place, behind the moment that the record has for it, and
 -- for its call
 pub record IsOwnRequest (plan : Plan) (commands : List Task) (scope : Scope) (acts : List Act) (act : Act) (r : Record) : Type 0 where
-  pub sends : order_at plan (stood plan commands scope acts) ≡ Send
+  pub sends : action_at plan (stood plan commands scope acts) ≡ Send
   pub cycle : r.cycle ≡ cycles_begun plan (stood plan commands scope acts).progress
   pub place : r.place ≡ place_next commands (stood plan commands scope acts).progress
   pub sent : r.sent ≡ Some (stood plan commands scope acts).progress.moment.utc
@@ -80,7 +80,7 @@ pub record IsOvertaken (plan : Plan) (commands : List Task) (scope : Scope) (bef
   pub other : Act
   pub next : List Act
   pub order : between ≡ first ++ other ∷ next
-  pub asks : IsAsking (order_at plan (stood plan commands scope (before ++ request ∷ first)))
+  pub asks : IsAsking (action_at plan (stood plan commands scope (before ++ request ∷ first)))
   pub call : Call
   pub put : Puts (request_text (stood plan commands scope (before ++ request ∷ first)).client call) other
   pub waits : Waits (stood plan commands scope (before ++ request ∷ between)).client (stood plan commands scope (before ++ request ∷ first)).client.next
@@ -91,7 +91,7 @@ pub record IsOvertaken (plan : Plan) (commands : List Task) (scope : Scope) (bef
 
 -- behind these acts the station begins anew at this act: it reads the clock, and seven wait, which are all given up
 pub record BeginsAnew (plan : Plan) (commands : List Task) (scope : Scope) (acts : List Act) (act : Act) : Type 0 where
-  pub renews : order_at plan (stood plan commands scope acts) ≡ Renew
+  pub renews : action_at plan (stood plan commands scope acts) ≡ Renew
   pub moment : Moment
   pub told : act ≡ Told moment
   pub seven : length (stood plan commands scope acts).client.waiting ≡ WINDOW
@@ -101,7 +101,7 @@ pub record BeginsAnew (plan : Plan) (commands : List Task) (scope : Scope) (acts
 pub record IsLast (plan : Plan) (commands : List Task) (scope : Scope) (acts : List Act) (act : Act) (behind : List Act) : Type 0 where
   pub none : behind ≡ []
   pub why : Cause
-  pub stops : order_at plan (stood plan commands scope (acts ++ act ∷ [])) ≡ Stop why
+  pub stops : action_at plan (stood plan commands scope (acts ++ act ∷ [])) ≡ Stop why
 
 -- among these acts the very request of a record was put, and behind it an act wrote the record down: it brought a line with the id of a
 -- request that was put behind that one, or the station begins anew at it, or it is the last act

@@ -3,7 +3,7 @@ use Rattle.std.specs.Prelude.{ℕ, Bool, List, [], ◌∷◌, ◌++◌, if◌the
 use Rattle.gc_texts.specs.declared.tasks.Task.{Task}
 use Rattle.gc_station.specs.declared.plan.Plan.{Plan}
 use Rattle.gc_links.specs.Acts.{Act, Gave, Closed}
-use Rattle.gc_station.specs.Standing.{Standing, opening, is_heard, after}
+use Rattle.gc_station.specs.Model.{Model, opening, is_heard, after}
 use Rattle.gc_station.specs.Scopes.{Scope}
 
 -- the bytes on a connection behind one act more: a read gives more, where bytes are heard, and a close ends the connection
@@ -12,8 +12,8 @@ given_with heard (Gave piece m) bytes = if heard then bytes ++ piece else bytes
 given_with heard Closed bytes = []
 given_with heard act bytes = bytes
 
--- the bytes behind more acts, from a standing on
-abbrev pub given_behind : Plan → List Task → Standing → List ℕ → List Act → List ℕ
+-- the bytes behind more acts, from a model on
+abbrev pub given_behind : Plan → List Task → Model → List ℕ → List Act → List ℕ
 given_behind plan commands s bytes [] = bytes
 given_behind plan commands s bytes (act ∷ acts) = given_behind plan commands (after plan commands s act) (given_with (is_heard s.progress.phase) act bytes) acts
 

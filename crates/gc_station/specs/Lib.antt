@@ -5,7 +5,7 @@ pub mod Marks
 pub mod Lines
 pub mod Deciding
 pub mod Progressing
-pub mod Standing
+pub mod Model
 pub mod Tallies
 pub mod Runs
 pub mod EachOnce

@@ -9,7 +9,7 @@ use Rattle.gc_station.specs.Parts.{Part, mark_of, parts_of}
 use Rattle.gc_station.specs.Records.{Record}
 use Rattle.gc_station.specs.Runs.{stood}
 use Rattle.gc_station.specs.Scopes.{Scope}
-use Rattle.gc_station.specs.Standing.{Runs, is_chained, opening}
+use Rattle.gc_station.specs.Model.{Runs, is_chained, opening}
 use Rattle.gc_station.specs.declared.mark.Mark.{Mark}
 use Rattle.gc_station.specs.declared.plan.Plan.{Plan}
 

@@ -8,14 +8,14 @@ use Rattle.gc_texts.specs.declared.tasks.Task.{Task}
 use Rattle.gc_texts.specs.Endings.{End, Answered, Unreadable, Late, Lost, Skipped, Missed}
 use Rattle.gc_station.specs.declared.plan.Plan.{Plan}
 use Rattle.gc_station.specs.declared.mark.Mark.{Mark}
-use Rattle.gc_station.specs.declared.progress.Order.{Order}
-use Rattle.gc_station.specs.declared.progress.Order.TheVariants as order
+use Rattle.gc_station.specs.declared.progress.Action.{Action}
+use Rattle.gc_station.specs.declared.progress.Action.TheVariants as action
 use Rattle.gc_links.specs.Acts.{Act, Told, Put, Cut, Gave, Silent}
 use Rattle.gc_station.specs.Deciding.{later, has_begun}
 use Rattle.gc_station.specs.EachOnce.{of_task}
 use Rattle.gc_station.specs.Progressing.{loses_all}
 use Rattle.gc_station.specs.Records.{Record}
-use Rattle.gc_station.specs.Standing.{Standing, order_at, place_next, mark_next, lines_behind, is_heard, after}
+use Rattle.gc_station.specs.Model.{Model, action_at, place_next, mark_next, lines_behind, is_heard, after}
 
 -- what happens while it begins: the null procedure that is asked for goes out, whole or in part; or a line is heard
 pub data Turn : Type 0 where
@@ -50,11 +50,11 @@ abbrev pub asking_first : ℕ → Mark → List Task → Part
 asking_first now mark [] = nothing
 asking_first now mark (task ∷ others) = asking task.command.target task.command.call (later now task.deadline) (Some mark)
 
--- bytes are put by this order, all of them or a part: the line of a request with which a station settles others, or of the
+-- bytes are put by this action, all of them or a part: the line of a request with which a station settles others, or of the
 -- next command; a line feed is no request
-abbrev pub putting : Plan → List Task → Standing → Order → Part
-putting plan commands s order.Flush = asking 0 NullProc (later s.progress.moment.elapsed plan.deadline) None
-putting plan commands s order.Send =
+abbrev pub putting : Plan → List Task → Model → Action → Part
+putting plan commands s action.Flush = asking 0 NullProc (later s.progress.moment.elapsed plan.deadline) None
+putting plan commands s action.Send =
     asking_first s.progress.moment.elapsed (mark_next plan commands s.progress) (drop (place_next commands s.progress) commands)
 putting plan commands s _ = nothing
 
@@ -63,28 +63,28 @@ abbrev pub hearing : Bool → List ℕ → List ℕ → List Step
 hearing true rest piece = map Hear (lines_behind rest piece)
 hearing false rest piece = []
 
--- an act of this order once it has begun. A moment gives up what has reached its deadline, before the piece that came with it is heard
-abbrev pub doing : Plan → List Task → Standing → Order → Act → Part
-doing plan commands s order (Told m) = only (Expire m.elapsed ∷ [])
-doing plan commands s order (Silent m) = only (Expire m.elapsed ∷ [])
-doing plan commands s order (Gave piece m) = only (Expire m.elapsed ∷ hearing (is_heard s.progress.phase) s.rest piece)
-doing plan commands s order (Put bytes) = putting plan commands s order
-doing plan commands s order (Cut bytes count) = putting plan commands s order
-doing plan commands s order _ = nothing
+-- an act of this action once it has begun. A moment gives up what has reached its deadline, before the piece that came with it is heard
+abbrev pub doing : Plan → List Task → Model → Action → Act → Part
+doing plan commands s action (Told m) = only (Expire m.elapsed ∷ [])
+doing plan commands s action (Silent m) = only (Expire m.elapsed ∷ [])
+doing plan commands s action (Gave piece m) = only (Expire m.elapsed ∷ hearing (is_heard s.progress.phase) s.rest piece)
+doing plan commands s action (Put bytes) = putting plan commands s action
+doing plan commands s action (Cut bytes count) = putting plan commands s action
+doing plan commands s action _ = nothing
 
--- an act of this order while it begins: the null procedure that is asked for is put, all of it or a part; a piece is heard line by line
-abbrev pub beginning : Standing → Order → Act → Part
-beginning s order.Ask (Put bytes) = only_turns (Asks ∷ [])
-beginning s order.Ask (Cut bytes count) = only_turns (Asks ∷ [])
-beginning s (order.Read until) (Gave piece m) = only_turns (if is_heard s.progress.phase then map Hears (lines_behind s.rest piece) else [])
-beginning s order act = nothing
+-- an act of this action while it begins: the null procedure that is asked for is put, all of it or a part; a piece is heard line by line
+abbrev pub beginning : Model → Action → Act → Part
+beginning s action.Ask (Put bytes) = only_turns (Asks ∷ [])
+beginning s action.Ask (Cut bytes count) = only_turns (Asks ∷ [])
+beginning s (action.Read until) (Gave piece m) = only_turns (if is_heard s.progress.phase then map Hears (lines_behind s.rest piece) else [])
+beginning s action act = nothing
 
--- an act of this order
-abbrev pub acting : Plan → List Task → Standing → Order → Act → Part
-acting plan commands s order act = if has_begun s.progress then doing plan commands s order act else beginning s order act
+-- an act of this action
+abbrev pub acting : Plan → List Task → Model → Action → Act → Part
+acting plan commands s action act = if has_begun s.progress then doing plan commands s action act else beginning s action act
 
 -- a part ends behind this act, where all that wait are lost: it begins anew, or no act follows. While it begins, nothing waits
-abbrev pub ends_part : Plan → List Task → Standing → Act → Bool
+abbrev pub ends_part : Plan → List Task → Model → Act → Bool
 ends_part plan commands s act = has_begun s.progress && loses_all (after plan commands s act).progress
 
 -- an act in front of the parts behind it
@@ -94,10 +94,10 @@ in_front p false [] = p ∷ []
 in_front p false (q ∷ parts) = joined p q ∷ parts
 
 -- acts, from where a station stands, in parts
-abbrev pub parts_of : Plan → List Task → Standing → List Act → List Part
+abbrev pub parts_of : Plan → List Task → Model → List Act → List Part
 parts_of plan commands s [] = nothing ∷ []
 parts_of plan commands s (act ∷ acts) =
-    in_front (acting plan commands s (order_at plan s) act) (ends_part plan commands s act) (parts_of plan commands (after plan commands s act) acts)
+    in_front (acting plan commands s (action_at plan s) act) (ends_part plan commands s act) (parts_of plan commands (after plan commands s act) acts)
 
 -- what a request asks that has this mark: it is a command, or a null procedure
 abbrev pub IsOf : List Task → Option Mark → Asked → Type 0
@@ -119,11 +119,12 @@ went_out Lost = true
 went_out Skipped = false
 went_out Missed = false
 
--- the records of commands that went out
+-- with this record in front, where its command went out
 abbrev pub sent_with : Bool → Record → List Record → List Record
 sent_with true r rs = r ∷ rs
 sent_with false r rs = rs
 
+-- the records of commands that went out, in order
 abbrev pub sent_of : List Record → List Record
 sent_of [] = []
 sent_of (r ∷ rs) = sent_with (went_out r.end) r (sent_of rs)

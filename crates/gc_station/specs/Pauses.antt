@@ -3,12 +3,12 @@ use Rattle.std.specs.Prelude.{◌≡◌, ◌⊎◌, ℕ, zero, suc, ◌+◌, ◌
 use Rattle.gc_texts.specs.declared.tasks.Task.{Task}
 use Rattle.gc_links.specs.Acts.{Act}
 use Rattle.gc_station.specs.Progressing.{at_start, is_spared, again, gave}
-use Rattle.gc_station.specs.Standing.{Standing, moved}
+use Rattle.gc_station.specs.Model.{Model, moved}
 use Rattle.gc_station.specs.declared.cause.Cause.{Cause}
 use Rattle.gc_station.specs.declared.cause.Cause.TheVariants as cause
 use Rattle.gc_station.specs.declared.plan.Plan.{Plan}
-use Rattle.gc_station.specs.declared.progress.Order.{Order}
-use Rattle.gc_station.specs.declared.progress.Order.TheVariants.{Open, Read, Close}
+use Rattle.gc_station.specs.declared.progress.Action.{Action}
+use Rattle.gc_station.specs.declared.progress.Action.TheVariants.{Open, Read, Close}
 use Rattle.gc_station.specs.declared.progress.Phase.TheVariants as phase
 use Rattle.gc_station.specs.declared.progress.Progress.{Progress}
 use Rattle.gc_station.specs.declared.progress.Until.{Until}
@@ -25,8 +25,8 @@ abbrev pub pause_behind : Plan → ℕ → ℕ
 pause_behind plan zero = 0
 pause_behind plan (suc n) = max (min (doubled n plan.quiet) 60000) plan.quiet
 
--- other orders than these touch neither the tries nor the pause
-abbrev pub LeavesTries : Order → Type 0
+-- other actions than these touch neither the tries nor the pause
+abbrev pub LeavesTries : Action → Type 0
 LeavesTries Open = ⊥
 LeavesTries (Read until) = ⊥
 LeavesTries (Close why) = ⊥
@@ -51,5 +51,5 @@ pub record TriesAndPausesAreCounted : Type 0 where
       → ((gave plan until before after p).tries ≡ plan.retries) × ((gave plan until before after p).pause ≡ pause_behind plan 0)
   pub unsettled : (plan : Plan) (until : Until) (before : ℕ) (after : Waiting) (p : Progress) → before ≤ after.commands
       → ((gave plan until before after p).tries ≡ p.tries) × ((gave plan until before after p).pause ≡ p.pause)
-  pub other : (plan : Plan) (commands : List Task) (order : Order) (s : Standing) (act : Act) → LeavesTries order
-      → ((moved plan commands order s act).progress.tries ≡ s.progress.tries) × ((moved plan commands order s act).progress.pause ≡ s.progress.pause)
+  pub other : (plan : Plan) (commands : List Task) (action : Action) (s : Model) (act : Act) → LeavesTries action
+      → ((moved plan commands action s act).progress.tries ≡ s.progress.tries) × ((moved plan commands action s act).progress.pause ≡ s.progress.pause)

@@ -33,8 +33,8 @@ at_start plan turns = record {
   missed = false;
   left = plan.cycles;
   unsent = 0;
-  bound = false;
-  whole = false;
+  next_is_chained = false;
+  chain_unbroken = false;
   tries = plan.retries;
   pause = 0;
   turns = turns;
@@ -73,17 +73,17 @@ begun plan count m p =
       early = false;
       left = p.left - 1;
       unsent = count;
-      bound = is_missing plan m p;
-      whole = false;
+      next_is_chained = is_missing plan m p;
+      chain_unbroken = false;
     }
 
 -- the moment in the record of a command that isn't sent: that at which its cycle was due, where that is missed, and else this one
 abbrev pub skipped_at : Moment → Progress → ℕ
 skipped_at m p = if p.missed then p.due else m.utc
 
--- the next command isn't sent. `bound`: the one behind it goes out only once this one was answered well
+-- the next command isn't sent. `next_is_chained`: the one behind it goes out only once this one was answered well
 abbrev pub skipped : Bool → Moment → Progress → Progress
-skipped bound m p = let q = told m p in record q { unsent = p.unsent - 1; bound = bound; whole = false }
+skipped next_is_chained m p = let q = told m p in record q { unsent = p.unsent - 1; next_is_chained = next_is_chained; chain_unbroken = false }
 
 -- it can't go on, for this cause: the connection is to be closed, and where there is none it is over
 abbrev pub failing : Cause → Progress → Progress
@@ -117,7 +117,7 @@ again plan commands why p = record p {
   stale = true;
   tries = if is_spared plan why p then p.tries else p.tries - 1;
   pause = pause_again plan why p;
-  whole = false;
+  chain_unbroken = false;
 }
 
 -- the line feed went out. A connection is drained, unless a beginning goes on with it
@@ -135,11 +135,11 @@ null_sent plan p = let q = asking p in record q { again = later p.moment.elapsed
 -- it begins anew at this moment: no null procedure of the beginning is answered, and no chain goes on. Where nothing more is asked
 -- before the next cycle is due, the time of a dead line begins with the first null procedure
 abbrev pub renewed : Plan → Moment → Progress → Progress
-renewed plan m p = let q = told m p in record q { word = the_word; again = 0; asked = p.asked && goes_on plan q; whole = false }
+renewed plan m p = let q = told m p in record q { word = the_word; again = 0; asked = p.asked && goes_on plan q; chain_unbroken = false }
 
--- the next command went out. `bound`: the one behind it goes out only once this one was answered well
+-- the next command went out. `next_is_chained`: the one behind it goes out only once this one was answered well
 abbrev pub sent : Bool → Progress → Progress
-sent bound p = let q = asking p in record q { unsent = p.unsent - 1; bound = bound; whole = true }
+sent next_is_chained p = let q = asking p in record q { unsent = p.unsent - 1; next_is_chained = next_is_chained; chain_unbroken = true }
 
 -- a line was heard. A reply line shows that the line is alive
 abbrev pub noted : Bool → Progress → Progress
@@ -207,7 +207,7 @@ reckoned_early plan commands p = record p { early = p.early || (nat_eq commands 
 
 -- no other connection is made
 abbrev pub ended_for : Cause → Progress → Progress
-ended_for why p = record p { phase = phase.Over why; whole = false }
+ended_for why p = record p { phase = phase.Over why; chain_unbroken = false }
 
 -- the connection was closed: for these causes for good, and for any other to be made again
 abbrev pub closed : Plan → Waiting → Cause → Progress → Progress

@@ -2,8 +2,8 @@
 use Rattle.std.specs.Prelude.{◌≡◌, ◌≢◌, ℕ, ◌-◌, ◌≤◌, List, [], ◌∷◌, ◌++◌}
 use Rattle.std.specs.List.{AllByRecursion}
 use Rattle.gc_links.specs.declared.link.Moment.{Moment}
-use Rattle.gc_station.specs.declared.progress.Order.{Order}
-use Rattle.gc_station.specs.declared.progress.Order.TheVariants.{Send, Flush}
+use Rattle.gc_station.specs.declared.progress.Action.{Action}
+use Rattle.gc_station.specs.declared.progress.Action.TheVariants.{Send, Flush}
 use Rattle.gc_links.specs.Acts.{Act, Told, Put, Cut, Gave, Silent, Closed, Opened, Unopened}
 
 -- a request goes out, whole or in part: bytes that aren't the lone line feed
@@ -13,7 +13,7 @@ IsRequest (Cut bytes count) = bytes ≢ 10 ∷ []
 IsRequest _ = ⊥
 
 -- the next command goes out, or a null procedure behind some that are all given up: a request of the client, and none of a beginning
-abbrev pub IsAsking : Order → Type 0
+abbrev pub IsAsking : Action → Type 0
 IsAsking Send = Unit {0}
 IsAsking Flush = Unit {0}
 IsAsking _ = ⊥

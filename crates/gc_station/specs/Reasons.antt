@@ -5,8 +5,8 @@ use Rattle.gc_station.specs.declared.plan.Plan.{Plan}
 use Rattle.gc_station.specs.declared.cause.Cause.{Cause}
 use Rattle.gc_station.specs.declared.cause.Cause.TheVariants.{Done, Dead, Turns}
 use Rattle.gc_station.specs.declared.progress.Phase.TheVariants as phase
-use Rattle.gc_station.specs.declared.progress.Order.{Order}
-use Rattle.gc_station.specs.declared.progress.Order.TheVariants as order
+use Rattle.gc_station.specs.declared.progress.Action.{Action}
+use Rattle.gc_station.specs.declared.progress.Action.TheVariants as action
 use Rattle.gc_station.specs.declared.progress.Progress.{Progress}
 use Rattle.gc_station.specs.declared.progress.Waiting.{Waiting}
 use Rattle.gc_station.specs.Deciding.{width_of, has_begun, is_up, is_idle, is_dead, may_go}
@@ -17,7 +17,7 @@ HasRoom plan w = (w.current < width_of plan) × (w.all < WINDOW)
 
 -- each command of the cycle was sent, or the next one is of a chain whose last command went out
 abbrev pub IsHeld : Progress → Type 0
-IsHeld p = (p.unsent ≡ 0) ⊎ (p.bound ≡ true)
+IsHeld p = (p.unsent ≡ 0) ⊎ (p.next_is_chained ≡ true)
 
 -- no command may go out: it hasn't begun; there is no room; or each command of the cycle was
 -- sent, or the next one waits for the answer of the one before it in its chain, and some wait, not all of them given up
@@ -28,7 +28,7 @@ NothingMayGo plan p w =
 -- the next command may go out: it is the first of its chain, or all that went out are settled, the one before it was answered well,
 -- and since that went out no connection was closed, and it didn't begin anew
 abbrev pub MayGo : Progress → Waiting → Type 0
-MayGo p w = (p.bound ≡ false) ⊎ ((w.commands ≡ 0) × (w.well ≡ true) × (p.whole ≡ true))
+MayGo p w = (p.next_is_chained ≡ false) ⊎ ((w.commands ≡ 0) × (w.well ≡ true) × (p.chain_unbroken ≡ true))
 
 -- the connection is to be closed though no call of the link failed: all is done; all turns are used up; or no command
 -- may go out, and the line is dead
@@ -38,19 +38,19 @@ IsAtItsEnd plan p w Dead = NothingMayGo plan p w × (is_dead plan p w ≡ true)
 IsAtItsEnd plan p w Turns = p.turns ≡ 0
 IsAtItsEnd plan p w _ = ⊥
 
--- where an order is next, with so many requests waiting
-abbrev pub IsFor : Plan → Progress → Waiting → Order → Type 0
-IsFor plan p w order.ReadClock = Unit {0}
+-- where an action is next, with so many requests waiting
+abbrev pub IsFor : Plan → Progress → Waiting → Action → Type 0
+IsFor plan p w action.ReadClock = Unit {0}
 -- it begins anew where seven wait, which are all given up
-IsFor plan p w order.Renew = (p.phase ≡ phase.Ready) × (has_begun p ≡ true) × (w.current ≡ 0) × (WINDOW ≤ w.all)
-IsFor plan p w order.Begin = (p.phase ≡ phase.Ready) × (has_begun p ≡ true) × (p.unsent ≡ 0) × (w.commands ≡ 0) × (0 < p.left)
-IsFor plan p w order.Open = p.phase ≡ phase.Down
-IsFor plan p w order.Clear = p.phase ≡ phase.Clearing
+IsFor plan p w action.Renew = (p.phase ≡ phase.Ready) × (has_begun p ≡ true) × (w.current ≡ 0) × (WINDOW ≤ w.all)
+IsFor plan p w action.Begin = (p.phase ≡ phase.Ready) × (has_begun p ≡ true) × (p.unsent ≡ 0) × (w.commands ≡ 0) × (0 < p.left)
+IsFor plan p w action.Open = p.phase ≡ phase.Down
+IsFor plan p w action.Clear = p.phase ≡ phase.Clearing
 -- the null procedure of a beginning goes out, and again at its deadline, unless the cycle is done and the next isn't due
-IsFor plan p w order.Ask = (p.phase ≡ phase.Ready) × (has_begun p ≡ false) × (p.again ≤ p.moment.elapsed) × (is_idle plan p ≡ false)
-IsFor plan p w order.Send = (p.phase ≡ phase.Ready) × (has_begun p ≡ true) × (0 < p.unsent) × HasRoom plan w × MayGo p w
-IsFor plan p w order.Skip = (p.phase ≡ phase.Ready) × (has_begun p ≡ true) × (0 < p.unsent) × (w.commands ≡ 0) × (p.bound ≡ true) × (may_go p w ≡ false)
-IsFor plan p w order.Flush = (p.phase ≡ phase.Ready) × (has_begun p ≡ true) × IsHeld p × (0 < w.commands) × (w.current ≡ 0) × HasRoom plan w
-IsFor plan p w (order.Read until) = Unit {0}
-IsFor plan p w (order.Close cause) = (is_up p.phase ≡ true) × ((p.phase ≡ phase.Closing cause) ⊎ IsAtItsEnd plan p w cause)
-IsFor plan p w (order.Stop cause) = (is_up p.phase ≡ false) × ((p.phase ≡ phase.Over cause) ⊎ ((cause ≡ Turns) × (p.turns ≡ 0)))
+IsFor plan p w action.Ask = (p.phase ≡ phase.Ready) × (has_begun p ≡ false) × (p.again ≤ p.moment.elapsed) × (is_idle plan p ≡ false)
+IsFor plan p w action.Send = (p.phase ≡ phase.Ready) × (has_begun p ≡ true) × (0 < p.unsent) × HasRoom plan w × MayGo p w
+IsFor plan p w action.Skip = (p.phase ≡ phase.Ready) × (has_begun p ≡ true) × (0 < p.unsent) × (w.commands ≡ 0) × (p.next_is_chained ≡ true) × (may_go p w ≡ false)
+IsFor plan p w action.Flush = (p.phase ≡ phase.Ready) × (has_begun p ≡ true) × IsHeld p × (0 < w.commands) × (w.current ≡ 0) × HasRoom plan w
+IsFor plan p w (action.Read until) = Unit {0}
+IsFor plan p w (action.Close cause) = (is_up p.phase ≡ true) × ((p.phase ≡ phase.Closing cause) ⊎ IsAtItsEnd plan p w cause)
+IsFor plan p w (action.Stop cause) = (is_up p.phase ≡ false) × ((p.phase ≡ phase.Over cause) ⊎ ((cause ≡ Turns) × (p.turns ≡ 0)))

@@ -2,10 +2,13 @@
 use Rattle.std.specs.Prelude.{◌≡◌, ℕ, ◌<◌, List, ◌∷◌, ◌++◌, length, take, Option, Result, Ok, Err}
 use Rattle.std.specs.List.{flat_map}
 use Rattle.std.specs.Io.KnownBytes.{Appends}
-use Rattle.gc_station.specs.declared.book.Stamp.{Stamp}
+use Rattle.gc_texts.specs.declared.stamp.Stamp.{Stamp}
 use Rattle.gc_texts.specs.declared.commands.Command.{Command}
 use Rattle.gc_texts.specs.declared.ending.Ending.{Ending}
 use Rattle.gc_texts.specs.Endings.{End, ending_seen}
+use Rattle.gc_catalogue.specs.declared.answer.Reading.{Reading}
+use Rattle.gc_catalogue.specs.declared.call.Call.{Call}
+use Rattle.gc_station.specs.Scopes.{AreReadings}
 
 -- the end of a command: the moment told last before its request went out, where it did; when its end was told, of which cycle and place it
 -- was, what it asked and whom, and how it ended
@@ -45,3 +48,9 @@ pub record WritesPart (text : Record → List ℕ) (before all : List Record) (o
 abbrev pub WritesAll : {X E : Type 0} → (Record → List ℕ) → List Record → List Record → Option (List ℕ) → Option (List ℕ) → Result X E → Type 0
 WritesAll text before all old new (Ok _) = Appends old new (texts_of text all)
 WritesAll text before all old new (Err _) = WritesPart text before all old new
+
+-- whatever replies say: a book that had taken the texts of some records wrote these behind them; or it failed, and wrote a part of them
+abbrev pub WritesNews : {X E : Type 0} → (Record → List ℕ) → (old new : Option (List ℕ)) → (news : (Call → List ℕ → Reading) → List Record) → Result X E → Type 0
+WritesNews text old new news result =
+    (reads : Call → List ℕ → Reading) (start : Option (List ℕ)) (before : List Record)
+    → AreReadings reads → Appends start old (texts_of text before) → WritesAll text before (before ++ news reads) start new result

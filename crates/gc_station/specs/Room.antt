@@ -7,11 +7,11 @@ use Rattle.gc_links.specs.Acts.{Act}
 use Rattle.gc_station.specs.Quiet.{IsAsking}
 use Rattle.gc_station.specs.Runs.{stood}
 use Rattle.gc_station.specs.Scopes.{Scope}
-use Rattle.gc_station.specs.Standing.{order_at}
+use Rattle.gc_station.specs.Model.{action_at}
 
 -- where a request goes out next that isn't a beginning's, fewer are under way than the plan's width, or none is; and fewer than seven wait in all
 abbrev pub RequestsHaveRoom : Type 0
 RequestsHaveRoom =
-    (plan : Plan) (commands : List Task) (scope : Scope) (acts : List Act) → IsAsking (order_at plan (stood plan commands scope acts))
+    (plan : Plan) (commands : List Task) (scope : Scope) (acts : List Act) → IsAsking (action_at plan (stood plan commands scope acts))
     → ((length (deadlines (stood plan commands scope acts).client.waiting) ≡ 0) ⊎ (length (deadlines (stood plan commands scope acts).client.waiting) < plan.width))
     × (length (stood plan commands scope acts).client.waiting < 7)

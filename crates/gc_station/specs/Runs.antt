@@ -9,24 +9,25 @@ use Rattle.gc_station.specs.declared.cause.Cause.TheVariants.{Done}
 use Rattle.gc_station.specs.Causes.{fault_of}
 use Rattle.gc_station.specs.declared.plan.Plan.{Plan}
 use Rattle.gc_station.specs.declared.cause.Cause.{Cause}
-use Rattle.gc_station.specs.declared.progress.Order.TheVariants.{Stop}
+use Rattle.gc_station.specs.declared.progress.Action.TheVariants.{Stop}
 use Rattle.gc_station.specs.declared.tally.Tally.{Tally}
 use Rattle.gc_links.specs.Acts.{Act, Closed, Tells}
 use Rattle.gc_station.specs.Records.{Record, texts_of, WritesPart}
-use Rattle.gc_station.specs.Standing.{Standing, opening, order_at, after_all, Runs}
+use Rattle.gc_station.specs.Model.{Model, opening, action_at, after_all, Runs}
 use Rattle.gc_station.specs.Tallies.{none_yet, tallied}
 use Rattle.gc_station.specs.Scopes.{Scope}
 
 -- where a station stands after these acts, from the start on
-abbrev pub stood : Plan → List Task → Scope → List Act → Standing
+abbrev pub stood : Plan → List Task → Scope → List Act → Model
 stood plan commands scope acts = after_all plan commands (opening plan scope) acts
 
 -- a link told these acts, each the one that was to be made next; then none was, for this cause; and the book took the records
-pub record RanTo (plan : Plan) (commands : List Task) (scope : Scope) (text : Record → List ℕ) (told told' : Option (List Act)) (taken taken' : Option (List ℕ)) (cause : Cause) (tally : Tally) : Type 0 where
+pub record RanTo (plan : Plan) (commands : List Task) (scope : Scope) (text : Record → List ℕ) (told told' : Option (List Act))
+    (taken taken' : Option (List ℕ)) (cause : Cause) (tally : Tally) : Type 0 where
   pub acts : List Act
   pub tells : Tells told told' acts
   pub runs : Runs plan commands (opening plan scope) acts
-  pub stops : order_at plan (stood plan commands scope acts) ≡ Stop cause
+  pub stops : action_at plan (stood plan commands scope acts) ≡ Stop cause
   pub took : Appends taken taken' (texts_of text (stood plan commands scope acts).records)
   pub counts : tally ≡ tallied none_yet (stood plan commands scope acts).records
 
@@ -47,6 +48,13 @@ pub record LeftAt (plan : Plan) (commands : List Task) (scope : Scope) (text : R
   pub runs : Runs plan commands (opening plan scope) acts
   pub took : Appends taken taken' (texts_of text (stood plan commands scope acts).records)
 
+-- a run stopped for this cause, with this tally; or the book failed
+abbrev pub EndsAs : {E : Type 0} → Plan → List Task → Scope → (Record → List ℕ) → Option (List Act) → Option (List Act) → Option (List ℕ) → Option (List ℕ)
+    → Result (Cause × Tally) E → Type 0
+EndsAs plan commands scope text told told' taken taken' (Ok end) = RanTo plan commands scope text told told' taken taken' end.0 end.1
+EndsAs plan commands scope text told told' taken taken' (Err _) =
+    BrokeAt plan commands scope text told told' taken taken' ⊎ LeftAt plan commands scope text told told' taken taken'
+
 -- a run with this end: it stopped for a cause with this fault, or it is done; or the book failed
 abbrev pub Ran : Plan → List Task → Scope → (Record → List ℕ) → Option (List Act) → Option (List Act) → Option (List ℕ) → Option (List ℕ) → Result Tally RunFault → Type 0
 Ran plan commands scope text told told' taken taken' (Ok tally) = RanTo plan commands scope text told told' taken taken' Done tally
@@ -63,6 +71,6 @@ FailsAtOutput old new (Err fault) = new ≡ old
 
 -- all records last, but where the book failed
 abbrev pub LastsBut : {X : Type 0} → Bool → Result X RunFault → Type 0
-LastsBut lasts (Ok _) = lasts ≡ true
-LastsBut lasts (Err Output) = Unit {0}
-LastsBut lasts (Err fault) = lasts ≡ true
+LastsBut is_durable (Ok _) = is_durable ≡ true
+LastsBut is_durable (Err Output) = Unit {0}
+LastsBut is_durable (Err fault) = is_durable ≡ true

@@ -6,7 +6,7 @@ use Rattle.gc_station.specs.declared.plan.Plan.{Plan}
 use Rattle.gc_links.specs.Acts.{Act, Told, Put, Gave, Silent}
 use Rattle.gc_station.specs.Quiet.{TellsMoment, IsListening, StaysConnected}
 use Rattle.gc_station.specs.Runs.{stood}
-use Rattle.gc_station.specs.Standing.{Standing, is_reply, lines_behind, after}
+use Rattle.gc_station.specs.Model.{Model, is_reply, lines_behind, after}
 use Rattle.gc_station.specs.Scopes.{Scope}
 
 -- the moment that these acts told last, where this one was told before them
@@ -27,7 +27,7 @@ BringsNoReply rest (Gave piece m) = AllByRecursion IsNoReply (lines_behind rest 
 BringsNoReply rest act = Unit {0}
 
 -- none of these acts does, from where a station stands
-abbrev pub IsMute : Plan → List Task → Standing → List Act → Type 0
+abbrev pub IsMute : Plan → List Task → Model → List Act → Type 0
 IsMute plan commands s [] = Unit {0}
 IsMute plan commands s (act ∷ acts) = BringsNoReply s.rest act × IsMute plan commands (after plan commands s act) acts
 

@@ -7,8 +7,8 @@ use Rattle.gc_client.specs.declared.window.TheConstants.{WINDOW}
 use Rattle.gc_texts.specs.declared.tasks.Task.{Task}
 use Rattle.gc_station.specs.declared.plan.Plan.{Plan}
 use Rattle.gc_station.specs.declared.cause.Cause.TheVariants as cause
-use Rattle.gc_station.specs.declared.progress.Order.{Order}
-use Rattle.gc_station.specs.declared.progress.Order.TheVariants.{Send, Skip, Ask, Flush, Stop}
+use Rattle.gc_station.specs.declared.progress.Action.{Action}
+use Rattle.gc_station.specs.declared.progress.Action.TheVariants.{Send, Skip, Ask, Flush, Stop}
 use Rattle.gc_station.specs.declared.progress.Progress.{Progress}
 use Rattle.gc_station.specs.declared.progress.Waiting.{Waiting}
 use Rattle.gc_station.specs.declared.station.Station.{Station}
@@ -18,7 +18,7 @@ use Rattle.gc_station.specs.Marks.{commands_in, last_well}
 use Rattle.gc_station.specs.Scopes.{AreReadings}
 use Rattle.gc_station.specs.Progressing.{turned, failing}
 use Rattle.gc_station.specs.Records.{Record, texts_of, WritesPart}
-use Rattle.gc_station.specs.Standing.{Standing, Obeys, moved, ended, with_progress}
+use Rattle.gc_station.specs.Model.{Model, Performs, moved, ended, with_progress}
 use Rattle.gc_station.specs.Tallies.{none_yet, tallied}
 
 -- how many requests wait
@@ -35,8 +35,8 @@ waiting_in station =
 abbrev pub IsPaired : Station → Type 0
 IsPaired station = length station.marks.items ≡ length station.client.ids.waiting
 
--- a station stands there; how it counted, where replies say what the standing has them say
-pub record Stands (station : Station) (s : Standing) : Type 0 where
+-- a station stands there; how it counted, where replies say what the model has them say
+pub record Refines (station : Station) (s : Model) : Type 0 where
   pub progress : station.progress ≡ s.progress
   pub ids : station.client.ids ≡ s.client
   pub width : station.client.width ≡ WINDOW
@@ -46,12 +46,12 @@ pub record Stands (station : Station) (s : Standing) : Type 0 where
   pub tally : AreReadings s.reads → station.tally ≡ tallied none_yet s.records
   pub well : AreReadings s.reads → station.well ≡ last_well s.reads false s.records
 
--- a book took the records, where replies say what the standing has them say; and the same of a part of them, behind those that stood
+-- a book took the records, where replies say what the model has them say; and the same of a part of them, behind those that stood
 -- there before
-abbrev pub Took : (Record → List ℕ) → Option (List ℕ) → Option (List ℕ) → Standing → Type 0
+abbrev pub Took : (Record → List ℕ) → Option (List ℕ) → Option (List ℕ) → Model → Type 0
 Took text start taken s = AreReadings s.reads → Appends start taken (texts_of text s.records)
 
-abbrev pub TookPart : (Record → List ℕ) → List Record → Option (List ℕ) → Option (List ℕ) → Standing → Type 0
+abbrev pub TookPart : (Record → List ℕ) → List Record → Option (List ℕ) → Option (List ℕ) → Model → Type 0
 TookPart text before start taken s = AreReadings s.reads → WritesPart text before s.records start taken
 
 -- what is seen of a station at a time: what its link told, how its book writes a record and which bytes it took, and the station itself
@@ -64,32 +64,32 @@ pub record Seen : Type 0 where
 abbrev pub seen : Option (List Act) → (Record → List ℕ) → Option (List ℕ) → Station → Seen
 seen acts text taken station = record { acts = acts; text = text; taken = taken; station = station }
 
--- a link told one act of this order, and the station went on as this says; a book took what that writes down
-pub record Makes (commands : List Task) (order : Order) (next : Standing → Act → Standing) (old new : Seen) : Type 0 where
+-- a link told one act of this action, and the station went on as this says; a book took what that writes down
+pub record Makes (commands : List Task) (action : Action) (next : Model → Act → Model) (old new : Seen) : Type 0 where
   pub act : Act
   pub tells : Tells old.acts new.acts (act ∷ [])
-  pub goes : (s : Standing) (start : Option (List ℕ)) → Stands old.station s → Took old.text start old.taken s
-      → Obeys commands s order act × Stands new.station (next s act) × Took new.text start new.taken (next s act)
+  pub goes : (s : Model) (start : Option (List ℕ)) → Refines old.station s → Took old.text start old.taken s
+      → Performs commands s action act × Refines new.station (next s act) × Took new.text start new.taken (next s act)
 
--- a link told one act of this order, and a book failed at a record that this writes down
-pub record Breaks (commands : List Task) (order : Order) (next : Standing → Act → Standing) (old : Seen) (told : Option (List Act)) (taken : Option (List ℕ)) : Type 0 where
+-- a link told one act of this action, and a book failed at a record that this writes down
+pub record Breaks (commands : List Task) (action : Action) (next : Model → Act → Model) (old : Seen) (told : Option (List Act)) (taken : Option (List ℕ)) : Type 0 where
   pub act : Act
   pub tells : Tells old.acts told (act ∷ [])
-  pub goes : (s : Standing) (start : Option (List ℕ)) → Stands old.station s → Took old.text start old.taken s
-      → Obeys commands s order act × TookPart old.text s.records start taken (next s act)
+  pub goes : (s : Model) (start : Option (List ℕ)) → Refines old.station s → Took old.text start old.taken s
+      → Performs commands s action act × TookPart old.text s.records start taken (next s act)
 
 -- one or the other
-abbrev pub Made : {X E : Type 0} → List Task → Order → (Standing → Act → Standing) → Seen → Seen → Result X E → Type 0
-Made commands order next old new (Ok _) = Makes commands order next old new
-Made commands order next old new (Err _) = Breaks commands order next old new.acts new.taken
+abbrev pub Made : {X E : Type 0} → List Task → Action → (Model → Act → Model) → Seen → Seen → Result X E → Type 0
+Made commands action next old new (Ok _) = Makes commands action next old new
+Made commands action next old new (Err _) = Breaks commands action next old new.acts new.taken
 
--- the station did what an act of this order does
-abbrev pub Does : Plan → List Task → Order → Seen → Seen → Type 0
-Does plan commands order old new = Makes commands order (moved plan commands order) old new
+-- the station did what an act of this action does
+abbrev pub Does : Plan → List Task → Action → Seen → Seen → Type 0
+Does plan commands action old new = Makes commands action (moved plan commands action) old new
 
--- a turn with an act of this order
-abbrev pub stepped : Plan → List Task → Order → Standing → Act → Standing
-stepped plan commands order s act = ended (moved plan commands order (with_progress turned s) act)
+-- a turn with an act of this action
+abbrev pub stepped : Plan → List Task → Action → Model → Act → Model
+stepped plan commands action s act = ended (moved plan commands action (with_progress turned s) act)
 
 -- where a write was cut
 abbrev pub cut_progress : Result (Unit {0}) ℕ → ℕ → Progress → Progress
@@ -97,7 +97,7 @@ cut_progress (Ok _) requests p = p
 cut_progress (Err n) requests p = failing (cause.Write requests n) p
 
 -- where a request is to be sent, the window has room, and where it is a command's, one is left; and where it is a beginning's, that hasn't begun
-abbrev pub IsFitting : Progress → ℕ → Order → Type 0
+abbrev pub IsFitting : Progress → ℕ → Action → Type 0
 IsFitting p waiting Send = (0 < p.unsent) × (waiting < WINDOW)
 IsFitting p waiting Skip = 0 < p.unsent
 IsFitting p waiting Ask = has_begun p ≡ false
@@ -105,11 +105,11 @@ IsFitting p waiting Flush = waiting < WINDOW
 IsFitting p waiting _ = Unit {0}
 
 -- a station stands there, and a book took the records; or the book failed at one that didn't stand there before
-abbrev pub Follows : {X E : Type 0} → (Record → List ℕ) → List Record → Station → Option (List ℕ) → Option (List ℕ) → Standing → Result X E → Type 0
-Follows text before station start taken s (Ok _) = Stands station s × Took text start taken s
-Follows text before station start taken s (Err _) = TookPart text before start taken s
+abbrev pub ComesTo : {X E : Type 0} → (Record → List ℕ) → List Record → Station → Option (List ℕ) → Option (List ℕ) → Model → Result X E → Type 0
+ComesTo text before station start taken s (Ok _) = Refines station s × Took text start taken s
+ComesTo text before station start taken s (Err _) = TookPart text before start taken s
 
--- of each order but the last
-abbrev pub OnCall : Order → Type 0 → Type 0
+-- of each action but the last
+abbrev pub OnCall : Action → Type 0 → Type 0
 OnCall (Stop cause) claim = Unit {0}
 OnCall _ claim = claim

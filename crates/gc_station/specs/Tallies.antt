@@ -8,7 +8,7 @@ use Rattle.gc_station.specs.declared.tally.Tally.{Tally}
 abbrev pub none_yet : Tally
 none_yet = record { answered = 0; late = 0; lost = 0; skipped = 0; unreadable = 0; missed = 0 }
 
--- one more, unless it is the greatest count
+-- one more, or 2^64 - 1 where the count is that already (`later` adds up to that)
 abbrev pub one_more : ℕ → ℕ
 one_more n = later n 1
 

@@ -7,7 +7,7 @@ use Rattle.gc_links.specs.declared.link.Moment.{Moment}
 use Rattle.gc_station.specs.declared.plan.Plan.{Plan}
 use Rattle.gc_links.specs.Acts.{Act, Gave, Closed, Opened, Unopened}
 use Rattle.gc_station.specs.Runs.{stood}
-use Rattle.gc_station.specs.Standing.{Standing, after}
+use Rattle.gc_station.specs.Model.{Model, after}
 use Rattle.gc_station.specs.Scopes.{Scope}
 
 -- for another cause than these a run stops only without a try left
@@ -38,12 +38,12 @@ opens_in (Unopened ∷ acts) = suc (opens_in acts)
 opens_in (act ∷ acts) = opens_in acts
 
 -- a read settled no command: no record was written down where one gave bytes
-abbrev pub SettlesNone : Standing → Act → Standing → Type 0
+abbrev pub SettlesNone : Model → Act → Model → Type 0
 SettlesNone s (Gave bytes m) t = t.records ≡ s.records
 SettlesNone s act t = Unit {0}
 
 -- no read among these acts settled a command, from where a station stands
-abbrev pub NoneSettled : Plan → List Task → Standing → List Act → Type 0
+abbrev pub NoneSettled : Plan → List Task → Model → List Act → Type 0
 NoneSettled plan commands s [] = Unit {0}
 NoneSettled plan commands s (act ∷ acts) = SettlesNone s act (after plan commands s act) × NoneSettled plan commands (after plan commands s act) acts
 

@@ -7,24 +7,11 @@ ghost use Rattle.gc_lines.specs.Ports.{FailsWith};
 
 use gc_lines::PortFailed;
 use gc_links::Moment;
-use gc_texts::{Command, Ending};
+use gc_texts::{Command, Ending, Stamp};
 
-/// When a command was sent and its end was told, and which one it was.
+/// The health of the link before an act, for whoever watches the station.
 #[derive(Clone, Copy, Debug, PartialEq, Eq)]
-pub struct Stamp {
-    /// The moment that was told last before its request went out, in milliseconds since 1970-01-01, UTC. None: it was never sent.
-    pub sent: Option<u64>,
-    /// The moment that was told last. Of a command of a missed cycle, the one at which that cycle was due.
-    pub utc: u64,
-    /// The cycle, counted from 1.
-    pub cycle: u64,
-    /// The command's place among the commands of a cycle, counted from 0.
-    pub place: usize,
-}
-
-/// How things stand before an act, for who watches.
-#[derive(Clone, Copy, Debug, PartialEq, Eq)]
-pub enum Sight {
+pub enum LinkHealth {
     /// Requests go out and are answered.
     Fine,
     /// All that is left is to wait for the next cycle.
@@ -53,7 +40,7 @@ pub trait Book {
     ghost failed: { Self → Bool };
 
     /// Whether the records that were written outlast what this book is meant to outlast.
-    ghost lasts: { Self → Bool };
+    ghost is_durable: { Self → Bool };
 
     /// The cycles of which it was told that they overran, where they are known.
     ghost overruns: { Self → Option (List ℕ) } = { λ _. None };
@@ -70,21 +57,21 @@ pub trait Book {
         ensures untold { overruns self.new ≡ overruns self.old }
         ensures form { text self.new ≡ text self.old };
 
-    /// Has what was written outlast what this book is meant to outlast. It is called before each act, and at the end. `Err`: it
-    /// has failed.
-    fn keep(&mut self) -> Result<(), PortFailed>
-        ensures lasts { OnOk result (lasts self.new ≡ true) }
+    /// Makes all that was written last: through a crash, where the book is meant to outlast one. It is called before each act and
+    /// at the end. `Err`: the book has failed.
+    fn sync(&mut self) -> Result<(), PortFailed>
+        ensures is_durable { OnOk result (is_durable self.new ≡ true) }
         ensures same { Keeps (taken self.old) (taken self.new) }
         ensures fails { FailsWith result (failed self.old) (failed self.new) }
         ensures untold { overruns self.new ≡ overruns self.old }
         ensures form { text self.new ≡ text self.old };
 
     /// Is told before each act how things stand, and the moment that was told last.
-    fn sees(&mut self, sight: Sight, moment: Moment)
+    fn sees(&mut self, health: LinkHealth, moment: Moment)
         ensures quiet { overruns self.new ≡ overruns self.old }
         ensures same { taken self.new ≡ taken self.old }
         ensures works { failed self.new ≡ failed self.old }
-        ensures lasts { lasts self.new ≡ lasts self.old }
+        ensures is_durable { is_durable self.new ≡ is_durable self.old }
         ensures form { text self.new ≡ text self.old };
 
     /// Is told that this cycle was not done when the next was due.
@@ -92,6 +79,6 @@ pub trait Book {
         ensures told { Appends (overruns self.old) (overruns self.new) (cycle ∷ []) }
         ensures same { taken self.new ≡ taken self.old }
         ensures works { failed self.new ≡ failed self.old }
-        ensures lasts { lasts self.new ≡ lasts self.old }
+        ensures is_durable { is_durable self.new ≡ is_durable self.old }
         ensures form { text self.new ≡ text self.old };
 }

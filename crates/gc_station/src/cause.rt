@@ -17,7 +17,7 @@ pub enum Cause {
     Read,
     /// The other end closed the connection.
     End,
-    /// A write failed: of the cycle's requests so many had gone out, and so many bytes of what was next went out.
+    /// A write failed: `requests` requests of the cycle had gone out before, and only the first `bytes` bytes of this write.
     Write { requests: usize, bytes: usize },
     /// The clock can't be read.
     Clock,

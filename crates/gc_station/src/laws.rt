@@ -6,7 +6,7 @@ ghost use Rattle.gc_lines.specs.Frames.{rest_of};
 ghost use Rattle.gc_texts.specs.declared.tasks.Task.{Task};
 ghost use Rattle.gc_station.specs.declared.cause.Cause.{Cause};
 ghost use Rattle.gc_station.specs.declared.cause.Cause.TheVariants as cause;
-ghost use Rattle.gc_station.specs.declared.progress.Order.TheVariants.{Send, Skip, Close, Stop};
+ghost use Rattle.gc_station.specs.declared.progress.Action.TheVariants.{Send, Skip, Close, Stop};
 ghost use Rattle.gc_station.specs.declared.plan.Plan.{Plan};
 ghost use Rattle.gc_links.specs.Acts.{Act, Closed};
 ghost use Rattle.gc_station.specs.Answers.{IsTrueRecord};
@@ -27,7 +27,7 @@ ghost use Rattle.gc_station.specs.Quiet.{IsRequest};
 ghost use Rattle.gc_station.specs.Runs.{stood};
 ghost use Rattle.gc_station.specs.Scopes.{Scope, OneReadingForALine};
 ghost use Rattle.gc_station.specs.Silences.{IsMuteFor};
-ghost use Rattle.gc_station.specs.Standing.{opening, order_at, Runs};
+ghost use Rattle.gc_station.specs.Model.{opening, action_at, Runs};
 ghost use Rattle.gc_station.specs.Tries.{IsTried, IsEnding, AllTried};
 
 /// The records of a run, and behind them the requests that wait, are the commands that were sent: cycle by cycle, in
@@ -43,10 +43,10 @@ pub fn each_line_says_one_thing()
     ensures { OneReadingForALine }
 {}
 
-/// Each act of a run is that of the order that was next, and what that order needs was so: where a command was sent, fewer
-/// were under way than the plan has it and fewer than seven waited, and its bytes are the line of the next command of the
-/// cycle; where the null procedure of a beginning went out, nothing waited, the client was new, and its bytes are the line of the
-/// null procedure with the first id that wasn't answered; where it began anew, seven waited that were all given up.
+/// Each act of a run performs the action that was next, and the conditions of that action held. Where a command was sent, fewer
+/// requests were under way than the plan has it, fewer than seven waited in all, and the bytes are the line of the cycle's next
+/// command. Where a null procedure of a beginning was sent, nothing waited, the client was new, and the bytes are the line of the
+/// null procedure with the first id that wasn't answered. Where the station began anew, seven requests waited, all given up.
 pub fn each_act_is_due()
     ensures { (plan : Plan) (commands : List Task) (scope : Scope) (earlier later : List Act) (act : Act)
         → Runs plan commands (opening plan scope) (earlier ++ act ∷ later) → IsReasoned plan commands (stood plan commands scope earlier) act }
@@ -63,14 +63,14 @@ pub fn closes_for_a_cause()
 /// the clock, behind a moment that was told on it.
 pub fn closes_a_dead_line_behind_no_reply()
     ensures { (plan : Plan) (commands : List Task) (scope : Scope) (acts : List Act) → Runs plan commands (opening plan scope) acts
-        → order_at plan (stood plan commands scope acts) ≡ Close cause.Dead → IsMuteFor (patience_of plan) plan commands scope acts }
+        → action_at plan (stood plan commands scope acts) ≡ Close cause.Dead → IsMuteFor (patience_of plan) plan commands scope acts }
 {}
 
 /// Of two requests of commands that were put, the later one is of a later place in its cycle, or of a later cycle: no command
 /// goes out twice in its cycle.
 pub fn each_send_goes_on()
     ensures { (plan : Plan) (commands : List Task) (scope : Scope) (earlier later : List Act) (act : Act)
-        → order_at plan (stood plan commands scope earlier) ≡ Send
+        → action_at plan (stood plan commands scope earlier) ≡ Send
         → IsFurther plan commands (stood plan commands scope earlier) (stood plan commands scope (earlier ++ act ∷ later)) }
 {}
 
@@ -79,7 +79,7 @@ pub fn each_send_goes_on()
 /// request, with both codes 0 and values that read. Where each command's end is written down is `each_command_once`.
 pub fn each_chain_is_kept()
     ensures { (plan : Plan) (commands : List Task) (scope : Scope) (acts : List Act) → Runs plan commands (opening plan scope) acts
-        → order_at plan (stood plan commands scope acts) ≡ Send → IsChained commands (stood plan commands scope acts) → IsLinked plan commands scope acts }
+        → action_at plan (stood plan commands scope acts) ≡ Send → IsChained commands (stood plan commands scope acts) → IsLinked plan commands scope acts }
 {}
 
 /// Each record of an answer is of a line that came with the id of its very request, of the same cycle and place: behind it,
@@ -90,18 +90,17 @@ pub fn answers_come_in_time()
         → Runs plan commands (opening plan scope) acts → AllByRecursion (IsTrueRecord plan commands scope acts) (stood plan commands scope acts).records }
 {}
 
-/// Each record of a request that is late is so: its very request was put, of the same cycle and place; then a moment at or past
-/// its deadline was told, at the latest with the piece that brought the line; then a line came with the request's id, and the act
-/// that brought it is the one at which the record was written.
+/// Each late record is justified: its own request, of the same cycle and place, was put; then a moment at or past its deadline was
+/// told, at the latest with the piece that brought the line; then a line with the request's id came, by the act at which the
+/// record was written.
 pub fn late_ones_came_late()
     ensures { (plan : Plan) (commands : List Task) (scope : Scope) (acts : List Act)
         → Runs plan commands (opening plan scope) acts → AllByRecursion (IsTrulyLate plan commands scope acts) (stood plan commands scope acts).records }
 {}
 
-/// Each record of a request that is lost is so for a cause: its very request was put, of the same cycle and place; and the act at
-/// which the record was written brought a line with the id of another request, which was put behind it and waited; or it read the
-/// clock where seven waited, which were all given up, and the station begins anew there; or it is the last act of the run, which
-/// stops there.
+/// Each lost record has a cause: its own request, of the same cycle and place, was put, and the act at which the record was written
+/// is one of three. It brought a line with the id of a later request that waited; or it read the clock while seven requests waited,
+/// all given up, and the station begins anew there; or it is the last act of the run, which stops there.
 pub fn lost_ones_are_lost_for_a_cause()
     ensures { (plan : Plan) (commands : List Task) (scope : Scope) (acts : List Act)
         → Runs plan commands (opening plan scope) acts → AllByRecursion (IsTrulyLost plan commands scope acts) (stood plan commands scope acts).records }
@@ -114,21 +113,21 @@ pub fn lost_ones_are_lost_for_a_cause()
 /// `each_command_once`.
 pub fn stops_for_a_cause()
     ensures { (plan : Plan) (commands : List Task) (scope : Scope) (acts : List Act) (why : Cause) → Runs plan commands (opening plan scope) acts
-        → order_at plan (stood plan commands scope acts) ≡ Stop why → StopsForACause plan commands scope acts why }
+        → action_at plan (stood plan commands scope acts) ≡ Stop why → StopsForACause plan commands scope acts why }
 {}
 
-/// Where a run stops for another cause than `Done`, the clock and the turns, at a connection that ended or couldn't be made, it used
-/// up its tries: since a read settled a command, or since the start, more connections ended, or couldn't be made, than the plan has
-/// tries. So as many were asked for at least, and one more where none was settled.
+/// Where a run stops at a connection that ended or couldn't be made, and not for `Done`, the clock or the turns, its tries are used
+/// up: since a read last settled a command, or else since the start, more connections ended or couldn't be made than the plan has
+/// `retries`. At least that many were asked for since then, and at least one more where no read settled a command.
 pub fn stops_behind_all_tries()
     ensures { (plan : Plan) (commands : List Task) (scope : Scope) (acts : List Act) (last : Act) (why : Cause) → Runs plan commands (opening plan scope) (acts ++ last ∷ [])
-        → order_at plan (stood plan commands scope (acts ++ last ∷ [])) ≡ Stop why → IsTried why → IsEnding last → AllTried plan commands scope (acts ++ last ∷ []) }
+        → action_at plan (stood plan commands scope (acts ++ last ∷ [])) ≡ Stop why → IsTried why → IsEnding last → AllTried plan commands scope (acts ++ last ∷ []) }
 {}
 
-/// Where a connection is closed, or a run stops, for its turns, it made as many acts.
+/// Where a connection is closed or a run stops because its turns are used up, the run made at least as many acts as it had turns.
 pub fn ends_for_turns_behind_as_many_acts()
     ensures { (plan : Plan) (commands : List Task) (scope : Scope) (acts : List Act) → Runs plan commands (opening plan scope) acts
-        → (order_at plan (stood plan commands scope acts) ≡ Close cause.Turns) ⊎ (order_at plan (stood plan commands scope acts) ≡ Stop cause.Turns)
+        → (action_at plan (stood plan commands scope acts) ≡ Close cause.Turns) ⊎ (action_at plan (stood plan commands scope acts) ≡ Stop cause.Turns)
         → scope.turns ≤ length acts }
 {}
 
@@ -170,13 +169,14 @@ pub fn marks_go_on()
     ensures { MarksGoOn }
 {}
 
-/// A command of a chain goes out in the part of the run in which each one before it went out and was answered well.
+/// When a command of a chain goes out, each earlier command of that chain has gone out in the same part of the run, and was answered
+/// well.
 pub fn chains_stay()
     ensures { ChainsStay }
 {}
 
-/// A command was answered well only where the communication code and the return code of its reply are both 0 and its parameters
-/// read, and it was where they are an answer of its call. One that is late, lost, skipped or missed never was.
+/// A command was answered well exactly where the communication code and the return code of its reply are both 0 and its parameters
+/// read as an answer of its call. One that is late, lost, skipped or missed never was.
 pub fn answered_well_is_both_codes_zero()
     ensures { WellIsBothCodesZero }
 {}
@@ -191,8 +191,8 @@ pub fn each_request_has_room()
     ensures { RequestsHaveRoom }
 {}
 
-/// Where cycles are due at times, each begins at or behind its due moment, by a clock that doesn't go back: the first is due when it
-/// begins, and each other one so long behind the one before it.
+/// Where the plan's `every` is above 0 and the clock doesn't go back, each cycle begins at or after its due moment: the first is due
+/// when it begins, and each further one `every` milliseconds after the one before it was due.
 pub fn cycles_begin_when_due()
     ensures { CyclesBeginWhenDue }
 {}
@@ -202,16 +202,16 @@ pub fn missed_cycles_are_not_sent()
     ensures { SentOnlyInTime }
 {}
 
-/// Each record of a command that is missed is so: its cycle began when the next one was due, or later, and it has the moment at which
-/// its cycle was due. Each record of one that is skipped is so: its cycle wasn't missed; it is of a chain, and not its first; and the
-/// one before it wasn't answered well, or since that went out a connection was closed, or it began anew. Neither was sent.
+/// Each record of a missed or skipped command is justified, and the command wasn't sent. Missed: its cycle began when the next one was
+/// due, or later, and the record has the moment at which its cycle was due. Skipped: its cycle wasn't missed, it isn't the first of its
+/// chain, and the one before it wasn't answered well, or since that went out a connection was closed or the station began anew.
 pub fn unsent_ones_are_so_for_a_cause()
     ensures { UnsentForACause }
 {}
 
-/// Tries and pauses by the failures in a row. A failure takes one try, and without one left the run is over. The pause behind the
-/// first one is the quiet time, and behind each further one twice that of the one before it, up to a minute and never below the quiet
-/// time. A read that settles a command gives all tries back and ends the pause, and nothing else changes either.
+/// How failures in a row are counted. Each takes one try, and one without a try left ends the run. The pause after the first is the
+/// quiet time, and after each further one twice the pause before it, up to a minute and never below the quiet time. A read that
+/// settles a command gives all tries back and resets the pause. Nothing else changes the tries or the pause.
 pub fn tries_and_pauses_are_counted()
     ensures { TriesAndPausesAreCounted }
 {}

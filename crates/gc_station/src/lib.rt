@@ -14,7 +14,7 @@ mod station;
 mod tally;
 mod writing;
 
-pub use book::{Book, Sight, Stamp};
+pub use book::{Book, LinkHealth};
 pub use cause::Cause;
 pub use plan::Plan;
 pub use run::run_station;

@@ -7,7 +7,7 @@ ghost use Rattle.std.specs.Io.KnownBytes.{Appends};
 ghost use Rattle.gc_client.specs.Rule.{IsEarliest, deadlines};
 ghost use Rattle.gc_station.specs.Pace.{dead_at, due_at, retry_at, ends_in, ends_without_deadline, ends_at, patience, cycle_of, overrun, told_then};
 
-use crate::book::{Book, Sight};
+use crate::book::{Book, LinkHealth};
 use crate::plan::Plan;
 use crate::progress::{Phase, Progress, Until, patience_of};
 use crate::progressing::later;
@@ -40,7 +40,7 @@ impl Progress {
         }
     }
 
-    // When a read that brings nothing is over at the latest, whatever deadlines there are.
+    // When a read in this phase ends at the latest if nothing comes, leaving out the deadlines of the requests that wait.
     fn ends(&self, plan: &Plan) -> u64
         ensures { result ≡ ends_in self.now.phase plan.now self.now }
     {
@@ -57,7 +57,7 @@ impl Progress {
         }
     }
 
-    // The same, and where all that is left is to wait for the next cycle, when that is due.
+    // As `ends`; but a read that only waits for the next cycle (`Until::Due`) ends when that is due.
     fn ends_without_deadline(&self, plan: &Plan, until: Until) -> u64
         ensures { result ≡ ends_without_deadline plan.now self.now until }
     {
@@ -67,7 +67,8 @@ impl Progress {
         }
     }
 
-    // When it is over, where this is the next deadline, if a request still has one.
+    // When a read ends at the latest if nothing comes: at `ends_without_deadline`, or at the next deadline of a request if that is
+    // earlier.
     fn ends_at(&self, plan: &Plan, until: Until, deadline: Option<u64>) -> u64
         ensures { result ≡ ends_at plan.now self.now until deadline }
     {
@@ -84,7 +85,8 @@ impl Progress {
         plan.cycles.saturating_sub(self.left)
     }
 
-    // The cycle to be told that wasn't done when the next was due, where this is the last that was told.
+    // The number of the current cycle, where it wasn't done when the next was due and that wasn't told yet: `told` is the last cycle
+    // of which it was.
     fn overrun(&self, plan: &Plan, told: u64) -> Option<u64>
         ensures { result ≡ overrun plan.now self.now told }
     {
@@ -116,14 +118,14 @@ impl Station {
     }
 
     // How things stand.
-    fn sight(&self, plan: &Plan) -> Sight {
+    fn health(&self, plan: &Plan) -> LinkHealth {
         match self.progress.phase {
-            Phase::Down | Phase::Pausing if self.progress.is_idle(plan) => Sight::Idle,
-            Phase::Down | Phase::Pausing => Sight::Unconnected,
-            Phase::Clearing | Phase::Draining => Sight::Unquiet,
-            _ if self.progress.asked => Sight::Unheard,
-            Phase::Ready if self.progress.has_begun() && self.is_done() => Sight::Idle,
-            _ => Sight::Fine,
+            Phase::Down | Phase::Pausing if self.progress.is_idle(plan) => LinkHealth::Idle,
+            Phase::Down | Phase::Pausing => LinkHealth::Unconnected,
+            Phase::Clearing | Phase::Draining => LinkHealth::Unquiet,
+            _ if self.progress.asked => LinkHealth::Unheard,
+            Phase::Ready if self.progress.has_begun() && self.is_done() => LinkHealth::Idle,
+            _ => LinkHealth::Fine,
         }
     }
 
@@ -132,17 +134,17 @@ impl Station {
         self.progress.unsent == 0 && self.commands() == 0
     }
 
-    // Tells a book how things stand, and that the cycle that began last wasn't done when the next was due, once. The cycle that
-    // was told last.
+    // Tells a book the health of the link and, once for each cycle, that the current cycle wasn't done when the next was due.
+    // Returns the last cycle of which that was told.
     pub(crate) fn tell_overrun<B: Book>(&self, book: &mut B, plan: &Plan, told: u64) -> u64
         ensures told { result ≡ told_then told (overrun plan.now self.now.progress told) }
         ensures tells { Appends (B.overruns book.old) (B.overruns book.new) (option_to_list (overrun plan.now self.now.progress told)) }
         ensures taken { B.taken book.new ≡ B.taken book.old }
         ensures failed { B.failed book.new ≡ B.failed book.old }
-        ensures lasts { B.lasts book.new ≡ B.lasts book.old }
+        ensures is_durable { B.is_durable book.new ≡ B.is_durable book.old }
         ensures form { B.text book.new ≡ B.text book.old }
     {
-        book.sees(self.sight(plan), self.progress.moment);
+        book.sees(self.health(plan), self.progress.moment);
         match self.progress.overrun(plan, told) {
             Some(cycle) => {
                 book.overran(cycle);

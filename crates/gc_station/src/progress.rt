@@ -1,10 +1,10 @@
 //! Progress: how far a station is, and what it does next. All decisions are made here, by looking at nothing else.
 //!
-//! The table has the orders that may come in each phase, the first that fits, and the phase behind each. In all phases but `Closing` and
+//! The table has the actions that may come in each phase, the first that fits, and the phase behind each. In all phases but `Closing` and
 //! `Over` two come first: where no turn is left, `Close(Turns)`, or without a connection `Stop(Turns)`; and where something was done since a
 //! moment was told (`stale`), `ReadClock`, which gives up what has reached its deadline. It changes no phase.
 //!
-//! | Phase | Where | Order | It | Next phase |
+//! | Phase | Where | Action | It | Next phase |
 //! |---|---|---|---|---|
 //! | `Down` | | `Open` | makes a connection | `Clearing`; where none could be made, as behind `Close(Open)` |
 //! | `Pausing` | | `Read(Limit)` | waits | `Down`, once the pause is over and a connection is wanted |
@@ -15,7 +15,7 @@
 //! | | the line is dead | `Close(Dead)` | closes the connection | as below |
 //! | | the null procedure of the first id that isn't answered is to go out, for the first time or since its deadline passed | `Ask` | sends it | `Ready` |
 //! | | else | `Read(Limit)` | hears what comes | `Ready`; it has begun once the eighth is answered |
-//! | `Ready`: it has begun | a command is unsent, and not `bound` | with room `Send`, else as where it waits | sends the next command | `Ready` |
+//! | `Ready`: it has begun | a command is unsent, and not `next_is_chained` | with room `Send`, else as where it waits | sends the next command | `Ready` |
 //! | | commands wait, and all that waits is given up | with room `Flush`, else as where it waits | sends a null procedure behind them | `Ready` |
 //! | | commands wait, and something isn't given up | as where it waits | | |
 //! | | no command waits, one is unsent, and may go | with room `Send`, else as where it waits | sends the next command | `Ready` |
@@ -32,9 +32,9 @@
 //! Where a call of the link fails, or a write is cut, `Closing` for that cause follows, and without a connection `Over`.
 
 ghost use Rattle.std.specs.Prelude.{◌≡◌};
-ghost use Rattle.gc_station.specs.Deciding.{width_of, is_up, is_past, is_quiet, has_begun, patience_of, is_dead, is_due, goes_on, is_finished, has_room, may_go, order_of, order_on, order_ready, order_begun, order_beginning, order_room, order_sent, order_settled, order_done, order_waiting};
+ghost use Rattle.gc_station.specs.Deciding.{width_of, is_up, is_past, is_quiet, has_begun, patience_of, is_dead, is_due, goes_on, is_finished, has_room, may_go, action_of, action_on, action_ready, action_begun, action_beginning, action_room, action_sent, action_settled, action_done, action_waiting};
 ghost use Rattle.gc_station.specs.Progressing.{at_start};
-ghost use Rattle.gc_station.specs.Standing.{is_heard};
+ghost use Rattle.gc_station.specs.Model.{is_heard};
 
 use crate::cause::Cause;
 use crate::plan::Plan;
@@ -63,7 +63,7 @@ pub(crate) enum Phase {
 
 /// What a station does next. Each is one call of its link.
 #[derive(Clone, Copy)]
-pub(crate) enum Order {
+pub(crate) enum Action {
     /// To read the clock.
     ReadClock,
     /// To read the clock, and to begin anew: all that wait are lost.
@@ -145,9 +145,9 @@ pub(crate) struct Progress {
     /// How many commands of the cycle were neither sent nor skipped.
     pub unsent: usize,
     /// Whether the next of them goes out only once the command before it was answered well.
-    pub bound: bool,
+    pub next_is_chained: bool,
     /// Whether the command before it went out, and since then no connection was closed and it didn't begin anew.
-    pub whole: bool,
+    pub chain_unbroken: bool,
     /// How many times more it may connect anew.
     pub tries: u32,
     /// How long it pauses, or paused last, before it connects again. 0: a reply settled a command since.
@@ -222,29 +222,29 @@ impl Progress {
             missed: false,
             left: plan.cycles,
             unsent: 0,
-            bound: false,
-            whole: false,
+            next_is_chained: false,
+            chain_unbroken: false,
             tries: plan.retries,
             pause: 0,
             turns: max_turns,
         }
     }
 
-    // Whether so long has passed since bytes came or went, or a connection was closed or couldn't be made.
+    // Whether `wait` milliseconds have passed since bytes last came or went, or a connection was closed or couldn't be made.
     pub(crate) fn is_past(&self, wait: u64) -> bool
         ensures { result ≡ is_past wait self.now }
     {
         wait <= self.moment.elapsed.saturating_sub(self.since)
     }
 
-    // Whether the quiet time has.
+    // Whether the plan's quiet time has passed since then, as `is_past` counts it.
     pub(crate) fn is_quiet(&self, plan: &Plan) -> bool
         ensures { result ≡ is_quiet plan.now self.now }
     {
         self.is_past(plan.quiet)
     }
 
-    // Whether it has begun: all null procedures of its beginning are answered.
+    // Whether the station has begun: each null procedure of its beginning is answered.
     pub(crate) fn has_begun(&self) -> bool
         ensures { result ≡ has_begun self.now }
     {
@@ -277,49 +277,49 @@ impl Progress {
     }
 
     // What is next, where so many requests wait.
-    pub(crate) fn order(&self, plan: &Plan, waiting: Waiting) -> Order
-        ensures { result ≡ order_of plan.now self.now waiting }
+    pub(crate) fn action(&self, plan: &Plan, waiting: Waiting) -> Action
+        ensures { result ≡ action_of plan.now self.now waiting }
     {
         match self.phase {
-            Phase::Over(cause) => Order::Stop(cause),
-            Phase::Closing(cause) => Order::Close(cause),
-            _ => self.order_on(plan, waiting),
+            Phase::Over(cause) => Action::Stop(cause),
+            Phase::Closing(cause) => Action::Close(cause),
+            _ => self.action_on(plan, waiting),
         }
     }
 
-    // Where the end isn't decided.
-    fn order_on(&self, plan: &Plan, waiting: Waiting) -> Order
-        ensures { result ≡ order_on plan.now self.now waiting }
+    // The next action where the connection isn't to be closed and the run isn't over.
+    fn action_on(&self, plan: &Plan, waiting: Waiting) -> Action
+        ensures { result ≡ action_on plan.now self.now waiting }
     {
         if self.turns == 0 {
             return if self.phase.is_up() {
-                Order::Close(Cause::Turns)
+                Action::Close(Cause::Turns)
             } else {
-                Order::Stop(Cause::Turns)
+                Action::Stop(Cause::Turns)
             };
         }
         if self.stale {
-            return Order::ReadClock;
+            return Action::ReadClock;
         }
         match self.phase {
-            Phase::Down => Order::Open,
-            Phase::Pausing => Order::Read(Until::Limit),
-            Phase::Clearing => Order::Clear,
-            Phase::Draining => Order::Read(Until::Limit),
-            Phase::Ready => self.order_ready(plan, waiting),
-            Phase::Closing(cause) => Order::Close(cause),
-            Phase::Over(cause) => Order::Stop(cause),
+            Phase::Down => Action::Open,
+            Phase::Pausing => Action::Read(Until::Limit),
+            Phase::Clearing => Action::Clear,
+            Phase::Draining => Action::Read(Until::Limit),
+            Phase::Ready => self.action_ready(plan, waiting),
+            Phase::Closing(cause) => Action::Close(cause),
+            Phase::Over(cause) => Action::Stop(cause),
         }
     }
 
     // Commands go out, once the null procedures of its beginning are answered.
-    fn order_ready(&self, plan: &Plan, waiting: Waiting) -> Order
-        ensures { result ≡ order_ready plan.now self.now waiting }
+    fn action_ready(&self, plan: &Plan, waiting: Waiting) -> Action
+        ensures { result ≡ action_ready plan.now self.now waiting }
     {
         if self.has_begun() {
-            self.order_begun(plan, waiting)
+            self.action_begun(plan, waiting)
         } else {
-            self.order_beginning(plan, waiting)
+            self.action_beginning(plan, waiting)
         }
     }
 
@@ -332,56 +332,56 @@ impl Progress {
 
     // It begins: the null procedure that is asked for goes out, and again at its deadline. Between cycles nothing goes out, nor where
     // nothing is left to be asked behind it.
-    fn order_beginning(&self, plan: &Plan, waiting: Waiting) -> Order
-        ensures { result ≡ order_beginning plan.now self.now waiting }
+    fn action_beginning(&self, plan: &Plan, waiting: Waiting) -> Action
+        ensures { result ≡ action_beginning plan.now self.now waiting }
     {
         if self.is_finished(waiting.commands) {
-            Order::Close(Cause::Done)
+            Action::Close(Cause::Done)
         } else if self.is_idle(plan) {
-            Order::Read(Until::Due)
+            Action::Read(Until::Due)
         } else if self.is_dead(plan, waiting) {
-            Order::Close(Cause::Dead)
+            Action::Close(Cause::Dead)
         } else if self.again <= self.moment.elapsed {
-            Order::Ask
+            Action::Ask
         } else {
-            Order::Read(Until::Limit)
+            Action::Read(Until::Limit)
         }
     }
 
     // It has begun: commands go out.
-    fn order_begun(&self, plan: &Plan, waiting: Waiting) -> Order
-        ensures { result ≡ order_begun plan.now self.now waiting }
+    fn action_begun(&self, plan: &Plan, waiting: Waiting) -> Action
+        ensures { result ≡ action_begun plan.now self.now waiting }
     {
-        if self.unsent > 0 && !self.bound {
-            self.order_room(plan, waiting, Order::Send)
+        if self.unsent > 0 && !self.next_is_chained {
+            self.action_room(plan, waiting, Action::Send)
         } else {
-            self.order_sent(plan, waiting)
+            self.action_sent(plan, waiting)
         }
     }
 
     // Each command of the cycle was sent, or the next one goes out only behind those that were.
-    fn order_sent(&self, plan: &Plan, waiting: Waiting) -> Order
-        ensures { result ≡ order_sent plan.now self.now waiting }
+    fn action_sent(&self, plan: &Plan, waiting: Waiting) -> Action
+        ensures { result ≡ action_sent plan.now self.now waiting }
     {
         if waiting.commands == 0 {
-            self.order_settled(plan, waiting)
+            self.action_settled(plan, waiting)
         } else if waiting.current == 0 {
-            self.order_room(plan, waiting, Order::Flush)
+            self.action_room(plan, waiting, Action::Flush)
         } else {
-            self.order_waiting(plan, waiting)
+            self.action_waiting(plan, waiting)
         }
     }
 
     // Each command that was sent is settled.
-    fn order_settled(&self, plan: &Plan, waiting: Waiting) -> Order
-        ensures { result ≡ order_settled plan.now self.now waiting }
+    fn action_settled(&self, plan: &Plan, waiting: Waiting) -> Action
+        ensures { result ≡ action_settled plan.now self.now waiting }
     {
         if self.unsent == 0 {
-            self.order_done(plan)
+            self.action_done(plan)
         } else if self.may_go(waiting) {
-            self.order_room(plan, waiting, Order::Send)
+            self.action_room(plan, waiting, Action::Send)
         } else {
-            Order::Skip
+            Action::Skip
         }
     }
 
@@ -390,43 +390,43 @@ impl Progress {
     fn may_go(&self, waiting: Waiting) -> bool
         ensures { result ≡ may_go self.now waiting }
     {
-        waiting.well && self.whole
+        waiting.well && self.chain_unbroken
     }
 
     // A request is to be sent, as soon as there is room.
-    fn order_room(&self, plan: &Plan, waiting: Waiting, order: Order) -> Order
-        ensures { result ≡ order_room plan.now self.now waiting order }
+    fn action_room(&self, plan: &Plan, waiting: Waiting, action: Action) -> Action
+        ensures { result ≡ action_room plan.now self.now waiting action }
     {
         if waiting.has_room(plan) {
-            order
+            action
         } else {
-            self.order_waiting(plan, waiting)
+            self.action_waiting(plan, waiting)
         }
     }
 
     // Each command of the cycle is settled.
-    fn order_done(&self, plan: &Plan) -> Order
-        ensures { result ≡ order_done plan.now self.now }
+    fn action_done(&self, plan: &Plan) -> Action
+        ensures { result ≡ action_done plan.now self.now }
     {
         if self.left == 0 {
-            Order::Close(Cause::Done)
+            Action::Close(Cause::Done)
         } else if self.is_due(plan) {
-            Order::Begin
+            Action::Begin
         } else {
-            Order::Read(Until::Due)
+            Action::Read(Until::Due)
         }
     }
 
     // Nothing may go out.
-    fn order_waiting(&self, plan: &Plan, waiting: Waiting) -> Order
-        ensures { result ≡ order_waiting plan.now self.now waiting }
+    fn action_waiting(&self, plan: &Plan, waiting: Waiting) -> Action
+        ensures { result ≡ action_waiting plan.now self.now waiting }
     {
         if self.is_dead(plan, waiting) {
-            Order::Close(Cause::Dead)
+            Action::Close(Cause::Dead)
         } else if waiting.current == 0 {
-            Order::Renew
+            Action::Renew
         } else {
-            Order::Read(Until::Limit)
+            Action::Read(Until::Limit)
         }
     }
 }

@@ -15,7 +15,7 @@ use gc_client::{Beginning, Hearing};
 use gc_lines::read_reply;
 use gc_links::Moment;
 
-// So much later than a moment, or the last moment that there is.
+// The moment `wait` milliseconds after `moment`, or the greatest `u64` where there is none.
 pub(crate) fn later(moment: u64, wait: u64) -> u64
     ensures { result ≡ later moment wait }
 {
@@ -74,8 +74,8 @@ impl Progress {
         self.stale = false;
     }
 
-    // When a cycle begins that begins at this moment. The first one, and each where cycles have no due moment: now. Any other: when it
-    // was due, and now at the latest.
+    // The moment that counts as the beginning of a cycle that is begun at `moment`: that moment for the first cycle, and where cycles
+    // have no due moment; for any other the moment at which it was due, or `moment` if that is earlier.
     fn beginning(&self, plan: &Plan, moment: Moment) -> u64
         ensures { result ≡ beginning plan.now moment self.now }
     {
@@ -116,8 +116,8 @@ impl Progress {
         self.early = false;
         self.left = self.left.saturating_sub(1);
         self.unsent = count;
-        self.bound = missed;
-        self.whole = false;
+        self.next_is_chained = missed;
+        self.chain_unbroken = false;
     }
 
     // The moment that stands in the record of a command that isn't sent: that of the cycle, where it is missed, and else this one.
@@ -127,14 +127,14 @@ impl Progress {
         if self.missed { self.due } else { moment.utc }
     }
 
-    // The next command isn't sent. `bound`: the one behind it goes out only once this one was answered well.
-    pub(crate) fn skip(&mut self, bound: bool, moment: Moment)
-        ensures { self.new ≡ skipped bound moment self.old }
+    // The next command isn't sent. `next_is_chained`: the one behind it goes out only once this one was answered well.
+    pub(crate) fn skip(&mut self, next_is_chained: bool, moment: Moment)
+        ensures { self.new ≡ skipped next_is_chained moment self.old }
     {
         self.tell(moment);
         self.unsent = self.unsent.saturating_sub(1);
-        self.bound = bound;
-        self.whole = false;
+        self.next_is_chained = next_is_chained;
+        self.chain_unbroken = false;
     }
 
     // It can't go on, for this cause: the connection is to be closed, and where there is none it is over.
@@ -205,7 +205,7 @@ impl Progress {
         self.pause = self.pause_again(plan, cause);
         self.phase = self.phase_again(plan, commands, cause);
         self.stale = true;
-        self.whole = false;
+        self.chain_unbroken = false;
         if !spared {
             self.tries = self.tries.saturating_sub(1);
         }
@@ -253,7 +253,7 @@ impl Progress {
         self.word = Beginning::new();
         self.again = 0;
         self.asked = self.asked && self.goes_on(plan);
-        self.whole = false;
+        self.chain_unbroken = false;
     }
 
     // While it begins a line came. Where it answers, the next null procedure goes out at once.
@@ -267,14 +267,14 @@ impl Progress {
         self.note(reads(line));
     }
 
-    // The next command went out. `bound`: the one behind it goes out only once this one was answered well.
-    pub(crate) fn send(&mut self, bound: bool)
-        ensures { self.new ≡ sent bound self.old }
+    // The next command went out. `next_is_chained`: the one behind it goes out only once this one was answered well.
+    pub(crate) fn send(&mut self, next_is_chained: bool)
+        ensures { self.new ≡ sent next_is_chained self.old }
     {
         self.ask();
         self.unsent = self.unsent.saturating_sub(1);
-        self.bound = bound;
-        self.whole = true;
+        self.next_is_chained = next_is_chained;
+        self.chain_unbroken = true;
     }
 
     // A line was heard. A reply line shows that the line is alive.
@@ -287,8 +287,8 @@ impl Progress {
         }
     }
 
-    // Bytes came. So many commands waited before them, and so many requests wait behind them: where a command was settled, all tries are
-    // left again, and the next pause is short.
+    // Bytes came: `before` commands waited before them, and `after` is what waits now. Where a command was settled, all tries are left
+    // again, and the next pause is the quiet time.
     pub(crate) fn give(&mut self, plan: &Plan, until: Until, before: usize, after: Waiting)
         ensures { self.new ≡ gave plan.now until before after self.old }
     {
@@ -375,7 +375,7 @@ impl Progress {
         ensures { self.new ≡ ended_for cause self.old }
     {
         self.phase = Phase::Over(cause);
-        self.whole = false;
+        self.chain_unbroken = false;
     }
 
     // Whether no act follows.

@@ -1,16 +1,16 @@
 //! A whole run of a station: what is next is done, until nothing is.
 
-ghost use Rattle.std.specs.Prelude.{◌≡◌, ◌⊎◌, true, ℕ, List, MatchResult, OnOk};
+ghost use Rattle.std.specs.Prelude.{◌≡◌, true, ℕ, List, OnOk};
 ghost use Rattle.gc_catalogue.specs.declared.answer.Reading.{Reading};
 ghost use Rattle.gc_catalogue.specs.declared.call.Call.{Call};
 ghost use Rattle.gc_lines.specs.Ports.{FailsWith};
-ghost use Rattle.gc_station.specs.Runs.{RanTo, BrokeAt, LeftAt, Ran, FailsAtOutput, LastsBut};
+ghost use Rattle.gc_station.specs.Runs.{EndsAs, Ran, FailsAtOutput, LastsBut};
 ghost use Rattle.gc_station.specs.Scopes.{AreReadings};
 
 use crate::book::Book;
 use crate::cause::Cause;
 use crate::plan::Plan;
-use crate::progress::Order;
+use crate::progress::Action;
 use crate::station::Station;
 use crate::tally::Tally;
 use gc_lines::PortFailed;
@@ -25,11 +25,9 @@ pub(crate) fn run<L: Link, B: Book>(
     plan: &Plan,
     max_turns: u64,
 ) -> Result<(Cause, Tally), PortFailed>
-    ensures ran { (reads : Call → List ℕ → Reading) → AreReadings reads → MatchResult result
-        (λ end. RanTo plan.now commands.now (record { turns = max_turns; reads = reads }) (B.text book.old) (L.acts link.old) (L.acts link.new) (B.taken book.old) (B.taken book.new) end.0 end.1)
-        (λ _. BrokeAt plan.now commands.now (record { turns = max_turns; reads = reads }) (B.text book.old) (L.acts link.old) (L.acts link.new) (B.taken book.old) (B.taken book.new)
-        ⊎ LeftAt plan.now commands.now (record { turns = max_turns; reads = reads }) (B.text book.old) (L.acts link.old) (L.acts link.new) (B.taken book.old) (B.taken book.new)) }
-    ensures lasts { OnOk result (B.lasts book.new ≡ true) }
+    ensures ran { (reads : Call → List ℕ → Reading) → AreReadings reads
+        → EndsAs plan.now commands.now (record { turns = max_turns; reads = reads }) (B.text book.old) (L.acts link.old) (L.acts link.new) (B.taken book.old) (B.taken book.new) result }
+    ensures is_durable { OnOk result (B.is_durable book.new ≡ true) }
     ensures fails { FailsWith result (B.failed book.old) (B.failed book.new) }
     ensures form { B.text book.new ≡ B.text book.old }
 {
@@ -38,16 +36,16 @@ pub(crate) fn run<L: Link, B: Book>(
     let mut told = 0;
     loop {
         // No act is made while a record may be lost with the program, or the machine, that was meant to outlast it.
-        if let Err(unkept) = book.keep() {
+        if let Err(unsynced) = book.sync() {
             link.close();
-            return Err(unkept);
+            return Err(unsynced);
         }
-        let order = station.order(plan);
-        if let Order::Stop(cause) = order {
+        let action = station.action(plan);
+        if let Action::Stop(cause) = action {
             return Ok((cause, station.tally));
         }
         told = station.tell_overrun(book, plan, told);
-        if let Err(failed) = station.step(link, book, plan, commands, order) {
+        if let Err(failed) = station.step(link, book, plan, commands, action) {
             link.close();
             return Err(failed);
         }
@@ -56,7 +54,7 @@ pub(crate) fn run<L: Link, B: Book>(
 
 /// Sends the commands over a link, in cycles, as the plan has it, and writes into a book how each request ended.
 ///
-/// What it does next is a function of what the link told: `order_at`. It connects, sends a lone line feed, and begins: eight null
+/// What it does next is a function of what the link told: `action_at`. It connects, sends a lone line feed, and begins: eight null
 /// procedures go out one after the other, with ids 6, 5, 4, 3, 2, 1, 0 and 7. One that isn't answered by its deadline goes out again
 /// with its id, also on the next connection; a reply with that id answers it, whatever it says, and all else is dropped. Behind the
 /// eighth answer the client is new, with next id 0, and the commands of a cycle go out, each once, while fewer are under way than the plan
@@ -95,7 +93,7 @@ pub fn run_station<L: Link, B: Book>(
         → Ran plan.now commands.now (record { turns = max_turns; reads = reads }) (B.text book.old) (L.acts link.old) (L.acts link.new) (B.taken book.old) (B.taken book.new) result }
 
     // At each end but that of the book all records last.
-    ensures lasts { LastsBut (B.lasts book.new) result }
+    ensures is_durable { LastsBut (B.is_durable book.new) result }
 
     // The book failed exactly where that is the fault.
     ensures output { FailsAtOutput (B.failed book.old) (B.failed book.new) result }

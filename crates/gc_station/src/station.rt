@@ -6,32 +6,32 @@ ghost use Rattle.gc_lines.specs.Ports.{FailsWith};
 ghost use Rattle.gc_catalogue.specs.declared.answer.Reading.{Reading};
 ghost use Rattle.gc_catalogue.specs.declared.call.Call.{Call};
 ghost use Rattle.gc_client.specs.Settlements.{settlement_seen, IsWellRead};
-ghost use Rattle.gc_station.specs.Deciding.{order_of};
+ghost use Rattle.gc_station.specs.Deciding.{action_of};
 ghost use Rattle.gc_links.specs.Acts.{Told};
 ghost use Rattle.gc_station.specs.Marks.{commands_in, records_of, last_well};
 ghost use Rattle.gc_station.specs.Scopes.{AreReadings};
-ghost use Rattle.gc_station.specs.Records.{Record, texts_of, WritesAll};
-ghost use Rattle.gc_station.specs.Standing.{Standing, opening, order_at, place_next, mark_next, requests_out, is_chained, bound_next, skips, moved, ended};
-ghost use Rattle.gc_station.specs.Stations.{waiting_in, IsPaired, Stands, Took, Does, Made, stepped, OnCall, Follows, IsFitting, seen};
+ghost use Rattle.gc_station.specs.Records.{Record, texts_of, WritesAll, WritesNews};
+ghost use Rattle.gc_station.specs.Model.{Model, opening, action_at, place_next, mark_next, requests_out, is_chained, is_chained_behind_next, skips, moved, ended};
+ghost use Rattle.gc_station.specs.Stations.{waiting_in, IsPaired, Refines, Took, Does, Made, stepped, OnCall, ComesTo, IsFitting, seen};
 ghost use Rattle.gc_station.specs.Tallies.{tallied};
-ghost use Rattle.gc_station.specs.declared.progress.Order.TheVariants.{ReadClock, Renew, Begin, Open, Skip, Close};
+ghost use Rattle.gc_station.specs.declared.progress.Action.TheVariants.{ReadClock, Renew, Begin, Open, Skip, Close};
 ghost use Rattle.gc_texts.specs.declared.tasks.Task.{Task};
 
 mod hearing;
 mod sending;
 
-use crate::book::{Book, Stamp};
+use crate::book::Book;
 use crate::cause::Cause;
 use crate::mark::{Mark, commands_in};
 use crate::plan::Plan;
-use crate::progress::{Order, Progress, Waiting};
+use crate::progress::{Action, Progress, Waiting};
 use crate::tally::Tally;
 use crate::writing::write_settlements;
 use arrayvec::ArrayVec;
 use gc_client::{Client, Settlement, Slots, WINDOW};
 use gc_lines::{Assembler, PortFailed};
 use gc_links::{Link, Moment};
-use gc_texts::{Ending, Task};
+use gc_texts::{Ending, Stamp, Task};
 
 // Whether a command at this place goes out only once the one before it was answered well.
 fn is_chained(commands: &[Task], place: usize) -> bool
@@ -61,7 +61,7 @@ pub(crate) struct Station {
 impl Station {
     // A station that has done nothing.
     pub(crate) fn new(plan: &Plan, max_turns: u64) -> Station
-        ensures { (reads : Call → List ℕ → Reading) → Stands result (opening plan.now (record { turns = max_turns; reads = reads })) }
+        ensures { (reads : Call → List ℕ → Reading) → Refines result (opening plan.now (record { turns = max_turns; reads = reads })) }
     {
         Station {
             client: Client::new(Slots::new()),
@@ -94,12 +94,12 @@ impl Station {
     }
 
     // What is next.
-    pub(crate) fn order(&self, plan: &Plan) -> Order
-        ensures order { (s : Standing) → Stands self.now s → AreReadings s.reads → result ≡ order_at plan.now s }
+    pub(crate) fn action(&self, plan: &Plan) -> Action
+        ensures action { (s : Model) → Refines self.now s → AreReadings s.reads → result ≡ action_at plan.now s }
         ensures room { IsFitting self.now.progress (length self.now.client.ids.waiting) result }
-        ensures is { result ≡ order_of plan.now self.now.progress (waiting_in self.now) }
+        ensures is { result ≡ action_of plan.now self.now.progress (waiting_in self.now) }
     {
-        self.progress.order(plan, self.waiting())
+        self.progress.action(plan, self.waiting())
     }
 
     // How many commands of the cycle were sent.
@@ -121,8 +121,8 @@ impl Station {
     }
 
     // Whether the command behind the next one goes out only once that was answered well.
-    fn bound_next(&self, commands: &[Task]) -> bool
-        ensures { result ≡ bound_next commands.now self.now.progress }
+    fn is_chained_behind_next(&self, commands: &[Task]) -> bool
+        ensures { result ≡ is_chained_behind_next commands.now self.now.progress }
     {
         self.progress.missed || is_chained(commands, self.place(commands).saturating_add(1))
     }
@@ -214,8 +214,8 @@ impl Station {
                     return Err(failed);
                 }
                 let waiting = self.commands();
-                let bound = self.bound_next(commands);
-                self.progress.skip(bound, moment);
+                let next_is_chained = self.is_chained_behind_next(commands);
+                self.progress.skip(next_is_chained, moment);
                 self.progress.reckon_early(plan, waiting);
                 self.client.expire(moment.elapsed);
                 Ok(())
@@ -270,9 +270,7 @@ impl Station {
     // Writes down what was settled, by the marks of the oldest that waited, which go.
     fn write<B: Book>(&mut self, book: &mut B) -> Result<(), PortFailed>
         requires { All (λ s. IsWellRead s.call s.outcome) self.old.settled.items }
-        ensures wrote { (reads : Call → List ℕ → Reading) (start : Option (List ℕ)) (before : List Record)
-            → AreReadings reads → Appends start (B.taken book.old) (texts_of (B.text book.old) before)
-            → WritesAll (B.text book.old) before (before ++ records_of reads self.old.progress.moment.utc self.old.marks.items (map settlement_seen self.old.settled.items)) start (B.taken book.new) result }
+        ensures wrote { WritesNews (B.text book.old) (B.taken book.old) (B.taken book.new) (λ reads. records_of reads self.old.progress.moment.utc self.old.marks.items (map settlement_seen self.old.settled.items)) result }
         ensures after { OnOk result (self.new ≡ record self.old {
           marks = record { items = drop (length self.old.settled.items) self.old.marks.items };
           tally = self.new.tally;
@@ -307,70 +305,70 @@ impl Station {
         self.progress.close(plan, waiting, cause);
     }
 
-    // Makes the one call of an order, and does what comes of it.
-    fn obey<L: Link, B: Book>(
+    // Makes the one call of an action, and does what comes of it.
+    fn perform<L: Link, B: Book>(
         &mut self,
         link: &mut L,
         book: &mut B,
         plan: &Plan,
         commands: &[Task],
-        order: Order,
+        action: Action,
     ) -> Result<(), PortFailed>
         requires width { self.old.client.width ≡ WINDOW }
         requires paired { IsPaired self.old }
         requires within { self.old.progress.unsent ≤ length commands.now }
-        requires room { IsFitting self.old.progress (length self.old.client.ids.waiting) order }
-        ensures does { OnCall order (Made commands.now order (moved plan.now commands.now order) (seen (L.acts link.old) (B.text book.old) (B.taken book.old) self.old) (seen (L.acts link.new) (B.text book.old) (B.taken book.new) self.new) result) }
+        requires room { IsFitting self.old.progress (length self.old.client.ids.waiting) action }
+        ensures does { OnCall action (Made commands.now action (moved plan.now commands.now action) (seen (L.acts link.old) (B.text book.old) (B.taken book.old) self.old) (seen (L.acts link.new) (B.text book.old) (B.taken book.new) self.new) result) }
         ensures fails { FailsWith result (B.failed book.old) (B.failed book.new) }
         ensures form { B.text book.new ≡ B.text book.old }
     {
-        match order {
-            Order::ReadClock => {
+        match action {
+            Action::ReadClock => {
                 self.read_clock(link, plan);
                 Ok(())
             }
-            Order::Renew => {
+            Action::Renew => {
                 self.renew(link, plan);
                 Ok(())
             }
-            Order::Begin => {
+            Action::Begin => {
                 self.begin(link, plan, commands);
                 Ok(())
             }
-            Order::Open => {
+            Action::Open => {
                 self.open(link, plan);
                 Ok(())
             }
-            Order::Clear => {
+            Action::Clear => {
                 self.clear(link, plan, commands);
                 Ok(())
             }
-            Order::Ask => {
+            Action::Ask => {
                 self.ask_null(link, plan, commands);
                 Ok(())
             }
-            Order::Send => {
+            Action::Send => {
                 self.send(link, plan, commands);
                 Ok(())
             }
-            Order::Skip => self.skip(link, book, plan, commands),
-            Order::Flush => {
+            Action::Skip => self.skip(link, book, plan, commands),
+            Action::Flush => {
                 self.flush(link, plan, commands);
                 Ok(())
             }
-            Order::Read(until) => self.read(link, book, plan, until),
-            Order::Close(cause) => {
+            Action::Read(until) => self.read(link, book, plan, until),
+            Action::Close(cause) => {
                 self.close(link, plan, cause);
                 Ok(())
             }
-            Order::Stop(_) => Ok(()),
+            Action::Stop(_) => Ok(()),
         }
     }
 
     // Writes all that wait down as lost, where the station begins anew and where no act follows.
     fn end<B: Book>(&mut self, book: &mut B) -> Result<(), PortFailed>
-        ensures ends { (s : Standing) (start : Option (List ℕ)) → Stands self.old s → Took (B.text book.old) start (B.taken book.old) s
-            → Follows (B.text book.old) s.records self.new start (B.taken book.new) (ended s) result }
+        ensures ends { (s : Model) (start : Option (List ℕ)) → Refines self.old s → Took (B.text book.old) start (B.taken book.old) s
+            → ComesTo (B.text book.old) s.records self.new start (B.taken book.new) (ended s) result }
         ensures fails { FailsWith result (B.failed book.old) (B.failed book.new) }
         ensures form { B.text book.new ≡ B.text book.old }
     {
@@ -381,7 +379,7 @@ impl Station {
         self.write(book)
     }
 
-    // Takes a turn: makes the one call of an order, does what comes of it, and writes down what is lost. Until it ends, what was
+    // Takes a turn: makes the one call of an action, does what comes of it, and writes down what is lost. Until it ends, what was
     // written before it lasts as far as the book is meant for that.
     pub(crate) fn step<L: Link, B: Book>(
         &mut self,
@@ -389,19 +387,19 @@ impl Station {
         book: &mut B,
         plan: &Plan,
         commands: &[Task],
-        order: Order,
+        action: Action,
     ) -> Result<(), PortFailed>
-        requires lasts { B.lasts book.old ≡ true }
+        requires is_durable { B.is_durable book.old ≡ true }
         requires width { self.old.client.width ≡ WINDOW }
         requires paired { IsPaired self.old }
         requires within { self.old.progress.unsent ≤ length commands.now }
-        requires room { IsFitting self.old.progress (length self.old.client.ids.waiting) order }
-        ensures does { OnCall order (Made commands.now order (stepped plan.now commands.now order) (seen (L.acts link.old) (B.text book.old) (B.taken book.old) self.old) (seen (L.acts link.new) (B.text book.old) (B.taken book.new) self.new) result) }
+        requires room { IsFitting self.old.progress (length self.old.client.ids.waiting) action }
+        ensures does { OnCall action (Made commands.now action (stepped plan.now commands.now action) (seen (L.acts link.old) (B.text book.old) (B.taken book.old) self.old) (seen (L.acts link.new) (B.text book.old) (B.taken book.new) self.new) result) }
         ensures fails { FailsWith result (B.failed book.old) (B.failed book.new) }
         ensures form { B.text book.new ≡ B.text book.old }
     {
         self.progress.turn();
-        if let Err(failed) = self.obey(link, book, plan, commands, order) {
+        if let Err(failed) = self.perform(link, book, plan, commands, action) {
             return Err(failed);
         }
         self.end(book)

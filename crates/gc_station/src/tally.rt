@@ -24,8 +24,8 @@ pub struct Tally {
 }
 
 impl Tally {
-    // No command ended yet.
-    pub(crate) fn new() -> Tally
+    /// No command ended yet.
+    pub fn new() -> Tally
         ensures { result ≡ none_yet }
     {
         Tally {
@@ -38,8 +38,8 @@ impl Tally {
         }
     }
 
-    // A command ended so.
-    pub(crate) fn count(&mut self, ending: Ending<'_>)
+    /// A command ended so: its count grows by one, unless it is the greatest.
+    pub fn count(&mut self, ending: Ending<'_>)
         ensures { self.new ≡ counted (ending_seen ending.entry) self.old }
     {
         match ending {

@@ -10,17 +10,17 @@ ghost use Rattle.gc_client.specs.Settlements.{settlement_seen, outcome_seen, IsW
 ghost use Rattle.gc_station.specs.Marks.{records_of, end_of, last_well, is_well};
 ghost use Rattle.gc_station.specs.Scopes.{AreReadings};
 ghost use Rattle.gc_texts.specs.Endings.{ending_seen};
-ghost use Rattle.gc_station.specs.Records.{Record, texts_of, WritesAll};
+ghost use Rattle.gc_station.specs.Records.{WritesNews};
 ghost use Rattle.gc_station.specs.Tallies.{tallied};
 
-use crate::book::{Book, Stamp};
+use crate::book::Book;
 use crate::mark::Mark;
 use crate::tally::Tally;
 use arrayvec::ArrayVec;
 use gc_catalogue::Reading;
 use gc_client::{Outcome, Settlement, WINDOW};
 use gc_lines::PortFailed;
-use gc_texts::{Command, Ending};
+use gc_texts::{Command, Ending, Stamp};
 
 // The mark of the oldest request that waits, which goes.
 fn take_mark(marks: &mut ArrayVec<Option<Mark>, WINDOW>) -> Option<Mark>
@@ -34,7 +34,7 @@ fn take_mark(marks: &mut ArrayVec<Option<Mark>, WINDOW>) -> Option<Mark>
     }
 }
 
-// How a command ended whose request ended so.
+// The ending of a command whose request had this outcome.
 fn ending_of(outcome: &Outcome) -> Ending<'_>
     ensures { (reads : Call → List ℕ → Reading) (call : Call) → AreReadings reads → IsWellRead call outcome.now
         → ending_seen result ≡ end_of reads call (outcome_seen outcome.now) }
@@ -66,9 +66,7 @@ fn write_one<B: Book>(
     settlement: &Settlement,
 ) -> Result<(), PortFailed>
     requires { IsWellRead settlement.now.call settlement.now.outcome }
-    ensures wrote { (reads : Call → List ℕ → Reading) (start : Option (List ℕ)) (before : List Record)
-        → AreReadings reads → Appends start (B.taken book.old) (texts_of (B.text book.old) before)
-        → WritesAll (B.text book.old) before (before ++ records_of reads utc (mark ∷ []) (settlement_seen settlement.now ∷ [])) start (B.taken book.new) result }
+    ensures wrote { WritesNews (B.text book.old) (B.taken book.old) (B.taken book.new) (λ reads. records_of reads utc (mark ∷ []) (settlement_seen settlement.now ∷ [])) result }
     ensures tally { OnOk result ((reads : Call → List ℕ → Reading) → AreReadings reads
         → tally.new ≡ tallied tally.old (records_of reads utc (mark ∷ []) (settlement_seen settlement.now ∷ []))) }
     ensures well { OnOk result ((reads : Call → List ℕ → Reading) → AreReadings reads
@@ -108,9 +106,7 @@ pub(crate) fn write_settlements<B: Book>(
     settlements: &[Settlement],
 ) -> Result<(), PortFailed>
     requires { All (λ s. IsWellRead s.call s.outcome) settlements.now }
-    ensures wrote { (reads : Call → List ℕ → Reading) (start : Option (List ℕ)) (before : List Record)
-        → AreReadings reads → Appends start (B.taken book.old) (texts_of (B.text book.old) before)
-        → WritesAll (B.text book.old) before (before ++ records_of reads utc marks.old.items (map settlement_seen settlements.now)) start (B.taken book.new) result }
+    ensures wrote { WritesNews (B.text book.old) (B.taken book.old) (B.taken book.new) (λ reads. records_of reads utc marks.old.items (map settlement_seen settlements.now)) result }
     ensures tally { OnOk result ((reads : Call → List ℕ → Reading) → AreReadings reads
         → tally.new ≡ tallied tally.old (records_of reads utc marks.old.items (map settlement_seen settlements.now))) }
     ensures well { OnOk result ((reads : Call → List ℕ → Reading) → AreReadings reads

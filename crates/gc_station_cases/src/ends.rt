@@ -3,26 +3,28 @@
 use arrayvec::ArrayVec;
 use gc_lines::PortFailed;
 use gc_links::Moment;
-use gc_station::{Book, Sight, Stamp};
-use gc_texts::{Command, Ending};
+use gc_station::{Book, LinkHealth};
+use gc_texts::{Command, Ending, Stamp};
 
 /// A book that keeps a letter for each outcome behind cycle and place, and the values of an answer behind it, and fails at
-/// one of its writes.
+/// one of its writes, or behind so many of its keeps.
 #[derive(Drop)]
 pub struct Ends {
     /// What it kept.
     pub text: ArrayVec<u8, 256>,
     writes: u64,
     fails: u64,
+    keeps: u64,
 }
 
 impl Ends {
-    /// A book that fails at this write, counted from 1; 0: at none.
-    pub fn new(fails: u64) -> Ends {
+    /// A book that fails at this write, counted from 1, where 0 is none, and behind so many keeps.
+    pub fn new(fails: u64, keeps: u64) -> Ends {
         Ends {
             text: ArrayVec::new(),
             writes: 0,
             fails,
+            keeps,
         }
     }
 
@@ -51,7 +53,7 @@ impl Book for Ends {
 
     ghost failed = { λ _. true };
 
-    ghost lasts = { λ _. true };
+    ghost is_durable = { λ _. true };
 
     fn write(
         &mut self,
@@ -77,11 +79,15 @@ impl Book for Ends {
         Ok(())
     }
 
-    fn keep(&mut self) -> Result<(), PortFailed> {
+    fn sync(&mut self) -> Result<(), PortFailed> {
+        if self.keeps == 0 {
+            return Err(PortFailed);
+        }
+        self.keeps -= 1;
         Ok(())
     }
 
-    fn sees(&mut self, _sight: Sight, _moment: Moment) {}
+    fn sees(&mut self, _sight: LinkHealth, _moment: Moment) {}
 
     fn overran(&mut self, cycle: u64) {
         self.digit(cycle);

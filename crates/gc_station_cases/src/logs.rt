@@ -1,13 +1,13 @@
 //! A run of a case over a link with a log, and what that log has where a link only hears.
 
 use crate::ends::Ends;
-use crate::running::{Told, end_of, text_of};
+use crate::running::Told;
 use crate::script::{Script, Step};
 use crate::setting::Setting;
+use crate::telling::run_telling;
 use gc_lines::{PortFailed, Sink};
 use gc_links::{Link, Telling};
 use gc_logs::Logged;
-use gc_station_tests::telling::run_telling;
 use gc_texts::Task;
 use std::alloc::{AllocError, Global};
 
@@ -63,30 +63,32 @@ pub fn play_logged(
     steps: &[Step<'_>],
     setting: &Setting,
 ) -> Result<Told, AllocError> {
-    let mut link = Telling::new(logged(alloc, steps, setting, setting.writes));
-    let mut book = Ends::new(setting.fails);
-    let result = run_telling(&mut link, &mut book, tasks, &setting.plan, setting.turns);
-    let mut log = text_of(alloc, link.link.sink().bytes.as_slice())?;
-    if link.link.has_lost_its_log() {
-        let mut whole = Telling::new(logged(alloc, steps, setting, u64::MAX));
-        let mut other = Ends::new(setting.fails);
-        let _ = run_telling(&mut whole, &mut other, tasks, &setting.plan, setting.turns);
-        if whole
-            .link
-            .sink()
-            .bytes
-            .as_slice()
-            .starts_with(log.as_slice())
-        {
-            log = text_of(alloc, b"lost")?;
-        }
+    let mut told = play_once(alloc, tasks, steps, setting, setting.writes)?;
+    if told.is_log_lost {
+        let whole = play_once(alloc, tasks, steps, setting, u64::MAX)?;
+        told.lose_log(&whole)?;
     }
-    Ok(Told {
-        put: text_of(alloc, link.link.link.text.as_slice())?,
-        ends: text_of(alloc, book.text.as_slice())?,
-        end: end_of(alloc, result.err(), link.link.link.gone)?,
-        log,
-    })
+    Ok(told)
+}
+
+// Runs it once, with a log whose sink takes so many writes.
+fn play_once(
+    alloc: Global,
+    tasks: &[Task],
+    steps: &[Step<'_>],
+    setting: &Setting,
+    writes: u64,
+) -> Result<Told, AllocError> {
+    let mut link = Telling::new(logged(alloc, steps, setting, writes));
+    let mut book = Ends::new(setting.fails, setting.keeps);
+    let result = run_telling(&mut link, &mut book, tasks, &setting.plan, setting.turns);
+    let mut told = Told::new(alloc);
+    told.take(alloc, &link.link.link, &book, result.err())?;
+    told.take_log(
+        link.link.sink().bytes.as_slice(),
+        link.link.has_lost_its_log(),
+    )?;
+    Ok(told)
 }
 
 /// Hears all that the steps bring, and closes.
@@ -98,6 +100,6 @@ pub fn hear(alloc: Global, steps: &[Step<'_>], setting: &Setting) -> Result<Told
     }
     link.close();
     let mut told = Told::new(alloc);
-    told.log = text_of(alloc, link.sink().bytes.as_slice())?;
+    told.take_log(link.sink().bytes.as_slice(), false)?;
     Ok(told)
 }

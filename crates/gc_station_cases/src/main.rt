@@ -7,6 +7,7 @@ mod running;
 mod script;
 mod setting;
 mod stations;
+mod telling;
 mod words;
 
 use gc_cases::play_folder;

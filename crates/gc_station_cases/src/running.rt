@@ -4,10 +4,10 @@ use crate::ends::Ends;
 use crate::logs::{hear, play_logged};
 use crate::script::{Script, Step};
 use crate::setting::Setting;
+use crate::telling::run_telling;
 use crate::words::push_all;
 use gc_cases::{Case, bytes_of};
 use gc_links::Telling;
-use gc_station_tests::telling::run_telling;
 use gc_texts::{RunFault, Task, read_tasks};
 use std::alloc::{AllocError, Global};
 
@@ -33,6 +33,8 @@ pub struct Told {
     pub end: Vec<u8>,
     /// The log, if there is one.
     pub log: Vec<u8>,
+    /// Whether the log couldn't be written.
+    pub is_log_lost: bool,
 }
 
 impl Told {
@@ -43,7 +45,36 @@ impl Told {
             ends: Vec::new(alloc),
             end: Vec::new(alloc),
             log: Vec::new(alloc),
+            is_log_lost: false,
         }
+    }
+
+    /// Takes what was put and written, and the fault.
+    pub fn take(
+        &mut self,
+        alloc: Global,
+        script: &Script<'_>,
+        book: &Ends,
+        fault: Option<RunFault>,
+    ) -> Result<(), AllocError> {
+        push_text(&mut self.put, script.text.as_slice())?;
+        push_text(&mut self.ends, book.text.as_slice())?;
+        push_end(alloc, &mut self.end, fault, script.gone)
+    }
+
+    /// Takes the log, and whether it couldn't be written.
+    pub fn take_log(&mut self, log: &[u8], is_lost: bool) -> Result<(), AllocError> {
+        self.is_log_lost = is_lost;
+        push_text(&mut self.log, log)
+    }
+
+    /// Tells a log that couldn't be written as `lost`, if it is a front of the one that could be.
+    pub fn lose_log(&mut self, whole: &Told) -> Result<(), AllocError> {
+        if !whole.log.as_slice().starts_with(self.log.as_slice()) {
+            return Ok(());
+        }
+        self.log.clear();
+        self.log.extend_from_slice(b"lost")
     }
 
     // What comes of a case whose words aren't known.
@@ -141,33 +172,33 @@ fn play_steps(
     setting: &Setting,
 ) -> Result<Told, AllocError> {
     let mut link = Telling::new(Script::new(steps, setting));
-    let mut book = Ends::new(setting.fails);
+    let mut book = Ends::new(setting.fails, setting.keeps);
     let result = run_telling(&mut link, &mut book, tasks, &setting.plan, setting.turns);
-    Ok(Told {
-        put: text_of(alloc, link.link.text.as_slice())?,
-        ends: text_of(alloc, book.text.as_slice())?,
-        end: end_of(alloc, result.err(), link.link.gone)?,
-        log: Vec::new(alloc),
-    })
+    let mut told = Told::new(alloc);
+    told.take(alloc, &link.link, &book, result.err())?;
+    Ok(told)
 }
 
-/// A text without the blank behind its last word.
-pub fn text_of(alloc: Global, text: &[u8]) -> Result<Vec<u8>, AllocError> {
-    let mut kept = Vec::new(alloc);
-    kept.extend_from_slice(text.strip_suffix(b" ").unwrap_or(text))?;
-    Ok(kept)
+// Appends a text without the blank behind its last word.
+fn push_text(kept: &mut Vec<u8>, text: &[u8]) -> Result<(), AllocError> {
+    kept.extend_from_slice(text.strip_suffix(b" ").unwrap_or(text))
 }
 
-/// The fault, if there is one. The bytes of a cut put are `kept` where it tells those that went out.
-pub fn end_of(alloc: Global, fault: Option<RunFault>, gone: usize) -> Result<Vec<u8>, AllocError> {
+// Appends the fault, if there is one. The bytes of a cut put are `kept` where it tells those that went out.
+fn push_end(
+    alloc: Global,
+    end: &mut Vec<u8>,
+    fault: Option<RunFault>,
+    gone: usize,
+) -> Result<(), AllocError> {
+    let Some(fault) = fault else {
+        return Ok(());
+    };
     let text = match fault {
-        None => String::new(alloc),
-        Some(RunFault::Write { replies, bytes }) if bytes == gone => {
+        RunFault::Write { replies, bytes } if bytes == gone => {
             format!(in alloc; "fault 43 reply {replies} byte kept")?
         }
-        Some(fault) => format!(in alloc; "{fault}")?,
+        fault => format!(in alloc; "{fault}")?,
     };
-    let mut end = Vec::new(alloc);
-    end.extend_from_slice(text.as_str().as_bytes())?;
-    Ok(end)
+    end.extend_from_slice(text.as_bytes())
 }

@@ -20,6 +20,8 @@ pub struct Setting {
     pub failing: u64,
     /// The write of the book that fails, counted from 1; 0: none.
     pub fails: u64,
+    /// Behind how many keeps the book fails.
+    pub keeps: u64,
     /// How many writes the sink of the log takes.
     pub writes: u64,
     /// How many of the steps are made before those of `then`.
@@ -50,6 +52,7 @@ impl Setting {
             kept: 0,
             failing: u64::MAX,
             fails: 0,
+            keeps: u64::MAX,
             writes: u64::MAX,
             first: u64::MAX,
             split: 0,
@@ -102,6 +105,7 @@ impl Setting {
             "kept" => self.kept = value,
             "failing" => self.failing = value,
             "fails" => self.fails = value,
+            "keeps" => self.keeps = value,
             "writes" => self.writes = value,
             "first" => self.first = value,
             "split" => self.split = value,

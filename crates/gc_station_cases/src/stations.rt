@@ -15,7 +15,7 @@
 
 use crate::running::{Run, Told};
 use crate::words::number;
-use gc_cases::{Case, Player};
+use gc_cases::{Case, Player, tell};
 use std::alloc::{AllocError, Global};
 use std::io;
 
@@ -27,56 +27,71 @@ impl Player for Stations {
         ".stations"
     }
 
-    fn key(&self, place: usize) -> Option<&'static str> {
-        ["put", "ends", "end", "log", "rows"].get(place).copied()
-    }
-
-    fn play(&self, rt: &HostRuntime, case: &Case<'_>) -> io::Result<Vec<Vec<u8>>> {
-        let alloc = rt.alloc();
-        let run = Run::of(alloc, case)?;
-        let rows = play_rows(alloc, case, &run)?;
-        let told = if case.value_at("row", 0).is_some() {
-            Told::new(alloc)
-        } else {
-            play_each(alloc, case, &run)?
-        };
-        let mut came = Vec::new(alloc);
-        came.push(told.put)?;
-        came.push(told.ends)?;
-        came.push(told.end)?;
-        came.push(told.log)?;
-        came.push(rows)?;
-        Ok(came)
+    fn play(&self, rt: &HostRuntime, case: &Case<'_>, wrong: &mut String) -> io::Result<()> {
+        let run = Run::of(rt.alloc(), case)?;
+        Ok(play_run(rt.alloc(), case, &run, wrong)?)
     }
 }
 
-// The first row that came to something else, as it came; nothing where there is none.
-fn play_rows(alloc: Global, case: &Case<'_>, run: &Run) -> Result<Vec<u8>, AllocError> {
+// Plays the rows, or where there is none the run.
+fn play_run(
+    alloc: Global,
+    case: &Case<'_>,
+    run: &Run,
+    wrong: &mut String,
+) -> Result<(), AllocError> {
+    if case.value("row") == "" {
+        return tell_all(case, &play_each(alloc, case, run)?, wrong);
+    }
+    play_rows(alloc, case, run, wrong)?;
+    tell_all(case, &Told::new(alloc), wrong)
+}
+
+fn tell_all(case: &Case<'_>, told: &Told, wrong: &mut String) -> Result<(), AllocError> {
+    tell(case, "put", told.put.as_slice(), wrong)?;
+    tell(case, "ends", told.ends.as_slice(), wrong)?;
+    tell(case, "end", told.end.as_slice(), wrong)?;
+    tell(case, "log", told.log.as_slice(), wrong)
+}
+
+// Plays the rows. Each that came to something else is told, as it came.
+fn play_rows(
+    alloc: Global,
+    case: &Case<'_>,
+    run: &Run,
+    wrong: &mut String,
+) -> Result<(), AllocError> {
     for place in 0..1000 {
         let Some(row) = case.value_at("row", place) else {
             break;
         };
-        let word = row.split_once(": ").map_or(row, |cut| cut.0);
-        let told = run.with(alloc, word)?;
-        let came = row_of(alloc, word, &told)?;
+        let came = play_row(alloc, row, run)?;
         if came.as_slice() != row.as_bytes() {
-            return Ok(came);
+            tell(case, "rows", came.as_slice(), wrong)?;
         }
     }
-    Ok(Vec::new(alloc))
+    Ok(())
+}
+
+fn play_row(alloc: Global, row: &str, run: &Run) -> Result<Vec<u8>, AllocError> {
+    let word = row.split_once(": ").map_or(row, |cut| cut.0);
+    let told = run.with(alloc, word)?;
+    row_of(alloc, word, &told)
 }
 
 // A row, as it came.
 fn row_of(alloc: Global, word: &str, told: &Told) -> Result<Vec<u8>, AllocError> {
     let mut row = Vec::new(alloc);
     row.extend_from_slice(word.as_bytes())?;
-    row.extend_from_slice(b": ")?;
-    row.extend_from_slice(or_none(told.put.as_slice()))?;
-    row.extend_from_slice(b" | ")?;
-    row.extend_from_slice(or_none(told.ends.as_slice()))?;
-    row.extend_from_slice(b" | ")?;
-    row.extend_from_slice(or_none(told.end.as_slice()))?;
+    push_part(&mut row, b": ", told.put.as_slice())?;
+    push_part(&mut row, b" | ", told.ends.as_slice())?;
+    push_part(&mut row, b" | ", told.end.as_slice())?;
     Ok(row)
+}
+
+fn push_part(row: &mut Vec<u8>, mark: &[u8], part: &[u8]) -> Result<(), AllocError> {
+    row.extend_from_slice(mark)?;
+    row.extend_from_slice(or_none(part))
 }
 
 fn or_none(text: &[u8]) -> &[u8] {

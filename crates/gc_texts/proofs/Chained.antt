@@ -89,7 +89,8 @@ says_more deadline chained lines mode (says.Naming n) h = record {
   row = λ target e. more_row lines (says.Naming n) target tt (h.row target e);
 }
 
-says_all : (deadline : ℕ) (chained : Bool) (done : List TaskLine) (mode : Mode) (lines : List TaskLine) → Says deadline chained done mode → Says deadline chained (done ++ lines) (behind_all mode lines)
+says_all : (deadline : ℕ) (chained : Bool) (done : List TaskLine) (mode : Mode) (lines : List TaskLine) → Says deadline chained done mode
+    → Says deadline chained (done ++ lines) (behind_all mode lines)
 says_all deadline chained done mode [] h = subst (λ xs. Says deadline chained xs mode) (sym (append-nil done)) h
 says_all deadline chained done mode (line ∷ later) h =
     subst (λ xs. Says deadline chained xs (behind_all (behind mode line) later)) (append_assoc done (line ∷ []) later)

@@ -27,7 +27,8 @@ module _ (line : List ℕ) (command : Command) (is : IsCommand line command) whe
   has_number target rest cut none = none command.target (subst (λ (ds : List ℕ). IsNumber ds command.target 4294967295) (sym (the_cut target rest cut).0) is.target_is)
 
   pub has_call : (target procedure : List ℕ) → Cuts 32 line target (Some procedure) → ((c : Call) → IsProcedure procedure c → ⊥) → ⊥
-  has_call target procedure cut none = none command.call (subst (λ (p : List ℕ). IsProcedure p command.call) (sym (some_is procedure is.procedure (the_cut target (Some procedure) cut).1)) is.procedure_is)
+  has_call target procedure cut none = none command.call (subst (λ (p : List ℕ). IsProcedure p command.call)
+      (sym (some_is procedure is.procedure (the_cut target (Some procedure) cut).1)) is.procedure_is)
 
 same_command : (c d : Command) → c.target ≡ d.target → c.call ≡ d.call → c ≡ d
 same_command c d e f = ap (λ t. record { target = t; call = c.call }) e ∙ ap (λ x. record { target = d.target; call = x }) f

@@ -110,7 +110,8 @@ before_december y m left high part whole =
     ]
 
 -- what is left behind a month's days
-pub month_left : (y m days left : ℕ) (d : Date) → m < 12 → month_days y m ≤ left → days_after days d ≡ days_after left (on y m 1) → days_after days d ≡ days_after (left - month_days y m) (on y (m + 1) 1)
+pub month_left : (y m days left : ℕ) (d : Date) → m < 12 → month_days y m ≤ left → days_after days d ≡ days_after left (on y m 1)
+    → days_after days d ≡ days_after (left - month_days y m) (on y (m + 1) 1)
 month_left y m days left d below whole so =
     let e : left ≡ month_days y m + (left - month_days y m) = omega (arith, whole) in
     so ∙ ap (λ n. days_after n (on y m 1)) e ∙ whole_month y m (left - month_days y m) below

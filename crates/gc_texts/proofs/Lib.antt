@@ -1,4 +1,5 @@
 pub mod Cutting
+pub mod Fronts
 pub mod Procedures
 mod LineEnds
 mod TextLines
@@ -10,16 +11,11 @@ mod TaskReading
 mod TaskLaws
 pub mod SettlementLines
 mod Telling
-mod Columns
-mod Rows
-mod JsonLines
-mod Members
 mod Wanted
 mod Asked
 mod Dates
 mod FaultLines
 pub mod Logs
-mod LogStamps
-mod Told
+pub mod LogStamps
 mod Moments
 mod Chained

@@ -67,7 +67,8 @@ next_within d year h =
 later_within : (n : ℕ) (d : Date) (year : ℕ) → IsWithin d year → IsWithin (days_after n d) (year + n)
 unfolding days_after
 later_within zero d year h = let e : year + 0 ≡ year = omega arith in subst (IsWithin d) (sym e) h
-later_within (suc n) d year h = let e : year + suc n ≡ suc year + n = omega arith in subst (IsWithin (days_after n (next_day d))) (sym e) (later_within n (next_day d) (suc year) (next_within d year h))
+later_within (suc n) d year h = let e : year + suc n ≡ suc year + n = omega arith in
+    subst (IsWithin (days_after n (next_day d))) (sym e) (later_within n (next_day d) (suc year) (next_within d year h))
 
 date_within : (n : ℕ) → IsWithin (date_of n) (1970 + n)
 date_within n = later_within n (record { year = 1970; month = 1; day = 1 }) 1970 (record { month = omega arith; day = omega arith; years = omega arith })
@@ -92,7 +93,8 @@ time_ink millis h =
     let third : All IsInk (58 ∷ (two_digits (millis / 1000 % 60) ++ 46 ∷ rest)) =
     both (58 ∷ []) (two_digits (millis / 1000 % 60) ++ 46 ∷ rest) colon (both (two_digits (millis / 1000 % 60)) (46 ∷ rest) seconds least) in
     let second : All IsInk (58 ∷ (two_digits (millis / 60000 % 60) ++ 58 ∷ (two_digits (millis / 1000 % 60) ++ 46 ∷ rest))) =
-    both (58 ∷ []) (two_digits (millis / 60000 % 60) ++ 58 ∷ (two_digits (millis / 1000 % 60) ++ 46 ∷ rest)) colon (both (two_digits (millis / 60000 % 60)) (58 ∷ (two_digits (millis / 1000 % 60) ++ 46 ∷ rest)) minutes third) in
+    both (58 ∷ []) (two_digits (millis / 60000 % 60) ++ 58 ∷ (two_digits (millis / 1000 % 60) ++ 46 ∷ rest)) colon
+    (both (two_digits (millis / 60000 % 60)) (58 ∷ (two_digits (millis / 1000 % 60) ++ 46 ∷ rest)) minutes third) in
     both (two_digits (millis / 3600000)) (58 ∷ (two_digits (millis / 60000 % 60) ++ 58 ∷ (two_digits (millis / 1000 % 60) ++ 46 ∷ rest))) hours second
 
 stamp_ink : (utc : ℕ) → utc < 2 ^ 64 → All IsInk (stamp_text utc)
@@ -101,7 +103,8 @@ stamp_ink utc h =
     let d = date_within days in
     let few : days < 2 ^ 63 = omega (arith, h, div-add-mod utc 86400000) in
     let moment = time_text (utc % 86400000) in
-    let first = both (date_text (date_of days)) (84 ∷ []) (date_ink (date_of days) (omega (arith, few, d.years)) (omega (arith, d.month)) (omega (arith, d.day))) (one_ink 84 (omega arith) (omega arith)) in
+    let first = both (date_text (date_of days)) (84 ∷ []) (date_ink (date_of days) (omega (arith, few, d.years)) (omega (arith, d.month))
+    (omega (arith, d.day))) (one_ink 84 (omega arith) (omega arith)) in
     let second = both (date_text (date_of days) ++ 84 ∷ []) moment first (time_ink (utc % 86400000) (omega arith)) in
     both (date_text (date_of days) ++ 84 ∷ [] ++ moment) (90 ∷ []) second (one_ink 90 (omega arith) (omega arith))
 
@@ -161,7 +164,13 @@ stamp_shown utc h = All-from_recursion IsShown (stamp_text utc) (ink_prints (sta
 
 pub read_back : LogLinesReadBack
 read_back = record {
-  written = λ utc mark bytes h are. record { is = refl; one_word = ink_lacks (stamp_text utc) (recursion_from_All IsInk (stamp_text utc) (stamp_ink utc h)); is_printable = stamp_shown utc h; are_bytes = are };
+  written = λ utc mark bytes h are. record {
+    is = refl;
+    one_word = ink_lacks (stamp_text utc)
+        (recursion_from_All IsInk (stamp_text utc) (stamp_ink utc h));
+    is_printable = stamp_shown utc h;
+    are_bytes = are;
+  };
   once = λ text one other mark sign bytes more. one_reading text one other mark sign bytes more;
 }
 

@@ -24,7 +24,8 @@ one_procedure text c d p q =
     one_call p.rpc (unwrap_or p.params []) c d p.calls (subst (λ (n : ℕ). IsCall n (unwrap_or p.params []) d) rpcs (subst (λ (ps : List ℕ). IsCall q.rpc ps d) lists q.calls))
 
 -- one item for each line, and one list for all
-pub one_list : {Item : Type 0} (form : Form Item) → ((line : List ℕ) (a b : Item) → form line a → form line b → a ≡ b) → (lines : List (List ℕ)) (xs ys : List Item) → AreItems form lines xs → AreItems form lines ys → xs ≡ ys
+pub one_list : {Item : Type 0} (form : Form Item) → ((line : List ℕ) (a b : Item) → form line a → form line b → a ≡ b)
+    → (lines : List (List ℕ)) (xs ys : List Item) → AreItems form lines xs → AreItems form lines ys → xs ≡ ys
 one_list form one [] [] [] h k = refl
 one_list form one [] [] (y ∷ ys) h k = absurd k
 one_list form one [] (x ∷ xs) ys h k = absurd h

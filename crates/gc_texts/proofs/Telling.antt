@@ -14,7 +14,8 @@ front_is : (ss : List Settlement) (i : ℕ) → i < length ss → length (map se
 front_is ss i below = length-map (take i ss) settlement_seen ∙ omega (arith, length-take i ss, below)
 
 -- one more line
-pub lines_next : (place : ℕ) (ss : List Settlement) (i : ℕ) (s : Settlement) (old mid new : Option (List ℕ)) (line : List ℕ) → i < length ss → s ≡ get_or ss i s → line ≡ settlement_line (place + i) (settlement_seen s)
+pub lines_next : (place : ℕ) (ss : List Settlement) (i : ℕ) (s : Settlement) (old mid new : Option (List ℕ)) (line : List ℕ) → i < length ss
+    → s ≡ get_or ss i s → line ≡ settlement_line (place + i) (settlement_seen s)
     → Appends old mid (lines_from place (map settlement_seen (take i ss))) → Appends mid new line → Appends old new (lines_from place (map settlement_seen (take (i + 1) ss)))
 lines_next place ss i s old mid new line below is text so more =
     let front = map settlement_seen (take i ss) in
@@ -24,7 +25,8 @@ lines_next place ss i s old mid new line below is text so more =
     (Appends-append old mid new _ _ so more)
 
 -- a line that went in part
-pub lines_part : (place : ℕ) (ss : List Settlement) (i n : ℕ) (s : Settlement) (old mid new : Option (List ℕ)) (line : List ℕ) → i < length ss → s ≡ get_or ss i s → line ≡ settlement_line (place + i) (settlement_seen s)
+pub lines_part : (place : ℕ) (ss : List Settlement) (i n : ℕ) (s : Settlement) (old mid new : Option (List ℕ)) (line : List ℕ) → i < length ss
+    → s ≡ get_or ss i s → line ≡ settlement_line (place + i) (settlement_seen s)
     → Appends old mid (lines_from place (map settlement_seen (take i ss))) → TakesFront mid new n line → ToldPart place (map settlement_seen ss) old new
 lines_part place ss i n s old mid new line below is text so part =
     let front = map settlement_seen (take i ss) in

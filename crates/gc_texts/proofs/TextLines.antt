@@ -81,14 +81,17 @@ abbrev pub LineItems : {Item : Type 0} → Form Item → List ℕ → List Item 
 LineItems form line items = AreItems form (filter is_kept (line ∷ [])) items
 
 -- one line more is read
-pub reads_on : {Item : Type 0} (form : Form Item) (text now line : List ℕ) (rest : Option (List ℕ)) (number : ℕ) (items more : List Item) → Reads form text (Some now) number items → Cuts 10 now line rest → LineItems form (without_cr line) more → Reads form text rest (number + 1) (items ++ more)
+pub reads_on : {Item : Type 0} (form : Form Item) (text now line : List ℕ) (rest : Option (List ℕ)) (number : ℕ) (items more : List Item)
+    → Reads form text (Some now) number items → Cuts 10 now line rest → LineItems form (without_cr line) more
+    → Reads form text rest (number + 1) (items ++ more)
 reads_on form text now line rest number items more r cut of_line =
     let next : lines_left (Some now) ≡ without_cr line ∷ lines_left rest = lines-cut now line rest cut in
     record {
       read = r.read ++ without_cr line ∷ [];
       lines_are = r.lines_are ∙ ap (λ ls. r.read ++ ls) next ∙ sym (append_assoc r.read (without_cr line ∷ []) (lines_left rest));
       count = omega (arith, r.count, length-append r.read (without_cr line ∷ []));
-      items_are = subst (λ ls. AreItems form ls (items ++ more)) (sym (filter-append r.read (without_cr line ∷ []))) (AreItems-append form (filter is_kept r.read) (filter is_kept (without_cr line ∷ [])) items more r.items_are of_line);
+      items_are = subst (λ ls. AreItems form ls (items ++ more)) (sym (filter-append r.read (without_cr line ∷ [])))
+          (AreItems-append form (filter is_kept r.read) (filter is_kept (without_cr line ∷ [])) items more r.items_are of_line);
     }
 
 -- a line that is skipped has no item
@@ -100,7 +103,9 @@ pub kept_line : {Item : Type 0} (form : Form Item) (line : List ℕ) (item : Ite
 kept_line form line item kept is = subst (λ ls. AreItems form ls (item ∷ [])) (sym (ap (λ t. cond (not t) (line ∷ []) []) kept)) (is, tt)
 
 -- the next line has the form of no item
-pub first_faulty : {Item : Type 0} (form : Form Item) (text now line : List ℕ) (rest : Option (List ℕ)) (number : ℕ) (items : List Item) → Reads form text (Some now) number items → Cuts 10 now line rest → is_skipped (without_cr line) ≡ false → ((e : Item) → form (without_cr line) e → ⊥) → FirstFaulty form text (number + 1)
+pub first_faulty : {Item : Type 0} (form : Form Item) (text now line : List ℕ) (rest : Option (List ℕ)) (number : ℕ) (items : List Item)
+    → Reads form text (Some now) number items → Cuts 10 now line rest → is_skipped (without_cr line) ≡ false → ((e : Item) → form (without_cr line) e → ⊥)
+    → FirstFaulty form text (number + 1)
 first_faulty form text now line rest number items r cut kept none =
     record {
       front = r.read;
@@ -115,7 +120,9 @@ first_faulty form text now line rest number items r cut kept none =
     }
 
 -- the next line has the form of an item
-pub next_item : {Item : Type 0} (form : Form Item) (text now line : List ℕ) (rest : Option (List ℕ)) (number : ℕ) (items : List Item) → Reads form text (Some now) number items → Cuts 10 now line rest → is_skipped (without_cr line) ≡ false → (e : Item) → form (without_cr line) e → BehindAnItem form text
+pub next_item : {Item : Type 0} (form : Form Item) (text now line : List ℕ) (rest : Option (List ℕ)) (number : ℕ) (items : List Item)
+    → Reads form text (Some now) number items → Cuts 10 now line rest → is_skipped (without_cr line) ≡ false → (e : Item) → form (without_cr line) e
+    → BehindAnItem form text
 next_item form text now line rest number items r cut kept e is =
     record {
       front = r.read;

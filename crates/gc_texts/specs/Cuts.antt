@@ -1,5 +1,5 @@
 -- Texts cut at a mark: this project's own.
-use Rattle.std.specs.Prelude.{◌≡◌, ◌≢◌, ℕ, List, [], ◌∷◌, ◌++◌, Option, None, Some}
+use Rattle.std.specs.Prelude.{◌≡◌, ◌≢◌, ◌==◌, ℕ, List, [], ◌∷◌, ◌++◌, Option, None, Some, if◌then◌else◌}
 
 -- no byte is the mark
 abbrev pub Lacks : ℕ → List ℕ → Type 0
@@ -10,3 +10,13 @@ Lacks mark (b ∷ bs) = (b ≢ mark) × Lacks mark bs
 abbrev pub Cuts : ℕ → List ℕ → List ℕ → Option (List ℕ) → Type 0
 Cuts mark text front None = (text ≡ front) × Lacks mark front
 Cuts mark text front (Some rest) = (text ≡ front ++ mark ∷ rest) × Lacks mark front
+
+-- what stands before the first mark, or all of the text where there is none
+abbrev pub before : ℕ → List ℕ → List ℕ
+before mark [] = []
+before mark (b ∷ bs) = if b == mark then [] else b ∷ before mark bs
+
+-- what stands behind the first mark, or nothing
+abbrev pub behind : ℕ → List ℕ → List ℕ
+behind mark [] = []
+behind mark (b ∷ bs) = if b == mark then bs else behind mark bs

@@ -1,5 +1,5 @@
 -- How a command of a station's cycle ended: this project's own.
-use Rattle.std.specs.Prelude.{ℕ, List, Option, option_map}
+use Rattle.std.specs.Prelude.{ℕ, List, Option, Some, None, option_map, codes}
 use Rattle.gc_catalogue.specs.declared.answer.Answer.{Answer}
 use Rattle.gc_values.specs.declared.fault.ValueFault.{ValueFault}
 use Rattle.gc_texts.specs.declared.ending.Ending.{Ending}
@@ -23,3 +23,23 @@ ending_seen ending.Late = Late
 ending_seen ending.Lost = Lost
 ending_seen ending.Skipped = Skipped
 ending_seen ending.Missed = Missed
+
+-- the outcome in one word
+abbrev pub word_of : End → List ℕ
+word_of (Answered answer line) = codes "answered"
+word_of (Unreadable line fault) = codes "unreadable"
+word_of Late = codes "late"
+word_of Lost = codes "lost"
+word_of Skipped = codes "skipped"
+word_of Missed = codes "missed"
+
+-- why the values of its reply don't read, where they don't
+abbrev pub fault_of : End → Option ValueFault
+fault_of (Unreadable line fault) = Some fault
+fault_of _ = None
+
+-- the line of its reply, where one came in time
+abbrev pub line_of : End → Option (List ℕ)
+line_of (Answered answer line) = Some line
+line_of (Unreadable line fault) = Some line
+line_of _ = None

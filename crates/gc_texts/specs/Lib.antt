@@ -12,13 +12,8 @@ pub mod Faults
 pub mod FaultNumbers
 pub mod Stamps
 pub mod Endings
-pub mod Quantities
-pub mod Rows
-pub mod JsonLines
-pub mod Records
 pub mod Troubles
 pub mod Logs
 pub mod Laws
-pub mod Told
 pub mod Moments
 pub mod Chained

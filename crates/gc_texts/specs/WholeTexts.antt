@@ -1,9 +1,10 @@
 -- Texts that are read whole from a source, what they give, and why they are refused: this project's own.
 use Rattle.std.specs.Prelude.{◌≡◌, ℕ, ◌+◌, ◌<◌, ◌≤◌, ◌⊎◌, Bool, true, false, List, length, Option}
-use Rattle.std.specs.Io.KnownBytes.{IsAtEnd}
+use Rattle.std.specs.Io.KnownBytes.{Consumes, IsAtEnd}
 use Rattle.gc_lines.specs.declared.ports.Source.{Ghosts as Source}
 use Rattle.gc_texts.specs.Commands.{IsCommand, IsCommands}
 use Rattle.gc_texts.specs.LineForms.{TextFault}
+use Rattle.gc_texts.specs.Texts.{end_reads}
 use Rattle.gc_texts.specs.declared.commands.Command.{Command}
 use Rattle.gc_texts.specs.declared.text.TheConstants.{TEXT_LIMIT}
 use Rattle.gc_texts.specs.declared.fault.RunFault.{RunFault}
@@ -21,6 +22,11 @@ pub record Input : Type 0 where
 abbrev pub input_of : {S : Type 0} → Source S → S → Input
 input_of of_source source =
     record { remaining = of_source.remaining source; reads = of_source.reads source; ended = of_source.ended source; failed = of_source.failed source }
+
+-- a source gave these bytes, in at most a read for each and one for its end; and this holds of them
+abbrev pub Gave : Input → Input → (List ℕ → Type 0) → Type 0
+Gave old new claim =
+    (given : List ℕ) × Consumes old.remaining new.remaining given × (new.reads ≤ old.reads + length given + end_reads new.ended) × claim given
 
 -- a source gave a text, to its end
 pub record WasRead (given : List ℕ) (old new : Input) : Type 0 where

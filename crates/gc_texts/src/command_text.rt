@@ -1,9 +1,7 @@
 //! A command text, read whole from a source.
 
-ghost use Rattle.std.specs.Prelude.{◌+◌, ◌≤◌, ℕ, List, length, IfOk, IfErr};
-ghost use Rattle.std.specs.Io.KnownBytes.{Consumes};
-ghost use Rattle.gc_texts.specs.Texts.{end_reads};
-ghost use Rattle.gc_texts.specs.WholeTexts.{GivesCommands, RefusesCommands, input_of};
+ghost use Rattle.std.specs.Prelude.{◌+◌, ◌≤◌, IfOk, IfErr};
+ghost use Rattle.gc_texts.specs.WholeTexts.{Gave, GivesCommands, RefusesCommands, input_of};
 ghost use Rattle.gc_texts.specs.declared.text.TheConstants.{TEXT_LIMIT};
 
 use crate::commands::{Command, read_commands};
@@ -14,18 +12,10 @@ use std::alloc::Global;
 
 /// Reads the whole command text of a source. The faults are those of `read_commands`, and `Read` where a read failed.
 pub fn read_command_text<S: Source>(alloc: Global, source: &mut S) -> Result<Vec<Command>, RunFault>
-    ensures found { IfOk result (λ commands. (given : List ℕ) × Consumes (S.remaining source.old) (S.remaining source.new) given
-        × (S.reads source.new ≤ S.reads source.old + length given + end_reads (S.ended source.new))
-        × GivesCommands given
-        (input_of S.Source source.old)
-        (input_of S.Source source.new)
-        commands.items) }
-    ensures refused { IfErr result (λ fault. (given : List ℕ) × Consumes (S.remaining source.old) (S.remaining source.new) given
-        × (S.reads source.new ≤ S.reads source.old + length given + end_reads (S.ended source.new))
-        × RefusesCommands given
-        (input_of S.Source source.old)
-        (input_of S.Source source.new)
-        fault) }
+    ensures found { IfOk result (λ commands. Gave (input_of S.Source source.old) (input_of S.Source source.new) (λ given.
+        GivesCommands given (input_of S.Source source.old) (input_of S.Source source.new) commands.items)) }
+    ensures refused { IfErr result (λ fault. Gave (input_of S.Source source.old) (input_of S.Source source.new) (λ given.
+        RefusesCommands given (input_of S.Source source.old) (input_of S.Source source.new) fault)) }
     ensures bounded { S.reads source.new ≤ S.reads source.old + (TEXT_LIMIT + 1) }
 {
     match read_text(alloc, source) {

@@ -1,7 +1,8 @@
 //! Texts cut at a mark, as lines at their LF and words at their space.
 
+ghost use Rattle.std.specs.Prelude.{◌≡◌, ◌≤◌, length};
 ghost use Rattle.std.specs.Option.{option_copied};
-ghost use Rattle.gc_texts.specs.Cuts.{Cuts};
+ghost use Rattle.gc_texts.specs.Cuts.{Cuts, before, behind};
 
 use memchr::memchr;
 
@@ -12,5 +13,24 @@ pub fn cut_at(mark: u8, text: &[u8]) -> (&[u8], Option<&[u8]>)
     match memchr(mark, text) {
         Some(i) => (&text[..i], Some(&text[i + 1..])),
         None => (text, None),
+    }
+}
+
+/// What stands before the first mark, or all of the text where there is none.
+pub fn before(mark: u8, text: &[u8]) -> &[u8]
+    ensures is { result.now ≡ before mark text.now }
+    ensures short { length result.now ≤ length text.now }
+{
+    cut_at(mark, text).0
+}
+
+/// What stands behind the first mark, or nothing.
+pub fn behind(mark: u8, text: &[u8]) -> &[u8]
+    ensures is { result.now ≡ behind mark text.now }
+    ensures short { length result.now ≤ length text.now }
+{
+    match cut_at(mark, text).1 {
+        Some(rest) => rest,
+        None => b"",
     }
 }

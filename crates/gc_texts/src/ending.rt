@@ -1,4 +1,7 @@
-//! Endings: how a command of a station's cycle ended.
+//! Endings: how a command of a station's cycle ended, and the word of each.
+
+ghost use Rattle.std.specs.Prelude.{◌≡◌, ◌≤◌, length, option_map};
+ghost use Rattle.gc_texts.specs.Endings.{ending_seen, word_of, fault_of, line_of};
 
 use gc_catalogue::Answer;
 use gc_lines::Line;
@@ -19,4 +22,41 @@ pub enum Ending<'a> {
     Skipped,
     /// It wasn't sent: its cycle couldn't begin before the next was due.
     Missed,
+}
+
+impl<'a> Ending<'a> {
+    /// The outcome, as each line, row and object has it. A new one has its word here.
+    pub fn word(self) -> &'static [u8]
+        ensures is { result.now ≡ word_of (ending_seen self.entry) }
+        ensures short { length result.now ≤ 16 }
+    {
+        match self {
+            Ending::Answered(..) => b"answered",
+            Ending::Unreadable(..) => b"unreadable",
+            Ending::Late => b"late",
+            Ending::Lost => b"lost",
+            Ending::Skipped => b"skipped",
+            Ending::Missed => b"missed",
+        }
+    }
+
+    /// Why the values of its reply don't read, where they don't.
+    pub fn fault(self) -> Option<ValueFault>
+        ensures { result ≡ fault_of (ending_seen self.entry) }
+    {
+        match self {
+            Ending::Unreadable(_, fault) => Some(fault),
+            _ => None,
+        }
+    }
+
+    /// The line of its reply, where one came in time.
+    pub fn line(self) -> Option<&'a Line>
+        ensures { option_map (λ line. line.now.items) result ≡ line_of (ending_seen self.entry) }
+    {
+        match self {
+            Ending::Answered(_, line) | Ending::Unreadable(line, _) => Some(line),
+            Ending::Late | Ending::Lost | Ending::Skipped | Ending::Missed => None,
+        }
+    }
 }

@@ -2,9 +2,8 @@
 
 ghost use Rattle.gc_texts.specs.FaultNumbers.{FaultsHaveTheirNumbers};
 ghost use Rattle.gc_texts.specs.Chained.{CommandsGoOutSo};
-ghost use Rattle.gc_texts.specs.Told.{QuantitiesHaveTheirNames, RowsFillTheirColumns};
 ghost use Rattle.gc_texts.specs.Moments.{StampsAreMoments};
-ghost use Rattle.gc_texts.specs.Laws.{OneCommandList, OneTaskList, CommandsAreTasks, CommandsArePlain, ChainsAreRows, ColumnsAreFields, WantedIsTheCatalogues, LogLinesReadBack, LogLinesArePrintable, RowsReadBack, RowsArePrintable, JsonLinesReadBack, RecordsAreMembers};
+ghost use Rattle.gc_texts.specs.Laws.{OneCommandList, OneTaskList, CommandsAreTasks, CommandsArePlain, ChainsAreRows, WantedIsTheCatalogues, LogLinesReadBack, LogLinesArePrintable};
 
 /// A text gives one list of commands at most.
 pub fn commands_have_one_reading()
@@ -27,12 +26,7 @@ pub fn chains_are_rows()
     ensures { ChainsAreRows }
 {}
 
-/// The columns of a record that stand for a reply are its communication code, its return code and its values.
-pub fn columns_are_a_replys_fields()
-    ensures { ColumnsAreFields }
-{}
-
-/// How many parameters a trouble says that a procedure wants is how many it has.
+/// The number of parameters that a trouble gives for a procedure is the catalogue's.
 pub fn wanted_is_the_catalogues()
     ensures { WantedIsTheCatalogues }
 {}
@@ -47,27 +41,6 @@ pub fn log_lines_are_printable()
     ensures { LogLinesArePrintable }
 {}
 
-/// A reader of comma-separated values gives each row back as its fields, and a table as its rows, whatever bytes a reply had; and
-/// a field was written of no other bytes.
-pub fn rows_read_back()
-    ensures { RowsReadBack }
-{}
-
-/// A row has no byte below 32 nor above 126 before its line feed.
-pub fn rows_are_printable()
-    ensures { RowsArePrintable }
-{}
-
-/// A line of JSON reads as an object of its members, in their order, whatever bytes they hold.
-pub fn json_lines_read_back()
-    ensures { JsonLinesReadBack }
-{}
-
-/// The members of a record's line are such that it reads back: plain names, texts of bytes, and numbers of JSON.
-pub fn records_are_members()
-    ensures { RecordsAreMembers }
-{}
-
 /// Each fault has its number of the table of faults. The two that have a type of their own, a full window and a full scene, have
 /// theirs, 31 and 41, in the clause of their call.
 pub fn faults_have_their_numbers()
@@ -79,17 +52,6 @@ pub fn faults_have_their_numbers()
 /// between the two: lines of deadlines and names leave a chain whole.
 pub fn commands_go_out_as_their_lines_say()
     ensures { CommandsGoOutSo }
-{}
-
-/// The values of an answer stand under the names of what its procedure tells, by its number in the manual's procedure tables. The
-/// columns of a row and the members of an object have these names.
-pub fn quantities_have_their_names()
-    ensures { QuantitiesHaveTheirNames }
-{}
-
-/// However a command ended, its row has as many fields as the header has names.
-pub fn rows_fill_their_columns()
-    ensures { RowsFillTheirColumns }
 {}
 
 /// A stamp has its day, hour, minute and second, and the milliseconds behind them, each in the digits that count it. The days are

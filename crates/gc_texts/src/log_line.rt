@@ -91,8 +91,8 @@ pub fn append_escaped<const N: usize>(to: &mut ArrayVec<u8, N>, bytes: &[u8])
     }
 }
 
-// Bytes in the form of a log line, for what quotes them.
-pub(crate) fn escaped(bytes: &[u8]) -> ArrayVec<u8, 2056>
+/// Bytes in the form of a log line, for what quotes them.
+pub fn escaped(bytes: &[u8]) -> ArrayVec<u8, 2056>
     requires { length bytes.now ≤ 514 }
     ensures is { result.items ≡ escaped bytes.now }
     ensures short { array_vec_len result ≤ 4 * length bytes.now }

@@ -19,7 +19,7 @@ pub struct Name {
     pub text: ArrayVec<u8, NAME_ROOM>,
 }
 
-// Whether a byte stands in no name: all but printable ASCII, and the comma and the double quote, which rows use.
+// Whether a text has a byte that no name may have: one that isn't printable ASCII, or a comma or double quote, which rows use.
 fn is_foreign(text: &[u8]) -> bool
     ensures { result ≡ list_any is_foreign text.now }
 {
@@ -37,7 +37,7 @@ fn is_formula(text: &[u8]) -> bool
     }
 }
 
-/// Whether a text is a name: 1 to 64 bytes, none of which stands in no name, and no formula.
+/// Whether a text is a name: 1 to 64 bytes, all of them allowed in a name, and not what a spreadsheet takes for a formula.
 pub(crate) fn is_name(text: &[u8]) -> bool
     ensures { result ≡ is_name text.now }
 {

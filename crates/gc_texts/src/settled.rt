@@ -15,21 +15,24 @@ use std::alloc::AllocError;
 pub fn append_settlements(text: &mut Vec<u8>, settlements: &[Settlement]) -> Result<(), AllocError>
     ensures { OnOk result (text.new.items ≡ text.old.items ++ settlement_lines (map settlement_seen settlements.now)) }
 {
+    let mut line = ArrayVec::new();
     for (place, settlement) in settlements.iter().enumerate() {
-        append_settlement(text, place, settlement)?;
+        append_settlement(text, &mut line, place, settlement)?;
     }
     Ok(())
 }
 
-// Appends the line of the settlement at a place.
+// Appends the line of the settlement at a place. It is made in the line that is handed in, whatever stood there.
 fn append_settlement(
     text: &mut Vec<u8>,
+    line: &mut ArrayVec<u8, LINE_ROOM>,
     place: usize,
     settlement: &Settlement,
 ) -> Result<(), AllocError>
     ensures { OnOk result (text.new.items ≡ text.old.items ++ settlement_line place (settlement_seen settlement.now)) }
 {
-    text.extend_from_slice(line_of(place, settlement).as_slice())
+    write_line(line, place, settlement);
+    text.extend_from_slice(line.as_slice())
 }
 
 /// Writes the lines of settlements, the first of them at this place, each in one write where the sink takes all of it.
@@ -42,8 +45,9 @@ pub fn write_settlements<K: Sink>(
     requires { place + length settlements.now ≤ 2 ^ 64 }
     ensures { Told place (map settlement_seen settlements.now) (K.taken sink.old) (K.taken sink.new) (K.failed sink.old) (K.failed sink.new) result }
 {
+    let mut line = ArrayVec::new();
     for (i, settlement) in settlements.iter().enumerate() {
-        let line = line_of(place + i, settlement);
+        write_line(&mut line, place + i, settlement);
         if let Err(_) = write_whole(sink, line.as_slice()) {
             return Err(RunFault::Output);
         }
@@ -54,23 +58,23 @@ pub fn write_settlements<K: Sink>(
 // The most bytes of a settlement's line: a place and a target, the words, and the reply's line.
 const LINE_ROOM: usize = 20 + 1 + 10 + 10 + 512 + 1;
 
-// The line of the settlement at a place.
-fn line_of(place: usize, settlement: &Settlement) -> ArrayVec<u8, LINE_ROOM>
-    ensures { result.items ≡ settlement_line place (settlement_seen settlement.now) }
+// Writes the line of the settlement at a place over another one: a line that is kept for all of them is blanked by as many bytes
+// as it has.
+fn write_line(line: &mut ArrayVec<u8, LINE_ROOM>, place: usize, settlement: &Settlement)
+    ensures { line.new.items ≡ settlement_line place (settlement_seen settlement.now) }
 {
     let mut digits = Buffer::new();
-    let mut line = ArrayVec::new();
-    append(&mut line, digits.format(place).as_bytes());
-    append(&mut line, b" ");
-    append(&mut line, digits.format(settlement.target).as_bytes());
+    line.clear();
+    append(line, digits.format(place).as_bytes());
+    append(line, b" ");
+    append(line, digits.format(settlement.target).as_bytes());
     match &settlement.outcome {
         Outcome::Answered(_, reply) => {
-            append(&mut line, b" answered ");
-            append(&mut line, reply);
+            append(line, b" answered ");
+            append(line, reply);
         }
-        Outcome::Late => append(&mut line, b" late"),
-        Outcome::Lost => append(&mut line, b" lost"),
+        Outcome::Late => append(line, b" late"),
+        Outcome::Lost => append(line, b" lost"),
     }
-    append(&mut line, b"\n");
-    line
+    append(line, b"\n");
 }

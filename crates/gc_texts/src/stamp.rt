@@ -1,4 +1,4 @@
-//! Moments as text: UTC by the Gregorian calendar, to the millisecond.
+//! Moments: when a command was sent and ended, and a moment as text, UTC by the Gregorian calendar, to the millisecond.
 
 ghost use Rattle.std.specs.Prelude.{◌≡◌, ℕ, ◌+◌, ◌^◌, ◌<◌, ◌≤◌, ◌++◌, if◌then◌else◌};
 ghost use Rattle.arrayvec.specs.ArrayVec.{array_vec_len};
@@ -7,6 +7,19 @@ ghost use Rattle.gc_texts.specs.Stamps.{is_leap, month_days, year_days, days_aft
 use arrayvec::ArrayVec;
 use gc_lines::append;
 use itoa::Buffer;
+
+/// When a command was sent and ended, in milliseconds since 1970-01-01, UTC, and which command of its run it was.
+#[derive(Clone, Copy, Debug, PartialEq, Eq)]
+pub struct Stamp {
+    /// The moment that was told last before its request went out. None: it was never sent.
+    pub sent: Option<u64>,
+    /// The moment that was told last when it ended. Of a command of a missed cycle, the one at which that cycle was due.
+    pub utc: u64,
+    /// The cycle, counted from 1.
+    pub cycle: u64,
+    /// The command's place among the commands of a cycle, counted from 0.
+    pub place: usize,
+}
 
 // A day of the Gregorian calendar.
 #[derive(Clone, Copy)]
@@ -60,7 +73,7 @@ fn date_of(days: u64) -> Date
     day_of_year(year, left)
 }
 
-// The day on which so many days of a year have gone by, which has more.
+// The day of a year before which `days` days of that year have gone by. The year has more days than that.
 fn day_of_year(year: u64, days: u64) -> Date
     requires { days < year_days year }
     ensures date { result ≡ days_after days (record { year = year; month = 1; day = 1 }) }

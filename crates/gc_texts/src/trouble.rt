@@ -4,8 +4,8 @@ ghost use Rattle.std.specs.Prelude.{◌≡◌, ◌++◌, OnOk, codes};
 ghost use Rattle.std.specs.Io.KnownBytes.{Appends};
 ghost use Rattle.gc_texts.specs.Troubles.{wanted, list_trouble, IsCallTrouble, IsTrouble, trouble_text, trouble_line};
 
+use crate::cuts::{before, behind};
 use crate::procedure::{TARGET_MAX, number_of};
-use crate::row::{before, behind};
 use crate::task_line::is_word;
 use gc_catalogue::{CallFault, decode_call};
 use gc_lines::Request;
@@ -17,7 +17,7 @@ use std::io::{self, Write};
 pub enum Trouble {
     /// No procedure has this number.
     NoProcedure(u16),
-    /// The procedure of this number has another number of parameters: so many.
+    /// The procedure with this number has another number of parameters than the line: the second value.
     Wants(u16, u8),
     /// The parameters, one of which hasn't the form or the range of its kind.
     Parameters,

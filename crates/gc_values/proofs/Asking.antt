@@ -15,6 +15,9 @@ items_fault items ks e few (wrong_count is other) = lists.wrong_count is few (λ
 items_fault items ks e few (first_fault same f) = faulty_item few (omega arith) f
 
 -- what is a fault where nothing was asked for is the list's
-pub list_fault : (r : Result (List (List ℕ)) ValueFault) (ks : List Kind) (params : List ℕ) (e : ValueFault) → IfOk r (λ items. IsParams params items × (length items ≤ 16)) → IfErr r (λ f. (f ≡ OpenQuote) ⊎ (f ≡ TooMany)) → (r ≡ Err OpenQuote → quotes params % 2 ≡ 1) → (r ≡ Err TooMany → (items : List (List ℕ)) × IsParams params items × (16 < length items)) → FailsFrom r 0 None ks e → IsListFault ks params e
+pub list_fault : (r : Result (List (List ℕ)) ValueFault) (ks : List Kind) (params : List ℕ) (e : ValueFault)
+    → IfOk r (λ items. IsParams params items × (length items ≤ 16)) → IfErr r (λ f. (f ≡ OpenQuote) ⊎ (f ≡ TooMany))
+    → (r ≡ Err OpenQuote → quotes params % 2 ≡ 1) → (r ≡ Err TooMany → (items : List (List ℕ)) × IsParams params items × (16 < length items))
+    → FailsFrom r 0 None ks e → IsListFault ks params e
 list_fault (Ok items) ks params e found faults odd many f = faulty_items items found.0 (items_fault items ks e found.1 f)
 list_fault (Err refusal) ks params e found faults odd many f = rw f (split_fault {X = List (List ℕ)} (Err refusal) ks params refusal refl faults odd many)

@@ -51,6 +51,7 @@ decimal_eq_itself a = ap (λ t. t && (a.scale == a.scale)) ((signed_Decides a.di
 -- `==` tells equal decimals
 pub decimal_eq_is : (a b : Decimal) → IsTrue (decimal_eq a b) ↔ (a ≡ b)
 decimal_eq_is a b = (
-  λ h. same_decimal a b ((signed_Decides a.digits b.digits).0 (first_so (int_eq a.digits b.digits) (a.scale == b.scale) h)) ((unsigned_Decides a.scale b.scale).0 (second_so (int_eq a.digits b.digits) (a.scale == b.scale) h)),
+  λ h. same_decimal a b ((signed_Decides a.digits b.digits).0 (first_so (int_eq a.digits b.digits) (a.scale == b.scale) h))
+      ((unsigned_Decides a.scale b.scale).0 (second_so (int_eq a.digits b.digits) (a.scale == b.scale) h)),
   λ e. ap (decimal_eq a) (sym e) ∙ decimal_eq_itself a,
 )

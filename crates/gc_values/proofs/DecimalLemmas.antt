@@ -19,7 +19,8 @@ same_proofs : (m : ℤ) (s : ℕ) (p p' : s ≤ 24) (r r' : IsInRange m s) (c c'
 same_proofs m s p p' r r' c c' =
     ap (λ x. make m s x r c) (le_prop s 24 p p') ∙ ap (λ x. make m s p' x c) (range_prop m s r r') ∙ ap (make m s p' r') (canonical_prop m s c c')
 
-same_fields : (m : ℤ) (s : ℕ) (p : s ≤ 24) (r : IsInRange m s) (c : IsCanonical m s) (n : ℤ) (t : ℕ) → m ≡ n → s ≡ t → (p' : t ≤ 24) (r' : IsInRange n t) (c' : IsCanonical n t) → make m s p r c ≡ make n t p' r' c'
+same_fields : (m : ℤ) (s : ℕ) (p : s ≤ 24) (r : IsInRange m s) (c : IsCanonical m s) (n : ℤ) (t : ℕ) → m ≡ n → s ≡ t
+    → (p' : t ≤ 24) (r' : IsInRange n t) (c' : IsCanonical n t) → make m s p r c ≡ make n t p' r' c'
 same_fields m s p r c n t e f =
     let P : ℤ → Type 0 = λ n. (p' : t ≤ 24) (r' : IsInRange n t) (c' : IsCanonical n t) → make m s p r c ≡ make n t p' r' c' in
     let Q : ℕ → Type 0 = λ t. (p' : t ≤ 24) (r' : IsInRange m t) (c' : IsCanonical m t) → make m s p r c ≡ make m t p' r' c' in

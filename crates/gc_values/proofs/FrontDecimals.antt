@@ -14,7 +14,8 @@ use Rattle.gc_values.proofs.ReadLemmas.{reads_value}
 use Rattle.gc_values.proofs.TextShape.{AreBare-append, bare_above, bare_digits, bare_param}
 use Rattle.gc_values.proofs.UnitsLemmas.{capped_short}
 
-pub counts_more : (front : ℕ) (text : List ℕ) (most value more i : ℕ) → CountsDigits front text most value i → i < length text → i < most → IsDigit (get_or text i 0) → more ≡ value * 10 + (get_or text i 0 - 48) → CountsDigits front text most more (i + 1)
+pub counts_more : (front : ℕ) (text : List ℕ) (most value more i : ℕ) → CountsDigits front text most value i → i < length text → i < most
+    → IsDigit (get_or text i 0) → more ≡ value * 10 + (get_or text i 0 - 48) → CountsDigits front text most more (i + 1)
 counts_more front text most value more i c inside few digit e = record {
   within = omega arith;
   few = omega arith;
@@ -51,7 +52,8 @@ front_cut text w f tail rest e is_w is_f stands = record {
     stood None h = e ∙ ap (λ t. w ++ 46 ∷ (f ++ t)) h ∙ ap (λ t. w ++ 46 ∷ t) (append-nil f)
     stood (Some behind) h = e ∙ ap (λ t. w ++ 46 ∷ (f ++ t)) h ∙ sym (append_assoc w (46 ∷ f) (44 ∷ behind))
 
-front_spells : (w f : List ℕ) (units : ℕ) (m : ℤ) (s : ℕ) → AreDigits w → AreDigits f → 0 < length w → length w ≤ 13 → length w + length f ≤ 18 → units ≡ number (w ++ f) → MadeOf false units (length f) m s → Spells (w ++ 46 ∷ f) m s
+front_spells : (w f : List ℕ) (units : ℕ) (m : ℤ) (s : ℕ) → AreDigits w → AreDigits f → 0 < length w → length w ≤ 13 → length w + length f ≤ 18
+    → units ≡ number (w ++ f) → MadeOf false units (length f) m s → Spells (w ++ 46 ∷ f) m s
 front_spells w f units m s is_w is_f some short few e made =
     let digits = AreDigits-append w f is_w is_f in
     let size = length-append w f in
@@ -72,7 +74,8 @@ front_spells w f units m s is_w is_f some short few e made =
     (omega (arith, e, below, most, pow-add 10 13 (length f))) made
 
 -- digits, a point and digits at the front
-pub front_found : (text behind tail : List ℕ) (at places whole value : ℕ) (rest : Option (List ℕ)) (d : Decimal) → CountsDigits 0 text 13 whole at → 0 < at → at < length text → get_or text at 0 ≡ 46 → behind ≡ drop (at + 1) text
+pub front_found : (text behind tail : List ℕ) (at places whole value : ℕ) (rest : Option (List ℕ)) (d : Decimal) → CountsDigits 0 text 13 whole at → 0 < at
+    → at < length text → get_or text at 0 ≡ 46 → behind ≡ drop (at + 1) text
     → CountsDigits whole behind (18 - at) value places → tail ≡ drop places behind → Stands tail [] rest → MadeOf false value places d.digits d.scale → CutsDecimal text d rest
 front_found text behind tail at places whole value rest d a some inside point behind_is b tail_is stands made =
     let w : List ℕ = take at text in
@@ -82,12 +85,15 @@ front_found text behind tail at places whole value rest d a some inside point be
     let few_a = a.few in
     let few_b = b.few in
     let parted : behind ≡ f ++ tail = sym (take-append-drop places behind) ∙ ap (λ t. f ++ t) (sym tail_is) in
-    let whole_text : text ≡ w ++ 46 ∷ (f ++ tail) = sym (take-append-drop at text) ∙ ap (λ t. w ++ t) (drop_more text at 0 inside ∙ ap (λ b. b ∷ drop (at + 1) text) point ∙ ap (λ t. 46 ∷ t) (sym behind_is ∙ parted)) in
-    let number_is : value ≡ number (w ++ f) = b.value_is ∙ ap (λ n. n * 10 ^ places + number f) (let n : whole ≡ number w = omega (arith, a.value_is) in n) ∙ ap (λ k. number w * 10 ^ k + number f) (sym long_f) ∙ sym (number-append w f) in
+    let whole_text : text ≡ w ++ 46 ∷ (f ++ tail) = sym (take-append-drop at text)
+    ∙ ap (λ t. w ++ t) (drop_more text at 0 inside ∙ ap (λ b. b ∷ drop (at + 1) text) point ∙ ap (λ t. 46 ∷ t) (sym behind_is ∙ parted)) in
+    let number_is : value ≡ number (w ++ f) = b.value_is ∙ ap (λ n. n * 10 ^ places + number f) (let n : whole ≡ number w = omega (arith, a.value_is) in n)
+    ∙ ap (λ k. number w * 10 ^ k + number f) (sym long_f) ∙ sym (number-append w f) in
     record {
       item = w ++ 46 ∷ f;
       cut = front_cut text w f tail rest whole_text a.digits b.digits stands;
-      spelled = front_spells w f value d.digits d.scale a.digits b.digits (omega (arith, long_w)) (omega (arith, long_w)) (omega (arith, long_w, long_f)) number_is (subst (λ k. MadeOf false value k d.digits d.scale) (sym long_f) made);
+      spelled = front_spells w f value d.digits d.scale a.digits b.digits (omega (arith, long_w)) (omega (arith, long_w))
+          (omega (arith, long_w, long_f)) number_is (subst (λ k. MadeOf false value k d.digits d.scale) (sym long_f) made);
     }
 
 -- and the number is in range

@@ -16,7 +16,9 @@ decode_sized-pair a b = refl
 abbrev pub Answers : ℕ → ℕ → Option ℕ → Type 0
 Answers a b r = MatchResult (decode_sized (a ∷ b ∷ []) 1) (λ bytes. IsSomeAnd r (λ n. bytes ≡ n ∷ [])) (λ _. r ≡ None)
 
-found : (a b n : ℕ) (x y : Option ℕ) → hex_digit_value a ≡ x → hex_digit_value b ≡ y → MatchResult (pair_of a b x y) (λ bytes. bytes ≡ n ∷ []) (λ _. Some n ≡ None) → (h : ℕ) × (l : ℕ) × (hex_digit_value a ≡ Some h) × (hex_digit_value b ≡ Some l) × (n ≡ h * 16 + l)
+found : (a b n : ℕ) (x y : Option ℕ) → hex_digit_value a ≡ x → hex_digit_value b ≡ y
+    → MatchResult (pair_of a b x y) (λ bytes. bytes ≡ n ∷ []) (λ _. Some n ≡ None)
+    → (h : ℕ) × (l : ℕ) × (hex_digit_value a ≡ Some h) × (hex_digit_value b ≡ Some l) × (n ≡ h * 16 + l)
 found a b n (Some h) (Some l) p q m = (h, l, p, q, let e : n ≡ h * 16 + l = cc in e)
 found a b n (Some h) None p q m = absurd (cc)
 found a b n None y p q m = absurd (cc)
@@ -26,7 +28,8 @@ byte_found text a b n e m =
     let r = found a b n (hex_digit_value a) (hex_digit_value b) refl refl (rw decode_sized-pair at m) in
     record { a = a; b = b; high = r.0; low = r.1; text_is = e; high_is = r.2; low_is = r.3; value = r.4 }
 
-none_found : (a b : ℕ) (x y : Option ℕ) (h l : ℕ) → x ≡ Some h → y ≡ Some l → MatchResult (pair_of a b x y) (λ bytes. IsSomeAnd {T = ℕ} None (λ n. bytes ≡ n ∷ [])) (λ _. ◌≡◌ {A = Option ℕ} None None) → ⊥
+none_found : (a b : ℕ) (x y : Option ℕ) (h l : ℕ) → x ≡ Some h → y ≡ Some l
+    → MatchResult (pair_of a b x y) (λ bytes. IsSomeAnd {T = ℕ} None (λ n. bytes ≡ n ∷ [])) (λ _. ◌≡◌ {A = Option ℕ} None None) → ⊥
 none_found a b (Some x) (Some y) h l p q m = m
 none_found a b (Some x) None h l p q m = cc
 none_found a b None y h l p q m = cc

@@ -95,7 +95,9 @@ one_fault k item e f (inr x) (inl y) = absurd (no_form_not_beyond k item y.1 x.1
 one_fault k item e f (inr x) (inr y) = x.0 ∙ sym y.0
 
 -- what the reader of doubles says of its faults is the row of doubles
-pub double_fault : (r : Result Decimal ValueFault) (item : List ℕ) → IfErr r (λ e. (e ≡ fault.Range) ⊎ (e ≡ fault.Spelling)) → (r ≡ Err fault.Range → SpellsBeyond item) → (r ≡ Err fault.Spelling → SpellsNothing item) → IfErr r (λ e. IsItemFault kind.Double item e)
+pub double_fault : (r : Result Decimal ValueFault) (item : List ℕ) → IfErr r
+    (λ e. (e ≡ fault.Range) ⊎ (e ≡ fault.Spelling)) → (r ≡ Err fault.Range → SpellsBeyond item) → (r ≡ Err fault.Spelling → SpellsNothing item)
+    → IfErr r (λ e. IsItemFault kind.Double item e)
 double_fault (Ok d) item h range spelling = h
 double_fault (Err e) item (inl is) range spelling = inr (is, range (ap Err is))
 double_fault (Err e) item (inr is) range spelling = inl (is, spelling (ap Err is))

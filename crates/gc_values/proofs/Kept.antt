@@ -184,7 +184,8 @@ AreDigits-take [] (suc i) h = tt
 AreDigits-take (d ∷ ds) (suc i) h = (h.0, AreDigits-take ds i h.1)
 
 -- a front and the digits behind it, one at a time
-pub followed_more : (front value more : ℕ) (ds : List ℕ) (i : ℕ) → i < length ds → value ≡ front * 10 ^ i + number (take i ds) → more ≡ value * 10 + (get_or ds i 0 - 48) → more ≡ front * 10 ^ (i + 1) + number (take (i + 1) ds)
+pub followed_more : (front value more : ℕ) (ds : List ℕ) (i : ℕ) → i < length ds → value ≡ front * 10 ^ i + number (take i ds)
+    → more ≡ value * 10 + (get_or ds i 0 - 48) → more ≡ front * 10 ^ (i + 1) + number (take (i + 1) ds)
 followed_more front value more ds i inside e f =
     let power : 10 ^ (i + 1) ≡ 10 ^ i * 10 = rw add-one (pow-suc 10 i) in
     omega (arith, e, f, number-take_more ds i inside, ap (λ p. front * p) power)
@@ -201,5 +202,6 @@ followed_small front value ds i digits inside e room =
 -- few digits in two runs
 pub room_behind : (ws fs : List ℕ) → AreDigits ws → length ws + length fs ≤ 18 → (number ws + 1) * 10 ^ length fs ≤ 10 ^ 18
 room_behind ws fs digits few =
-    let most : (number ws + 1) * 10 ^ length fs ≤ 10 ^ length ws * 10 ^ length fs = mul-le-mul_right {m = number ws + 1} {n = 10 ^ length ws} (10 ^ length fs) (let n = number-lt ws digits in omega arith) in
+    let most : (number ws + 1) * 10 ^ length fs ≤ 10 ^ length ws * 10 ^ length fs =
+    mul-le-mul_right {m = number ws + 1} {n = 10 ^ length ws} (10 ^ length fs) (let n = number-lt ws digits in omega arith) in
     omega (arith, most, pow-add 10 (length ws) (length fs), ten_pow_le (length ws + length fs) 18 few)

@@ -98,6 +98,8 @@ pub params_fit : (vs : List Value) (params : List ℕ) → AreParams params vs �
 params_fit vs params x = items_fit vs x.items x.read
 
 -- what splitting refuses
-pub split_fault : {X : Type 0} (r : Result X ValueFault) (ks : List Kind) (params : List ℕ) (e : ValueFault) → r ≡ Err e → ((e ≡ OpenQuote) ⊎ (e ≡ TooMany)) → (r ≡ Err OpenQuote → quotes params % 2 ≡ 1) → (r ≡ Err TooMany → (items : List (List ℕ)) × IsParams params items × (16 < length items)) → IsListFault ks params e
+pub split_fault : {X : Type 0} (r : Result X ValueFault) (ks : List Kind) (params : List ℕ) (e : ValueFault) → r ≡ Err e → ((e ≡ OpenQuote) ⊎ (e ≡ TooMany))
+    → (r ≡ Err OpenQuote → quotes params % 2 ≡ 1) → (r ≡ Err TooMany → (items : List (List ℕ)) × IsParams params items × (16 < length items))
+    → IsListFault ks params e
 split_fault r ks params e was (inl q) odd many = open_quote q (odd (was ∙ ap (λ f. Err f) q))
 split_fault r ks params e was (inr q) odd many = let found = many (was ∙ ap (λ f. Err f) q) in faulty_items found.0 found.1 (too_many q found.2)

@@ -213,7 +213,8 @@ holds_some text f other =
     let tens : number (f.whole ++ f.fraction) % 10 ≡ number f.fraction % 10 = last_of_all f.whole f.fraction f.fraction_is.some in
     holds text f (number (f.whole ++ f.fraction)) (length f.fraction) f.no_minus_on_zero (λ _ divides. other (sym tens ∙ divides)) f.fraction_is.few
     (ap (λ x. x / p) all ∙ div-mul-add (number f.whole) p (number f.fraction) few)
-    (behind_again (length f.fraction) (number (f.whole ++ f.fraction) % p) f.fraction f.fraction_is.are_digits refl (sym (mod_is (number (f.whole ++ f.fraction)) (number f.whole) p (number f.fraction) few all)) f.fraction_is.some) where
+    (behind_again (length f.fraction) (number (f.whole ++ f.fraction) % p) f.fraction f.fraction_is.are_digits refl
+    (sym (mod_is (number (f.whole ++ f.fraction)) (number f.whole) p (number f.fraction) few all)) f.fraction_is.some) where
       last_of_all : (ws fs : List ℕ) → 0 < length fs → number (ws ++ fs) % 10 ≡ number fs % 10
       last_of_all ws [] some = absurd (omega (arith, some))
       last_of_all ws (d ∷ ds) some = omega (arith, number-append ws (d ∷ ds), pow-suc 10 (length ds), ap (λ x. number ws * x) (pow-suc 10 (length ds)))

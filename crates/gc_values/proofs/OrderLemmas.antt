@@ -61,7 +61,8 @@ moved b m c n a a' d d' p some e f h =
 moved_signed : (b : Bool) (m : ℕ) (c : Bool) (n a a' d d' p : ℕ) → 0 < p → a * a' ≡ p → d * d' ≡ p → (signed b m *ℤ pos a') <ℤ (signed c n *ℤ pos d') → (signed b m *ℤ pos d) <ℤ (signed c n *ℤ pos a)
 moved_signed b m c n a a' d d' p some e f h =
     let there = less_from b (m * a') c (n * d') (subst (λ x. x <ℤ signed c (n * d')) (signed-mul b m a') (subst (λ y. (signed b m *ℤ pos a') <ℤ y) (signed-mul c n d') h)) in
-    subst (λ x. x <ℤ (signed c n *ℤ pos a)) (sym (signed-mul b m d)) (subst (λ y. signed b (m * d) <ℤ y) (sym (signed-mul c n a)) (less_to b (m * d) c (n * a) (moved b m c n a a' d d' p some e f there)))
+    subst (λ x. x <ℤ (signed c n *ℤ pos a)) (sym (signed-mul b m d)) (subst (λ y. signed b (m * d) <ℤ y) (sym (signed-mul c n a))
+    (less_to b (m * d) c (n * a) (moved b m c n a a' d d' p some e f there)))
 
 moved_whole : (z w : ℤ) (a a' d d' p : ℕ) → 0 < p → a * a' ≡ p → d * d' ≡ p → (z *ℤ pos a') <ℤ (w *ℤ pos d') → (z *ℤ pos d) <ℤ (w *ℤ pos a)
 moved_whole z w a a' d d' p some e f =

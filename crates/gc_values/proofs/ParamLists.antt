@@ -113,7 +113,15 @@ one_piece piece keeps even =
 more_pieces : (piece rest : List ℕ) → KeepsCommas piece → quotes piece % 2 ≡ 0 → HasPieces rest → HasPieces (piece ++ 44 ∷ rest)
 more_pieces piece rest keeps even r =
     let t = trimmed_exists piece in
-    record { first = piece; others = r.first ∷ r.others; item = back_off (front_off piece); items = r.item ∷ r.items; text_is = ap (λ xs. piece ++ 44 ∷ xs) r.text_is; are = (t.padded, trimmed_is_param piece _ t keeps even, r.are) }
+    record {
+      first = piece;
+      others = r.first ∷ r.others;
+      item = back_off (front_off piece);
+      items = r.item ∷ r.items;
+      text_is =
+          ap (λ xs. piece ++ 44 ∷ xs) r.text_is;
+      are = (t.padded, trimmed_is_param piece _ t keeps even, r.are);
+    }
 
 even_behind : (xs ys : List ℕ) → quotes xs % 2 ≡ 0 → quotes (xs ++ 44 ∷ ys) % 2 ≡ 0 → quotes ys % 2 ≡ 0
 even_behind xs ys first both = let sum = quotes-comma xs ys in omega (arith, first, both, sum)
@@ -149,7 +157,8 @@ pub record SplitSoFar (text : List ℕ) (items : List (List ℕ)) (rest : List �
   pub even : quotes rest % 2 ≡ 0
 
 -- one item more
-pub split_more : (text rest piece next item : List ℕ) (items : List (List ℕ)) → SplitSoFar text items rest → CutsPiece rest piece (Some next) → IsTrimmed piece item → SplitSoFar text (items ++ item ∷ []) next
+pub split_more : (text rest piece next item : List ℕ) (items : List (List ℕ)) → SplitSoFar text items rest → CutsPiece rest piece (Some next)
+    → IsTrimmed piece item → SplitSoFar text (items ++ item ∷ []) next
 split_more text rest piece next item items s cut t = record {
   pieces = s.pieces ++ piece ∷ [];
   text_is = s.text_is ∙ ap (led s.pieces) cut.0 ∙ sym (led-push s.pieces piece next);
@@ -162,7 +171,8 @@ params_from bytes [] some h = absurd (omega arith)
 params_from bytes (i ∷ is) some h = h
 
 -- the last item
-pub split_last : (text rest piece item : List ℕ) (items : List (List ℕ)) → SplitSoFar text items rest → CutsPiece rest piece None → IsTrimmed piece item → (AreSpaces text → ⊥) → IsParams text (items ++ item ∷ [])
+pub split_last : (text rest piece item : List ℕ) (items : List (List ℕ)) → SplitSoFar text items rest → CutsPiece rest piece None → IsTrimmed piece item
+    → (AreSpaces text → ⊥) → IsParams text (items ++ item ∷ [])
 split_last text rest piece item items s cut t some =
     let even : quotes piece % 2 ≡ 0 = ap (λ xs. quotes xs % 2) (sym cut.0) ∙ s.even in
     params_from text (items ++ item ∷ []) (omega (arith, length-append items (item ∷ []))) (record {

@@ -16,7 +16,8 @@ use Rattle.gc_values.proofs.Unique.{names_once}
 abbrev pub fraction_of : Bool → List ℕ → List ℕ → ℕ → ℕ → Fraction
 fraction_of negative whole fraction up down = record { n = signed negative (number (whole ++ fraction) * 10 ^ up); k = length fraction + down }
 
-same_fraction : (text : List ℕ) (negative : Bool) (whole fraction : List ℕ) (up down : ℕ) (r : ReadsNumeral text negative whole fraction up down) → fraction_of negative whole fraction up down ≡ value r.parts
+same_fraction : (text : List ℕ) (negative : Bool) (whole fraction : List ℕ) (up down : ℕ) (r : ReadsNumeral text negative whole fraction up down)
+    → fraction_of negative whole fraction up down ≡ value r.parts
 same_fraction text negative whole fraction up down r =
     ap (λ b. fraction_of b whole fraction up down) r.negative_is
     ∙ ap (λ w. fraction_of (is_minus r.parts.sign) w fraction up down) r.whole_is
@@ -24,7 +25,8 @@ same_fraction text negative whole fraction up down r =
     ∙ ap (λ u. fraction_of (is_minus r.parts.sign) r.parts.whole (fraction_digits r.parts.fraction) u down) r.up_is
     ∙ ap (λ d. fraction_of (is_minus r.parts.sign) r.parts.whole (fraction_digits r.parts.fraction) (ups r.parts.exponent) d) r.down_is
 
-pub reads_names : (text : List ℕ) (negative : Bool) (whole fraction : List ℕ) (up down : ℕ) → ReadsNumeral text negative whole fraction up down → Names text (fraction_of negative whole fraction up down)
+pub reads_names : (text : List ℕ) (negative : Bool) (whole fraction : List ℕ) (up down : ℕ) → ReadsNumeral text negative whole fraction up down
+    → Names text (fraction_of negative whole fraction up down)
 reads_names text negative whole fraction up down r = (r.parts, r.form, r.text_is, same_fraction text negative whole fraction up down r)
 
 -- the zeros at the end of m / 10^p are those of the number of 10^-24 that it is

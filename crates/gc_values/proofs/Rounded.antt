@@ -120,7 +120,8 @@ rounded_to neg a k p m s r =
     subst (λ z. Units neg a k p z s) (sym sign.1) (with_sign_known neg a k p sign.0 s there)
 
 -- a fraction rounds to one decimal
-pub rounded_once : (neg : Bool) (a k p : ℕ) (m : ℤ) (s : ℕ) (n : ℤ) (t : ℕ) → IsRounded (record { n = signed neg a; k = k }) p m s → IsRounded (record { n = signed neg a; k = k }) p n t → (m ≡ n) × (s ≡ t)
+pub rounded_once : (neg : Bool) (a k p : ℕ) (m : ℤ) (s : ℕ) (n : ℤ) (t : ℕ) → IsRounded (record { n = signed neg a; k = k }) p m s
+    → IsRounded (record { n = signed neg a; k = k }) p n t → (m ≡ n) × (s ≡ t)
 rounded_once neg a k p m s n t r q =
     let x = rounded_to neg a k p m s r in
     let y = rounded_to neg a k p n t q in

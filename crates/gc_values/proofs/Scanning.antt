@@ -26,7 +26,8 @@ odd_inside : (n : ℕ) (quoted : Bool) → quoted ≡ true → n % 2 ≡ cond qu
 odd_inside n quoted e h = h ∙ ap (λ b. cond b 1 0) e
 
 -- one byte more
-pub scanned_more : (text : List ℕ) (i : ℕ) (quoted now : Bool) → Scanned text i quoted → i < length text → (get_or text i 0 ≡ 44 → quoted ≡ true) → now ≡ turned (get_or text i 0) quoted → Scanned text (i + 1) now
+pub scanned_more : (text : List ℕ) (i : ℕ) (quoted now : Bool) → Scanned text i quoted → i < length text → (get_or text i 0 ≡ 44 → quoted ≡ true)
+    → now ≡ turned (get_or text i 0) quoted → Scanned text (i + 1) now
 scanned_more text i quoted now s within comma step =
     let b : ℕ = get_or text i 0 in
     record {

@@ -30,7 +30,8 @@ pub one_string : (item xs ys : List ℕ) → IsString item xs → IsString item 
 one_string item xs ys x y = one_quoted xs ys (sym x.item_is ∙ y.item_is)
 
 -- bytes with zeros behind them are what a text keeps
-pub filled_is_kept : (bytes all : List ℕ) → all ≡ bytes ++ replicate (64 - length bytes) 0 → length bytes ≤ 64 → AreStringBytes bytes → (let t : Inside = record { bytes = all; len = length bytes } in IsKept t)
+pub filled_is_kept : (bytes all : List ℕ) → all ≡ bytes ++ replicate (64 - length bytes) 0 → length bytes ≤ 64 → AreStringBytes bytes
+    → (let t : Inside = record { bytes = all; len = length bytes } in IsKept t)
 filled_is_kept bytes all e few plain =
     let front : take (length bytes) all ≡ bytes = ap (take (length bytes)) e ∙ take-append_seam bytes (replicate (64 - length bytes) 0) in
     record {

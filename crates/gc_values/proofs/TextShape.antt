@@ -106,7 +106,13 @@ digit_above : (d : ℕ) → d < 16 → 44 < slice_index lower_digits d
 digit_above d h = ltb-true 44 (slice_index lower_digits d) (agree_below_at (λ k. ltb 44 (slice_index lower_digits k)) (λ _. true) 16 d refl h)
 
 bare_byte : (n : ℕ) → n < 256 → AreBare (byte_text n)
-bare_byte n h = (bare_quote, (bare_above (slice_index lower_digits (n / 16)) (digit_above (n / 16) (omega arith)), (bare_above (slice_index lower_digits (n % 16)) (digit_above (n % 16) (omega arith)), (bare_quote, tt))))
+bare_byte n h = (
+  bare_quote,
+  (
+    bare_above (slice_index lower_digits (n / 16)) (digit_above (n / 16) (omega arith)),
+    (bare_above (slice_index lower_digits (n % 16)) (digit_above (n % 16) (omega arith)), (bare_quote, tt)),
+  ),
+)
 
 bare_boolean : (b : Bool) → AreBare (boolean_text b)
 bare_boolean false = (bare_above 48 (lit< tt), tt)
@@ -134,7 +140,8 @@ quoted_param : (bytes : List ℕ) → AreStringBytes bytes → IsParam (quoted b
 quoted_param bytes h = record {
   first = λ rest e. let bad : ◌≡◌ {A = ℕ} 34 32 = cc in omega (arith, bad);
   last = λ front e. let bad = last_of (34 ∷ bytes) front 34 32 e in omega (arith, bad);
-  pairs = let one = quotes-cons 34 (bytes ++ 34 ∷ []) in let two = quotes-append bytes (34 ∷ []) in let none = quotes-string bytes h in let both : quotes (34 ∷ []) ≡ 1 = refl in omega (arith, one, two, none, both);
+  pairs = let one = quotes-cons 34 (bytes ++ 34 ∷ []) in let two = quotes-append bytes (34 ∷ []) in let none = quotes-string bytes h in
+      let both : quotes (34 ∷ []) ≡ 1 = refl in omega (arith, one, two, none, both);
   commas = λ front rest e. quoted_commas bytes front rest h e;
 }
 
@@ -188,7 +195,15 @@ pub length-written : (m : ℤ) (s : ℕ) → IsInRange m s → s ≤ 24 → leng
 length-written m s small few =
     let n = unsigned_abs m in
     let top : n / 10 ^ s < 10 ^ 14 = div_below n (10 ^ s) (10 ^ 14) (ten_pow_pos s) (omega (arith, small, ten_pow_pos s)) in
-    omega (arith, length-append (minus_text m) (whole_text (n / 10 ^ s) ++ (46 ∷ behind_text s (n % 10 ^ s))), length-append (whole_text (n / 10 ^ s)) (46 ∷ behind_text s (n % 10 ^ s)), length-minus_text m, length-whole_text (n / 10 ^ s) 14 (lit< tt) top, length-behind_text s (n % 10 ^ s) few)
+    omega (
+      arith,
+      length-append (minus_text m) (whole_text (n / 10 ^ s) ++ (46 ∷ behind_text s (n % 10 ^ s))),
+      length-append (whole_text (n / 10 ^ s))
+          (46 ∷ behind_text s (n % 10 ^ s)),
+      length-minus_text m,
+      length-whole_text (n / 10 ^ s) 14 (lit< tt) top,
+      length-behind_text s (n % 10 ^ s) few,
+    )
 
 -- the text of a value has at most 66 bytes
 pub text_is_short : (v : Value) → IsValue v → length (text v) ≤ 66

@@ -26,7 +26,14 @@ back_spaces (suc n) xs keeps =
 -- the quotes of a padded item are the item's
 pub quotes-padded : (piece item : List ℕ) → IsPadded piece item → quotes piece ≡ quotes item
 quotes-padded piece item p =
-    ap quotes p.piece_is ∙ omega (arith, quotes-append (replicate p.before 32) (item ++ replicate p.behind 32), quotes-append item (replicate p.behind 32), quotes-spaces p.before, quotes-spaces p.behind)
+    ap quotes p.piece_is ∙ omega (
+      arith,
+      quotes-append (replicate p.before 32) (item ++ replicate p.behind 32),
+      quotes-append item
+          (replicate p.behind 32),
+      quotes-spaces p.before,
+      quotes-spaces p.behind,
+    )
 
 pub padded_keeps : (piece item : List ℕ) → IsPadded piece item → IsParam item → KeepsCommas piece
 padded_keeps piece item p h = subst KeepsCommas (sym p.piece_is) (front_spaces p.before (item ++ replicate p.behind 32) (back_spaces p.behind item h.commas))
@@ -94,7 +101,8 @@ empty_or_first (b ∷ bs) n h = inr (λ rest e. h bs (let head : b ≡ 32 = cc i
 
 trims_once : (n : ℕ) (xs : List ℕ) → StartsNoSpace xs → EndsNoSpace xs → back_off (front_off (xs ++ replicate n 32)) ≡ xs
 trims_once n xs f l = elim (empty_or_first xs n f) [
-  | inl h ↦ ap (λ ys. back_off (front_off (ys ++ replicate n 32))) h ∙ ap back_off (let e : front_off (replicate n 32) ≡ [] = ap front_off (sym (append-nil (replicate n 32))) ∙ front_off-spaces n [] in e) ∙ sym h
+  | inl h ↦ ap (λ ys. back_off (front_off (ys ++ replicate n 32))) h ∙ ap back_off
+      (let e : front_off (replicate n 32) ≡ [] = ap front_off (sym (append-nil (replicate n 32))) ∙ front_off-spaces n [] in e) ∙ sym h
   | inr h ↦ ap back_off (front_off_same (xs ++ replicate n 32) h) ∙ back_off_same xs n l
 ]
 
@@ -191,7 +199,8 @@ front_all text i all spaces = record {
 }
 
 -- a loop from the end: one space more
-pub back_more : (text : List ℕ) (end : ℕ) → 0 < end → end ≤ length text → drop end text ≡ replicate (length text - end) 32 → get_or text (end - 1) 0 ≡ 32 → drop (end - 1) text ≡ replicate (length text - (end - 1)) 32
+pub back_more : (text : List ℕ) (end : ℕ) → 0 < end → end ≤ length text → drop end text ≡ replicate (length text - end) 32 → get_or text (end - 1) 0 ≡ 32
+    → drop (end - 1) text ≡ replicate (length text - (end - 1)) 32
 back_more text end some within spaces here =
     let back : end - 1 + 1 ≡ end = omega arith in
     let size : suc (length text - end) ≡ length text - (end - 1) = omega arith in
@@ -204,7 +213,8 @@ last_of (x ∷ xs) [] a b e = let t : [] ≡ xs ++ a ∷ [] = cc in absurd (no_e
 last_of (x ∷ xs) (y ∷ ys) a b e = let t : xs ++ a ∷ [] ≡ ys ++ b ∷ [] = cc in last_of xs ys a b t
 
 -- and it stops at the front, or at a byte that is no space
-pub back_at : (text : List ℕ) (end : ℕ) → end ≤ length text → drop end text ≡ replicate (length text - end) 32 → (end ≡ 0) ⊎ ((0 < end) × (get_or text (end - 1) 0 ≡ 32 → ⊥)) → TrimsBack text (take end text)
+pub back_at : (text : List ℕ) (end : ℕ) → end ≤ length text → drop end text ≡ replicate (length text - end) 32
+    → (end ≡ 0) ⊎ ((0 < end) × (get_or text (end - 1) 0 ≡ 32 → ⊥)) → TrimsBack text (take end text)
 back_at text end within spaces stop = record {
   count = length text - end;
   text_is = sym (take-append-drop end text) ∙ ap (λ xs. take end text ++ xs) spaces;

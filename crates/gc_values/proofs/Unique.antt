@@ -55,7 +55,8 @@ number_no_sign [] (Some ds) rest digits some = (λ h. omega (arith, h), λ h. om
 number_no_sign (b ∷ bs) f rest digits some = (λ h. let d = digits.0 in omega (arith, h, d.0), λ h. let d = digits.0 in omega (arith, h, d.0))
 
 -- a point and the digits behind it are one
-pub fraction_once : (f g : Option (List ℕ)) (us vs : List ℕ) → AreDigits (fraction_digits f) → AreDigits (fraction_digits g) → (f ≡ None → StartsNoPoint us) → StartsNoPoint vs → StartsNoDigit us → StartsNoDigit vs →
+pub fraction_once : (f g : Option (List ℕ)) (us vs : List ℕ) → AreDigits (fraction_digits f) → AreDigits (fraction_digits g) → (f ≡ None → StartsNoPoint us)
+    → StartsNoPoint vs → StartsNoDigit us → StartsNoDigit vs →
     fraction_text f ++ us ≡ fraction_text g ++ vs → (fraction_digits f ≡ fraction_digits g) × (us ≡ vs)
 fraction_once None None us vs df dg pu pv nu nv e = (refl, e)
 fraction_once None (Some ds) us vs df dg pu pv nu nv e = absurd (subst StartsNoPoint e (pu refl) refl)
@@ -75,7 +76,8 @@ same_parts text negative r1 whole r2 fraction r3 s d f p n e =
     let signs = sign_once s.sign p.sign r1 (p.whole ++ (fraction_text p.fraction ++ exponent_text p.exponent)) s.first
     (number_no_sign p.whole p.fraction (exponent_text p.exponent) n.whole n.some) (sym s.text_is ∙ e) in
     let runs = run_once whole p.whole r2 (fraction_text p.fraction ++ exponent_text p.exponent) d.digits n.whole d.longest (fraction_no_digit p.fraction p.exponent) (sym d.text_is ∙ signs.1) in
-    let fractions = fraction_once f.fraction p.fraction r3 (exponent_text p.exponent) (subst AreDigits f.run_is f.digits) n.fraction f.no_point (exponent_no_point p.exponent) f.longest (exponent_no_digit p.exponent) (sym f.text_is ∙ runs.1) in
+    let fractions = fraction_once f.fraction p.fraction r3 (exponent_text p.exponent) (subst AreDigits f.run_is f.digits) n.fraction f.no_point
+    (exponent_no_point p.exponent) f.longest (exponent_no_digit p.exponent) (sym f.text_is ∙ runs.1) in
     record { sign = s.negative_is ∙ signs.0; whole_is = runs.0; fraction_is = f.run_is ∙ fractions.0; rest_is = fractions.1 }
 
 digits_no_sign : (ds us : List ℕ) → AreDigits ds → 0 < length ds → StartsNoSign (ds ++ us)
@@ -123,10 +125,12 @@ pub same_value : (p r : Parts) → IsNumeral p → IsNumeral r → spelling p �
 same_value p r np nr e =
     let same = same_parts (spelling p) _ _ _ _ _ _ (numeral_sign p np) (numeral_digits p np) (numeral_fraction p np) r nr e in
     let power = exponent_once p.exponent r.exponent np.exponent nr.exponent same.rest_is in
-    let digits : p.whole ++ fraction_digits p.fraction ≡ r.whole ++ fraction_digits r.fraction = ap (λ ds. ds ++ fraction_digits p.fraction) same.whole_is ∙ ap (λ ds. r.whole ++ ds) same.fraction_is in
+    let digits : p.whole ++ fraction_digits p.fraction ≡ r.whole ++ fraction_digits r.fraction =
+    ap (λ ds. ds ++ fraction_digits p.fraction) same.whole_is ∙ ap (λ ds. r.whole ++ ds) same.fraction_is in
     let size : number (p.whole ++ fraction_digits p.fraction) * 10 ^ ups p.exponent ≡ number (r.whole ++ fraction_digits r.fraction) * 10 ^ ups r.exponent =
     ap (λ ds. number ds * 10 ^ ups p.exponent) digits ∙ ap (λ n. number (r.whole ++ fraction_digits r.fraction) * 10 ^ n) power.0 in
-    let top : signed (is_minus p.sign) (number (p.whole ++ fraction_digits p.fraction) * 10 ^ ups p.exponent) ≡ signed (is_minus r.sign) (number (r.whole ++ fraction_digits r.fraction) * 10 ^ ups r.exponent) =
+    let top : signed (is_minus p.sign) (number (p.whole ++ fraction_digits p.fraction) * 10 ^ ups p.exponent) ≡ signed (is_minus r.sign)
+    (number (r.whole ++ fraction_digits r.fraction) * 10 ^ ups r.exponent) =
     ap (λ b. signed b (number (p.whole ++ fraction_digits p.fraction) * 10 ^ ups p.exponent)) same.sign ∙ ap (signed (is_minus r.sign)) size in
     let under : length (fraction_digits p.fraction) + downs p.exponent ≡ length (fraction_digits r.fraction) + downs r.exponent =
     ap (λ ds. length ds + downs p.exponent) same.fraction_is ∙ ap (λ n. length (fraction_digits r.fraction) + n) power.1 in

@@ -23,7 +23,8 @@ units_kept ds w f up down p k digits size places =
     let powers : 10 ^ k * 10 ^ (f + down) ≡ 10 ^ up * 10 ^ p * 10 ^ length ds =
     sym (pow-add 10 k (f + down)) ∙ ap (λ e. 10 ^ e) exponents ∙ pow-add 10 (up + p) (length ds) ∙ ap (λ x. x * 10 ^ length ds) (pow-add 10 up p) in
     let same : number ds * 10 ^ k * 10 ^ (f + down) ≡ number ds * 10 ^ up * 10 ^ p * 10 ^ length ds = omega (arith, ap (λ x. number ds * x) powers) in
-    rounds_same_value (number ds * 10 ^ k) (10 ^ length ds) (number ds * 10 ^ up * 10 ^ p) (10 ^ (f + down)) (kept_and_rounded ds k) (ten_pow_pos (length ds)) (ten_pow_pos (f + down)) same (rounds_digits ds k digits)
+    rounds_same_value (number ds * 10 ^ k) (10 ^ length ds) (number ds * 10 ^ up * 10 ^ p) (10 ^ (f + down)) (kept_and_rounded ds k) (ten_pow_pos (length ds))
+    (ten_pow_pos (f + down)) same (rounds_digits ds k digits)
 
 -- and none where they leave less than none
 pub units_none : (ds : List ℕ) (w f up down p : ℕ) → AreDigits ds → length ds ≡ w + f → w + up + p < down →
@@ -48,7 +49,8 @@ capped_few ds w f up down cap k units digits size places e = record {
 }
 
 -- with all the digits, and at the last place so many zeros behind them
-pub capped_zeros : (ds : List ℕ) (w f up down cap k size more units p : ℕ) → AreDigits ds → length ds ≡ size → size ≡ w + f → k + down ≡ w + up + 24 → size + more ≡ k → more + p ≡ 24 → units ≡ min cap (kept ds size) →
+pub capped_zeros : (ds : List ℕ) (w f up down cap k size more units p : ℕ) → AreDigits ds → length ds ≡ size → size ≡ w + f → k + down ≡ w + up + 24
+    → size + more ≡ k → more + p ≡ 24 → units ≡ min cap (kept ds size) →
     IsCapped (number ds * 10 ^ up) (f + down) cap units p
 capped_zeros ds w f up down cap k size more units p digits is_size sum places behind all e =
     let own : k - length ds ≡ 24 - p = omega arith in
@@ -62,7 +64,8 @@ capped_zeros ds w f up down cap k size more units p digits is_size sum places be
     }
 
 -- with all the digits, and zeros in front of the point too
-pub capped_many : (ds : List ℕ) (w f up down cap k size more x units : ℕ) → AreDigits ds → length ds ≡ size → size ≡ w + f → k + down ≡ w + up + 24 → size + (24 + more) ≡ k → x ≡ min cap (kept ds size) → units ≡ min cap (x * 10 ^ more) →
+pub capped_many : (ds : List ℕ) (w f up down cap k size more x units : ℕ) → AreDigits ds → length ds ≡ size → size ≡ w + f → k + down ≡ w + up + 24
+    → size + (24 + more) ≡ k → x ≡ min cap (kept ds size) → units ≡ min cap (x * 10 ^ more) →
     IsCapped (number ds * 10 ^ up) (f + down) cap units 0
 capped_many ds w f up down cap k size more x units digits is_size sum places behind all e =
     let own : k - length ds ≡ more + 24 = omega arith in

@@ -17,7 +17,8 @@ pub record CountedSoFar (text : List ℕ) (i cap value : ℕ) : Type 0 where
 capped_step : (n d cap value more whole : ℕ) → value ≡ min cap n → whole ≡ n * 10 + d → more ≡ min (value * 10 + d) cap → more ≡ min cap whole
 capped_step n d cap value more whole e f g = omega arith
 
-pub counted_more : (text : List ℕ) (i cap value more : ℕ) → CountedSoFar text i cap value → i < length text → IsDigit (get_or text i 0) → more ≡ min (value * 10 + (get_or text i 0 - 48)) cap → CountedSoFar text (i + 1) cap more
+pub counted_more : (text : List ℕ) (i cap value more : ℕ) → CountedSoFar text i cap value → i < length text → IsDigit (get_or text i 0)
+    → more ≡ min (value * 10 + (get_or text i 0 - 48)) cap → CountedSoFar text (i + 1) cap more
 counted_more text i cap value more c within here e = record {
   digits = AreDigits-take_more text i c.digits within here;
   value_is = capped_step (number (take i text)) (get_or text i 0 - 48) cap value more (number (take (i + 1) text)) c.value_is (number-take_more text i within) e;
@@ -71,7 +72,8 @@ beyond_size : (negative : Bool) (n most below above : ℕ) → most ≡ cond neg
 beyond_size negative n most below above e far between = let few = size_from negative n below above between in omega (arith, e, few)
 
 -- the fault of the number behind a sign is that of the whole
-pub whole_fault : (text rest : List ℕ) (negative : Bool) (most below above : ℕ) (e : ValueFault) → CutsSign text negative rest → most ≡ cond negative below above → IsNumberFault most rest e → IsWholeFault below above text e
+pub whole_fault : (text rest : List ℕ) (negative : Bool) (most below above : ℕ) (e : ValueFault) → CutsSign text negative rest
+    → most ≡ cond negative below above → IsNumberFault most rest e → IsWholeFault below above text e
 whole_fault text rest negative most below above e cut size (inl none) = inl (none.0, λ z w. let r = names_cut text rest negative z cut w in none.1 r.0 r.1)
 whole_fault text rest negative most below above e cut size (inr far) =
     inr (far.0, (signed negative far.1.0, cut_names text rest negative far.1.0 cut far.1.1, beyond_size negative far.1.0 most below above size far.1.2))

@@ -103,7 +103,8 @@ triple_pos s t u = omega (arith, ap (λ x. x * 10 ^ u) (pow-add 10 s t), pow-add
 -- in units of the last place the comparison is that of the fractions
 pub within_units : (a b area : Decimal) → (pos (unsigned_abs (units a -ℤ units b)) ≤ℤ units area) ↔ IsWithin (fraction a) (fraction b) (fraction area)
 within_units a b area =
-    both (apart a.digits (10 ^ (24 - a.scale)) b.digits (10 ^ (24 - b.scale))) (distance a.digits a.scale b.digits b.scale) (10 ^ a.scale * 10 ^ b.scale) area.digits (10 ^ area.scale) (10 ^ (24 - area.scale)) (10 ^ 24)
+    both (apart a.digits (10 ^ (24 - a.scale)) b.digits (10 ^ (24 - b.scale))) (distance a.digits a.scale b.digits b.scale)
+    (10 ^ a.scale * 10 ^ b.scale) area.digits (10 ^ area.scale) (10 ^ (24 - area.scale)) (10 ^ 24)
     (ten_pow_pos 24) (ten_pow_pos (24 - area.scale)) (triple_pos a.scale b.scale area.scale) (product_pos a.scale b.scale)
     (in_units a.digits (10 ^ a.scale) (10 ^ (24 - a.scale)) b.digits (10 ^ b.scale) (10 ^ (24 - b.scale)) (10 ^ 24) (whole_place a.scale a.has_few_places) (whole_place b.scale b.has_few_places))
     (whole_place area.scale area.has_few_places)

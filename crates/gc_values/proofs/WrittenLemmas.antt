@@ -25,12 +25,14 @@ length-last_digits zero n = refl
 length-last_digits (suc k) n = omega (arith, length-append (last_digits k (n / 10)) ((48 + n % 10) ∷ []), length-last_digits k (n / 10))
 
 -- one digit more
-pub digits_more : (old out new : List ℕ) (n p : ℕ) → 0 < p → 0 < n / 10 ^ (p - 1) → out ≡ old ++ digits_text (n / 10 ^ p) → new ≡ out ++ (48 + n / 10 ^ (p - 1) % 10) ∷ [] → new ≡ old ++ digits_text (n / 10 ^ (p - 1))
+pub digits_more : (old out new : List ℕ) (n p : ℕ) → 0 < p → 0 < n / 10 ^ (p - 1) → out ≡ old ++ digits_text (n / 10 ^ p)
+    → new ≡ out ++ (48 + n / 10 ^ (p - 1) % 10) ∷ [] → new ≡ old ++ digits_text (n / 10 ^ (p - 1))
 digits_more old out new n p some rest e f =
     f ∙ ap (λ xs. xs ++ (48 + n / 10 ^ (p - 1) % 10) ∷ []) e ∙ append_assoc old (digits_text (n / 10 ^ p)) ((48 + n / 10 ^ (p - 1) % 10) ∷ []) ∙ ap (λ xs. old ++ xs)
     (ap (λ x. digits_text x ++ (48 + n / 10 ^ (p - 1) % 10) ∷ []) (sym (next_place n p some)) ∙ sym (digits_text_step (n / 10 ^ (p - 1)) rest))
 
-pub last_more : (old out new : List ℕ) (n k p : ℕ) → 0 < p → p ≤ k → out ≡ old ++ last_digits (k - p) (n / 10 ^ p) → new ≡ out ++ (48 + n / 10 ^ (p - 1) % 10) ∷ [] → new ≡ old ++ last_digits (k - (p - 1)) (n / 10 ^ (p - 1))
+pub last_more : (old out new : List ℕ) (n k p : ℕ) → 0 < p → p ≤ k → out ≡ old ++ last_digits (k - p) (n / 10 ^ p)
+    → new ≡ out ++ (48 + n / 10 ^ (p - 1) % 10) ∷ [] → new ≡ old ++ last_digits (k - (p - 1)) (n / 10 ^ (p - 1))
 last_more old out new n k p some within e f =
     let more : k - (p - 1) ≡ suc (k - p) = omega arith in
     f ∙ ap (λ xs. xs ++ (48 + n / 10 ^ (p - 1) % 10) ∷ []) e ∙ append_assoc old (last_digits (k - p) (n / 10 ^ p)) ((48 + n / 10 ^ (p - 1) % 10) ∷ []) ∙ ap (λ xs. old ++ xs)
@@ -58,13 +60,15 @@ last_digits-split j zero n =
 last_digits-split j (suc k) n =
     let more : j + suc k ≡ suc (j + k) = omega arith in
     let whole : last_digits (j + k) (n / 10) ≡ last_digits j (n / 10 ^ suc k) ++ last_digits k (n % 10 ^ suc k / 10) =
-    last_digits-split j k (n / 10) ∙ ap (λ m. last_digits j m ++ last_digits k (n / 10 % 10 ^ k)) (div_over n k) ∙ ap (λ m. last_digits j (n / 10 ^ suc k) ++ last_digits k m) (sym (others_over n k)) in
+    last_digits-split j k (n / 10) ∙ ap (λ m. last_digits j m ++ last_digits k (n / 10 % 10 ^ k)) (div_over n k)
+    ∙ ap (λ m. last_digits j (n / 10 ^ suc k) ++ last_digits k m) (sym (others_over n k)) in
     ap (λ c. last_digits c n) more ∙ ap (λ ds. ds ++ (48 + n % 10) ∷ []) whole
     ∙ append_assoc (last_digits j (n / 10 ^ suc k)) (last_digits k (n % 10 ^ suc k / 10)) ((48 + n % 10) ∷ [])
     ∙ ap (λ d. last_digits j (n / 10 ^ suc k) ++ (last_digits k (n % 10 ^ suc k / 10) ++ (48 + d) ∷ [])) (sym (last_over n k))
 
 -- two runs of digits in a row
-pub two_runs : (old back out : List ℕ) (n count k : ℕ) → k ≤ count → back ≡ last_digits k (n - n / 10 ^ k * 10 ^ k) ++ old → out ≡ last_digits (count - k) (n / 10 ^ k) ++ back → out ≡ last_digits count n ++ old
+pub two_runs : (old back out : List ℕ) (n count k : ℕ) → k ≤ count → back ≡ last_digits k (n - n / 10 ^ k * 10 ^ k) ++ old
+    → out ≡ last_digits (count - k) (n / 10 ^ k) ++ back → out ≡ last_digits count n ++ old
 two_runs old back out n count k within e f =
     let back_is : count - k + k ≡ count = omega arith in
     let rest : n - n / 10 ^ k * 10 ^ k ≡ n % 10 ^ k = sym (mod-eq-sub-div-mul n (10 ^ k)) in
@@ -99,7 +103,16 @@ whole_more all self new rest some e f =
 
 pub whole_room : (old self : List ℕ) (n rest : ℕ) → digits_text rest ++ self ≡ digits_text n ++ old → n < 10 ^ 14 → 0 < rest → length old + 14 ≤ 40 → length self < 40
 whole_room old self n rest e small some room =
-    omega (arith, ap length e, length-append (digits_text rest) self, length-append (digits_text n) old, length-digits_text n 14 small, ap length (digits_text_step rest some), length-append (digits_text (rest / 10)) ((48 + rest % 10) ∷ []))
+    omega (
+      arith,
+      ap length e,
+      length-append (digits_text rest) self,
+      length-append (digits_text n) old,
+      length-digits_text n 14 small,
+      ap length
+          (digits_text_step rest some),
+      length-append (digits_text (rest / 10)) ((48 + rest % 10) ∷ []),
+    )
 
 -- the digits behind the point
 pub behind_short : (s m n : ℕ) (xs : List ℕ) → 0 < s → n ≡ m → xs ≡ last_digits s n ++ [] → xs ≡ behind_text s (m % 10 ^ s)

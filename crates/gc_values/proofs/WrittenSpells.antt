@@ -35,7 +35,8 @@ digits_step n d p q v w x e f g = omega (arith, e, ap (λ y. n * y) f, ap (λ y.
 digits_after : (n : ℕ) (ds : List ℕ) → number_from_digits_after 10 n ds ≡ n * 10 ^ length ds + number (map (λ d. 48 + d) ds)
 digits_after n [] = omega arith
 digits_after n (d ∷ ds) =
-    let back : (48 + d - 48) * 10 ^ length (map (λ d. 48 + d) ds) ≡ d * 10 ^ length (map (λ d. 48 + d) ds) = ap (λ e. e * 10 ^ length (map (λ d. 48 + d) ds)) (let e : 48 + d - 48 ≡ d = omega arith in e) in
+    let back : (48 + d - 48) * 10 ^ length (map (λ d. 48 + d) ds) ≡ d * 10 ^ length (map (λ d. 48 + d) ds) =
+    ap (λ e. e * 10 ^ length (map (λ d. 48 + d) ds)) (let e : 48 + d - 48 ≡ d = omega arith in e) in
     digits_step n d (10 ^ length ds) (10 ^ length (d ∷ ds)) (number_from_digits_after 10 (n * 10 + d) ds) (number (map (λ d. 48 + d) ds)) (10 ^ length (map (λ d. 48 + d) ds))
     (digits_after (n * 10 + d) ds) (pow-suc 10 (length ds)) (ap (λ e. 10 ^ e) (length-map ds (λ d. 48 + d)))
     ∙ ap (λ y. n * 10 ^ length (d ∷ ds) + (y + number (map (λ d. 48 + d) ds))) (sym back)
@@ -104,9 +105,11 @@ with_sign sign m s a m_is canonical places =
     let parts : Parts = record { sign = sign; whole = whole; fraction = Some frac; exponent = None } in
     let digits : number (whole ++ frac) ≡ a / 10 ^ s * 10 ^ length frac + number frac = number-append whole frac ∙ ap (λ n. n * 10 ^ length frac + number frac) w.number_is in
     let size : a * 10 ^ (length frac + 0) ≡ number (whole ++ frac) * 10 ^ 0 * 10 ^ s =
-    ap (λ k. a * 10 ^ k) (let e : length frac + 0 ≡ length frac = omega arith in e) ∙ b.same ∙ ap (λ n. n * 10 ^ s) (sym digits) ∙ ap (λ n. n * 10 ^ s) (let e : number (whole ++ frac) ≡ number (whole ++ frac) * 10 ^ 0 = omega arith in e) in
+    ap (λ k. a * 10 ^ k) (let e : length frac + 0 ≡ length frac = omega arith in e) ∙ b.same ∙ ap (λ n. n * 10 ^ s) (sym digits)
+    ∙ ap (λ n. n * 10 ^ s) (let e : number (whole ++ frac) ≡ number (whole ++ frac) * 10 ^ 0 = omega arith in e) in
     let same : m *ℤ pos (10 ^ (length frac + 0)) ≡ signed (is_minus sign) (number (whole ++ frac) * 10 ^ 0) *ℤ pos (10 ^ s) =
-    ap (λ z. z *ℤ pos (10 ^ (length frac + 0))) m_is ∙ signed-mul (is_minus sign) a (10 ^ (length frac + 0)) ∙ ap (signed (is_minus sign)) size ∙ sym (signed-mul (is_minus sign) (number (whole ++ frac) * 10 ^ 0) (10 ^ s)) in (
+    ap (λ z. z *ℤ pos (10 ^ (length frac + 0))) m_is ∙ signed-mul (is_minus sign) a (10 ^ (length frac + 0)) ∙ ap (signed (is_minus sign)) size
+    ∙ sym (signed-mul (is_minus sign) (number (whole ++ frac) * 10 ^ 0) (10 ^ s)) in (
       value parts,
       (
         parts,

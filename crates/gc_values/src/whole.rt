@@ -22,6 +22,7 @@ pub fn read_whole(item: &[u8], max: u64) -> Result<u64, ValueFault>
     if item.is_empty() {
         return Err(ValueFault::Spelling);
     }
+    // Stands for every number above `max`, so that no run of digits overflows.
     let above = u128::from(max) + 1;
     let mut value = 0;
     for byte in item {

@@ -30,7 +30,8 @@ cut_add : (lines : List (List ℕ)) (m n : ℕ) → cut lines (m + n) ≡ again 
 cut_add [] m n = sym (behind_none (record { lines = 0; gone = 0 }))
 cut_add (line ∷ lines) m n = by_size (ltb m (length line)) refl (cut_add lines (m - length line) n)
   where
-    by_size : (b : Bool) → ltb m (length line) ≡ b → cut lines (m - length line + n) ≡ again lines n (cut lines (m - length line)) → cut (line ∷ lines) (m + n) ≡ again (line ∷ lines) n (cond {A = Cut} b (record { lines = 0; gone = m }) (one_more (cut lines (m - length line))))
+    by_size : (b : Bool) → ltb m (length line) ≡ b → cut lines (m - length line + n) ≡ again lines n (cut lines (m - length line))
+        → cut (line ∷ lines) (m + n) ≡ again (line ∷ lines) n (cond {A = Cut} b (record { lines = 0; gone = m }) (one_more (cut lines (m - length line))))
     by_size true e more = sym (behind_none (cut (line ∷ lines) (m + n)))
     by_size false e more =
         let le : length line ≤ m = ltb-false m (length line) e in
@@ -44,7 +45,9 @@ cut_all : (lines : List (List ℕ)) (n : ℕ) → drop (cut lines n).lines lines
 cut_all [] n e = refl
 cut_all (line ∷ lines) n e = by_size (ltb n (length line)) (cut_all lines (n - length line)) e
   where
-    by_size : (b : Bool) → (drop (cut lines (n - length line)).lines lines ≡ [] → (cut lines (n - length line)).gone ≡ 0) → drop (cond {A = Cut} b (record { lines = 0; gone = n }) (one_more (cut lines (n - length line)))).lines (line ∷ lines) ≡ [] → (cond {A = Cut} b (record { lines = 0; gone = n }) (one_more (cut lines (n - length line)))).gone ≡ 0
+    by_size : (b : Bool) → (drop (cut lines (n - length line)).lines lines ≡ [] → (cut lines (n - length line)).gone ≡ 0)
+        → drop (cond {A = Cut} b (record { lines = 0; gone = n }) (one_more (cut lines (n - length line)))).lines (line ∷ lines) ≡ []
+        → (cond {A = Cut} b (record { lines = 0; gone = n }) (one_more (cut lines (n - length line)))).gone ≡ 0
     by_size true rest e = cc
     by_size false rest e = rest e
 
@@ -95,7 +98,8 @@ module _ {Client State : Type 0} (ends : Ends State) (rule : Rule Client) (d : D
   to_behind : (v : Streams Client State) (b : Cut) (c : Cut) → to ends rule d v (behind b.lines c) ≡ to ends rule d (to ends rule d v b) c
   to_behind v b c =
       let w = run ends rule (replicate b.lines (deliver d)) v.world in
-      ap (λ x. reaches d v x c.gone) (ap (λ s. run ends rule s v.world) (replicate_add b.lines c.lines (deliver d)) ∙ run_append ends rule (replicate b.lines (deliver d)) (replicate c.lines (deliver d)) v.world)
+      ap (λ x. reaches d v x c.gone) (ap (λ s. run ends rule s v.world) (replicate_add b.lines c.lines (deliver d))
+      ∙ run_append ends rule (replicate b.lines (deliver d)) (replicate c.lines (deliver d)) v.world)
       ∙ sym (reaches_again d v w b.gone (run ends rule (replicate c.lines (deliver d)) w) c.gone)
 
   -- what is under way behind bytes, also where they aren't possible
@@ -105,7 +109,8 @@ module _ {Client State : Type 0} (ends : Ends State) (rule : Rule Client) (d : D
       absurd (omega (arith, some, ap length same))
   rest v n (line ∷ q) e some = omega arith
 
-  pub adds : (v : Streams Client State) (m n : ℕ) → 0 < length (lines d (flows ends rule v (bytes d (m + 1))).world.wire) → flows ends rule v (bytes d (m + 1 + (n + 1))) ≡ flows ends rule (flows ends rule v (bytes d (m + 1))) (bytes d (n + 1))
+  pub adds : (v : Streams Client State) (m n : ℕ) → 0 < length (lines d (flows ends rule v (bytes d (m + 1))).world.wire)
+      → flows ends rule v (bytes d (m + 1 + (n + 1))) ≡ flows ends rule (flows ends rule v (bytes d (m + 1))) (bytes d (n + 1))
   adds v m n some =
       let all = lines d v.world.wire in
       let g = gone d v in
@@ -125,7 +130,8 @@ module _ {Client State : Type 0} (ends : Ends State) (rule : Rule Client) (d : D
       ∙ ap (λ x. flows ends rule x (bytes d (n + 1))) (sym first)
 
   -- where none are under way any more, all went over
-  stops : (v : Streams Client State) (m n : ℕ) (q : List (List ℕ)) → lines d v.world.wire ≡ q → lines d (flows ends rule v (bytes d (m + 1))).world.wire ≡ [] → flows ends rule v (bytes d (m + 1 + n)) ≡ flows ends rule v (bytes d (m + 1))
+  stops : (v : Streams Client State) (m n : ℕ) (q : List (List ℕ)) → lines d v.world.wire ≡ q → lines d (flows ends rule v (bytes d (m + 1))).world.wire ≡ []
+      → flows ends rule v (bytes d (m + 1 + n)) ≡ flows ends rule v (bytes d (m + 1))
   stops v m n [] e none =
       bytes_pass ends rule d v (m + 1 + n) ∙ ap (λ q. passing ends rule d v q (m + 1 + n)) e
       ∙ ap (λ q. passing ends rule d v q (m + 1)) (sym e) ∙ sym (bytes_pass ends rule d v (m + 1))

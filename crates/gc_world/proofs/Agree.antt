@@ -38,7 +38,8 @@ pub record SameSettled (a : Settled ById) (b : Settled ByNumber) : Type 0 where
 waiting_count : (a : ById) (b : ByNumber) → Alike a b → length a.waiting ≡ length b.requests - b.count
 waiting_count a b h = ap length h.window ∙ length-drop b.count b.requests
 
-same_send : (a : ById) (b : ByNumber) (target : ℕ) (call : Call) (deadline : ℕ) (full : Bool) → b.since ≤ b.count → b.count ≤ length b.requests → Alike a b → SameSend (id_send a target call deadline full) (number_send b target call deadline full)
+same_send : (a : ById) (b : ByNumber) (target : ℕ) (call : Call) (deadline : ℕ) (full : Bool) → b.since ≤ b.count → b.count ≤ length b.requests → Alike a b
+    → SameSend (id_send a target call deadline full) (number_send b target call deadline full)
 same_send a b target call deadline true h1 h2 h = tt
 same_send a b target call deadline false h1 h2 h =
     let p : Pending = pending_of target call deadline in
@@ -61,7 +62,9 @@ module _ {State : Type 0} (width : ℕ) (narrow : width ≤ 7) (ends : Ends Stat
     pub wire : a.wire ≡ b.wire
     pub client : Alike a.client b.client
 
-  same_reply : (a : ById) (b : ByNumber) (x : Numbered (List ℕ)) (old : Bool) → ltb x.number b.count ≡ old → b.since ≤ b.count → b.count ≤ length b.requests → length b.requests ≤ b.count + width → b.count ≤ x.number + 1 → IsComing width ends Good b.since (length b.requests) x → Alike a b → SameSettled (hears a x.line (Some ((x.number - b.since) % 8))) (number_reply b x old)
+  same_reply : (a : ById) (b : ByNumber) (x : Numbered (List ℕ)) (old : Bool) → ltb x.number b.count ≡ old → b.since ≤ b.count → b.count ≤ length b.requests
+      → length b.requests ≤ b.count + width → b.count ≤ x.number + 1 → IsComing width ends Good b.since (length b.requests) x → Alike a b
+      → SameSettled (hears a x.line (Some ((x.number - b.since) % 8))) (number_reply b x old)
   same_reply a b x true t h1 h2 h3 h4 coming h =
       let lt : x.number < b.count = ltb-true _ _ t in
       let n = waiting_count a b h in
@@ -84,12 +87,14 @@ module _ {State : Type 0} (width : ℕ) (narrow : width ≤ 7) (ends : Ends Stat
       (record {
         settlements = ap (λ ps. settle (x.number - b.count) x.line ps) h.window;
         client = record {
-          window = ap (λ ps. drop (x.number - b.count + 1) ps) h.window ∙ drop-drop (x.number - b.count + 1) b.count b.requests ∙ ap (λ m. drop m b.requests) (let e : b.count + (x.number - b.count + 1) ≡ x.number + 1 = omega (arith, ge) in e);
+          window = ap (λ ps. drop (x.number - b.count + 1) ps) h.window ∙ drop-drop (x.number - b.count + 1) b.count b.requests
+              ∙ ap (λ m. drop m b.requests) (let e : b.count + (x.number - b.count + 1) ≡ x.number + 1 = omega (arith, ge) in e);
           next = h.next;
         };
       }))
 
-  same_requested : (a : World ById State) (b : World ByNumber State) (target : ℕ) (call : Call) (o : Option (Sending ById)) (o' : Option (Sending ByNumber)) → SameSend o o' → Agree a b → Agree (requested a target call o) (requested b target call o')
+  same_requested : (a : World ById State) (b : World ByNumber State) (target : ℕ) (call : Call) (o : Option (Sending ById)) (o' : Option (Sending ByNumber))
+      → SameSend o o' → Agree a b → Agree (requested a target call o) (requested b target call o')
   same_requested a b target call None None s h = record { wire = ap (λ (w : Wire State). record w { refused = w.refused + 1 }) h.wire; client = h.client }
   same_requested a b target call (Some x) (Some y) s h =
       record {
@@ -107,7 +112,8 @@ module _ {State : Type 0} (width : ℕ) (narrow : width ≤ 7) (ends : Ends Stat
   same_booked v w x y e s =
       record { wire = ap₂ (λ (u : Wire State) (l : List _). record u { settled = u.settled ++ l }) e s.settlements; client = s.client }
 
-  agree_down : (a : World ById State) (b : World ByNumber State) (q : List (Numbered (List ℕ))) → b.wire.down ≡ q → Sound width ends Good b → Agree a b → Agree (down_delivered (by_ids width ends) a q) (down_delivered (by_numbers width) b q)
+  agree_down : (a : World ById State) (b : World ByNumber State) (q : List (Numbered (List ℕ))) → b.wire.down ≡ q → Sound width ends Good b → Agree a b
+      → Agree (down_delivered (by_ids width ends) a q) (down_delivered (by_numbers width) b q)
   agree_down a b [] e s h = record { wire = ap idle h.wire; client = h.client }
   agree_down a b (x ∷ rest) e s h =
       let c = b.client in
@@ -131,7 +137,8 @@ module _ {State : Type 0} (width : ℕ) (narrow : width ≤ 7) (ends : Ends Stat
         client = record { window = sym (drop_all (length b.requests) b.requests (omega arith)); next = omega arith };
       }
 
-  agree_restart_client : (a : World ById State) (b : World ByNumber State) (up : List (Numbered Request)) (down : List (Numbered (List ℕ))) → Agree a b → Agree (client_restarted ends (by_ids width ends) a up down) (client_restarted ends (by_numbers width) b up down)
+  agree_restart_client : (a : World ById State) (b : World ByNumber State) (up : List (Numbered Request)) (down : List (Numbered (List ℕ))) → Agree a b
+      → Agree (client_restarted ends (by_ids width ends) a up down) (client_restarted ends (by_numbers width) b up down)
   agree_restart_client a b [] [] h = same_booked _ _ _ _ (ap (λ w. started ends w ends.joint) h.wire) (agree_lost a.client b.client h.client)
   agree_restart_client a b [] (y ∷ down) h = record { wire = ap idle h.wire; client = h.client }
   agree_restart_client a b (x ∷ up) down h = record { wire = ap idle h.wire; client = h.client }
@@ -143,7 +150,8 @@ module _ {State : Type 0} (width : ℕ) (narrow : width ≤ 7) (ends : Ends Stat
   pub agrees : (a : World ById State) (b : World ByNumber State) (e : Step) → Sound width ends Good b → Agree a b → Agree (happens ends (by_ids width ends) a e) (happens ends (by_numbers width) b e)
   agrees a b (Send target call deadline) s h =
       same_requested a b target call _ _
-      (subst (λ n. SameSend (id_send a.client target call deadline (eqb n width)) (number_send b.client target call deadline (eqb (length b.client.requests - b.client.count) width))) (sym (waiting_count a.client b.client h.client))
+      (subst (λ n. SameSend (id_send a.client target call deadline (eqb n width))
+      (number_send b.client target call deadline (eqb (length b.client.requests - b.client.count) width))) (sym (waiting_count a.client b.client h.client))
       (same_send a.client b.client target call deadline (eqb (length b.client.requests - b.client.count) width) s.begun s.within h.client)) h
   agrees a b Up_deliver s h = agree_wire (λ w. up_delivered ends w w.up) a b h
   agrees a b (Up_lose k) s h = agree_wire (λ w. with_up w (without k w.up) (ltb k (length w.up))) a b h
@@ -160,7 +168,8 @@ module _ {State : Type 0} (width : ℕ) (narrow : width ≤ 7) (ends : Ends Stat
   agrees a b Restart_instrument s h = agree_wire (λ w. instrument_restarted ends w w.up w.down) a b h
   agrees a b Nothing s h = agree_wire idle a b h
 
-  pub agrees_all : IsExchange ends Good → (es : List Step) (a : World ById State) (b : World ByNumber State) → Sound width ends Good b → Agree a b → Agree (run ends (by_ids width ends) es a) (run ends (by_numbers width) es b)
+  pub agrees_all : IsExchange ends Good → (es : List Step) (a : World ById State) (b : World ByNumber State) → Sound width ends Good b → Agree a b
+      → Agree (run ends (by_ids width ends) es a) (run ends (by_numbers width) es b)
   agrees_all ex [] a b s h = h
   agrees_all ex (e ∷ es) a b s h = agrees_all ex es _ _ (sound_step width ends Good ex b e s) (agrees a b e s h)
 

@@ -61,7 +61,8 @@ all_made_lost made n [] = tt
 all_made_lost made n (p ∷ ps) = (tt, all_made_lost made (n + 1) ps)
 
 -- one that is late has no answer to vouch for
-made_met : (made : List (Numbered (List ℕ))) (n : ℕ) (line : List ℕ) (p : Pending) (given_up : Bool) → p.given_up ≡ given_up → Has (record { number = n; line = line }) made → IsMade made n (met p line).outcome
+made_met : (made : List (Numbered (List ℕ))) (n : ℕ) (line : List ℕ) (p : Pending) (given_up : Bool) → p.given_up ≡ given_up
+    → Has (record { number = n; line = line }) made → IsMade made n (met p line).outcome
 made_met made n line p true e h = subst (λ b. IsMade made n (met (record p { given_up = b }) line).outcome) (sym e) tt
 made_met made n line p false e h = subst (λ b. IsMade made n (met (record p { given_up = b }) line).outcome) (sym e) h
 
@@ -93,7 +94,9 @@ module _ {State : Type 0} (width : ℕ) (ends : Ends State) (Good : State → Ty
         booked = all_made_more w.made _ 0 w.settled h.booked;
       }
 
-  backed_reply : (w : World ByNumber State) (x : Numbered (List ℕ)) (rest : List (Numbered (List ℕ))) (old : Bool) → ltb x.number w.client.count ≡ old → w.wire.down ≡ x ∷ rest → length w.wire.settled ≡ w.client.count → IsBacked w.wire.made w.wire.down w.wire.settled → IsBacked w.wire.made rest (w.wire.settled ++ (number_reply w.client x old).settlements)
+  backed_reply : (w : World ByNumber State) (x : Numbered (List ℕ)) (rest : List (Numbered (List ℕ))) (old : Bool) → ltb x.number w.client.count ≡ old
+      → w.wire.down ≡ x ∷ rest → length w.wire.settled ≡ w.client.count → IsBacked w.wire.made w.wire.down w.wire.settled
+      → IsBacked w.wire.made rest (w.wire.settled ++ (number_reply w.client x old).settlements)
   backed_reply w x rest true t e s h =
       let g = subst (λ q. Each (λ y. Has y w.wire.made) q) e h.under_way in
       record { under_way = g.1; booked = all_made_append w.wire.made 0 w.client.count w.wire.settled [] (omega (arith, s)) h.booked tt }
@@ -107,11 +110,20 @@ module _ {State : Type 0} (width : ℕ) (ends : Ends State) (Good : State → Ty
             (all_made_settle w.wire.made w.client.count x.number (x.number - w.client.count) x.line (drop w.client.count w.client.requests) (omega (arith, ge)) g.0);
       }
 
-  backed_restart : (w : World ByNumber State) (b : Bool) → length w.wire.settled ≡ w.client.count → IsBacked w.wire.made w.wire.down w.wire.settled → (let v = (with_settled (started ends w.wire b) ((by_numbers width).restart w.client)).wire in IsBacked v.made v.down v.settled)
+  backed_restart : (w : World ByNumber State) (b : Bool) → length w.wire.settled ≡ w.client.count → IsBacked w.wire.made w.wire.down w.wire.settled
+      → (let v = (with_settled (started ends w.wire b) ((by_numbers width).restart w.client)).wire in IsBacked v.made v.down v.settled)
   backed_restart w false s h =
-      record { under_way = h.under_way; booked = all_made_append w.wire.made 0 w.client.count w.wire.settled _ (omega (arith, s)) h.booked (all_made_lost w.wire.made w.client.count (drop w.client.count w.client.requests)) }
+      record {
+        under_way = h.under_way;
+        booked = all_made_append w.wire.made 0 w.client.count w.wire.settled _ (omega (arith, s)) h.booked
+            (all_made_lost w.wire.made w.client.count (drop w.client.count w.client.requests));
+      }
   backed_restart w true s h =
-      record { under_way = h.under_way; booked = all_made_append w.wire.made 0 w.client.count w.wire.settled _ (omega (arith, s)) h.booked (all_made_lost w.wire.made w.client.count (drop w.client.count w.client.requests)) }
+      record {
+        under_way = h.under_way;
+        booked = all_made_append w.wire.made 0 w.client.count w.wire.settled _ (omega (arith, s)) h.booked
+            (all_made_lost w.wire.made w.client.count (drop w.client.count w.client.requests));
+      }
 
   keeps_backed : IsExchange ends Good → IsStable ends (by_numbers width) Backed
   keeps_backed ex =
@@ -132,4 +144,5 @@ module _ {State : Type 0} (width : ℕ) (ends : Ends State) (Good : State → Ty
       }
 
   pub backed_at : IsExchange ends Good → (es : List Step) (state : State) → Good state → Backed (run_by_numbers width ends es state)
-  backed_at ex es state g = stable_all ends (by_numbers width) Backed (keeps_backed ex) es (numbers_open state) (record { sound = sound_open width ends Good state g; backed = record { under_way = tt; booked = tt } })
+  backed_at ex es state g = stable_all ends (by_numbers width) Backed (keeps_backed ex) es (numbers_open state)
+      (record { sound = sound_open width ends Good state g; backed = record { under_way = tt; booked = tt } })

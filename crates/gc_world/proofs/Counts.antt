@@ -47,17 +47,49 @@ cut_few (line ∷ lines) n = by_size (ltb n (length line)) (cut_few lines (n - l
 module _ {Client State : Type 0} (ends : Ends State) (rule : Rule Client) (n : ℕ) where
   -- the same of one more
   more : (w : Wire State) → IsWithin n w → IsWithin (n + 1) w
-  more w h = record { sent = omega (arith, h.sent); executed = omega (arith, h.executed); made = omega (arith, h.made); starts = omega (arith, h.starts); refused = omega (arith, h.refused); idle = omega (arith, h.idle) }
+  more w h = record {
+    sent = omega (arith, h.sent);
+    executed = omega (arith, h.executed);
+    made = omega (arith, h.made);
+    starts =
+        omega (arith, h.starts);
+    refused = omega (arith, h.refused);
+    idle = omega (arith, h.idle);
+  }
 
   idles : (w : Wire State) → IsWithin n w → IsWithin (n + 1) (idle w)
-  idles w h = record { sent = omega (arith, h.sent); executed = omega (arith, h.executed); made = omega (arith, h.made); starts = omega (arith, h.starts); refused = omega (arith, h.refused); idle = omega (arith, h.idle) }
+  idles w h = record {
+    sent = omega (arith, h.sent);
+    executed = omega (arith, h.executed);
+    made = omega (arith, h.made);
+    starts =
+        omega (arith, h.starts);
+    refused = omega (arith, h.refused);
+    idle = omega (arith, h.idle);
+  }
 
   sends : (w : World Client State) (target : ℕ) (call : Call) (o : Option (Sending Client)) → IsWithin n w.wire → IsWithin (n + 1) (requested w target call o).wire
-  sends w target call None h = record { sent = omega (arith, h.sent); executed = omega (arith, h.executed); made = omega (arith, h.made); starts = omega (arith, h.starts); refused = omega (arith, h.refused); idle = omega (arith, h.idle) }
+  sends w target call None h = record {
+    sent = omega (arith, h.sent);
+    executed = omega (arith, h.executed);
+    made = omega (arith, h.made);
+    starts =
+        omega (arith, h.starts);
+    refused = omega (arith, h.refused);
+    idle = omega (arith, h.idle);
+  }
   sends w target call (Some x) h =
       let d : Sent = record { target = target; call = call; line = request_line (Some x.id) call } in
       let up = length_push w.wire.up (record { number = length w.wire.sent; line = record { id = x.id; call = call } }) in
-      record { sent = omega (arith, h.sent, length_push w.wire.sent d); executed = omega (arith, h.executed, up); made = omega (arith, h.made, up); starts = omega (arith, h.starts); refused = omega (arith, h.refused); idle = omega (arith, h.idle) }
+      record {
+        sent = omega (arith, h.sent, length_push w.wire.sent d);
+        executed = omega (arith, h.executed, up);
+        made = omega (arith, h.made, up);
+        starts =
+            omega (arith, h.starts);
+        refused = omega (arith, h.refused);
+        idle = omega (arith, h.idle);
+      }
 
   executes : (executed : List ℕ) (k more : ℕ) (b : Bool) → length executed + suc more ≤ n → length (cond b (executed ++ k ∷ []) executed) + more ≤ n
   executes executed k more true h = omega (arith, h, length_push executed k)
@@ -68,7 +100,15 @@ module _ {Client State : Type 0} (ends : Ends State) (rule : Rule Client) (n : �
   answers w x rest hd e h =
       let m : Numbered (List ℕ) = record { number = x.number; line = hd.reply } in
       let up : length w.up ≡ suc (length rest) = ap length e in
-      record { sent = h.sent; executed = executes w.executed x.number (length rest) hd.executed (omega (arith, h.executed, up)); made = omega (arith, h.made, up, length_push w.made m); starts = h.starts; refused = h.refused; idle = h.idle }
+      record {
+        sent = h.sent;
+        executed = executes w.executed x.number (length rest) hd.executed (omega (arith, h.executed, up));
+        made =
+            omega (arith, h.made, up, length_push w.made m);
+        starts = h.starts;
+        refused = h.refused;
+        idle = h.idle;
+      }
 
   delivers : (w : Wire State) (q : List (Numbered Request)) → w.up ≡ q → IsWithin n w → IsWithin (n + 1) (up_delivered ends w q)
   delivers w [] e h = idles w h
@@ -76,19 +116,51 @@ module _ {Client State : Type 0} (ends : Ends State) (rule : Rule Client) (n : �
 
   changes_up : (w : Wire State) (up : List (Numbered Request)) (b : Bool) → length up ≤ length w.up + 1 → IsWithin n w → IsWithin (n + 1) (with_up w up b)
   changes_up w up false le h = idles w h
-  changes_up w up true le h = record { sent = omega (arith, h.sent); executed = omega (arith, h.executed, le); made = omega (arith, h.made, le); starts = omega (arith, h.starts); refused = omega (arith, h.refused); idle = omega (arith, h.idle) }
+  changes_up w up true le h = record {
+    sent = omega (arith, h.sent);
+    executed = omega (arith, h.executed, le);
+    made = omega (arith, h.made, le);
+    starts =
+        omega (arith, h.starts);
+    refused = omega (arith, h.refused);
+    idle = omega (arith, h.idle);
+  }
 
   changes_down : (w : Wire State) (down : List (Numbered (List ℕ))) (b : Bool) → IsWithin n w → IsWithin (n + 1) (with_down w down b)
   changes_down w down false h = idles w h
-  changes_down w down true h = record { sent = omega (arith, h.sent); executed = omega (arith, h.executed); made = omega (arith, h.made); starts = omega (arith, h.starts); refused = omega (arith, h.refused); idle = omega (arith, h.idle) }
+  changes_down w down true h = record {
+    sent = omega (arith, h.sent);
+    executed = omega (arith, h.executed);
+    made = omega (arith, h.made);
+    starts =
+        omega (arith, h.starts);
+    refused = omega (arith, h.refused);
+    idle = omega (arith, h.idle);
+  }
 
   hears : (w : World Client State) (q : List (Numbered (List ℕ))) → IsWithin n w.wire → IsWithin (n + 1) (down_delivered rule w q).wire
   hears w [] h = idles w.wire h
-  hears w (x ∷ rest) h = record { sent = omega (arith, h.sent); executed = omega (arith, h.executed); made = omega (arith, h.made); starts = omega (arith, h.starts); refused = omega (arith, h.refused); idle = omega (arith, h.idle) }
+  hears w (x ∷ rest) h = record {
+    sent = omega (arith, h.sent);
+    executed = omega (arith, h.executed);
+    made = omega (arith, h.made);
+    starts =
+        omega (arith, h.starts);
+    refused = omega (arith, h.refused);
+    idle = omega (arith, h.idle);
+  }
 
   starts : (w : Wire State) (b : Bool) → IsWithin n w → IsWithin (n + 1) (started ends w b)
   starts w false h = more w h
-  starts w true h = record { sent = omega (arith, h.sent); executed = omega (arith, h.executed); made = omega (arith, h.made); starts = omega (arith, h.starts, length_push w.starts (length w.executed)); refused = omega (arith, h.refused); idle = omega (arith, h.idle) }
+  starts w true h = record {
+    sent = omega (arith, h.sent);
+    executed = omega (arith, h.executed);
+    made = omega (arith, h.made);
+    starts =
+        omega (arith, h.starts, length_push w.starts (length w.executed));
+    refused = omega (arith, h.refused);
+    idle = omega (arith, h.idle);
+  }
 
   restarts_instrument : (w : Wire State) (up : List (Numbered Request)) (down : List (Numbered (List ℕ))) → IsWithin n w → IsWithin (n + 1) (instrument_restarted ends w up down)
   restarts_instrument w [] [] h = starts w true h
@@ -133,7 +205,8 @@ module _ {Client State : Type 0} (ends : Ends State) (rule : Rule Client) (n : �
       let less : length (texts d (happens ends rule w (deliver d)).wire) ≡ length (texts d w.wire) - 1 = ap length (one_less ends rule d w) ∙ length-drop 1 (texts d w.wire) in
       all d k (happens ends rule w (deliver d)) (omega (arith, le, less)) (once d w (omega (arith, le)) h)
 
-  passes : (d : Direction) (lines : List (List ℕ)) (gone k : ℕ) (w : World Client State) → length lines ≡ length (texts d w.wire) → IsWithin n w.wire → IsWithin (n + 1) (run ends rule (passed (deliver d) lines gone k) w).wire
+  passes : (d : Direction) (lines : List (List ℕ)) (gone k : ℕ) (w : World Client State) → length lines ≡ length (texts d w.wire) → IsWithin n w.wire
+      → IsWithin (n + 1) (run ends rule (passed (deliver d) lines gone k) w).wire
   passes d [] gone k w e h = idles w.wire h
   passes d (line ∷ lines) gone zero w e h = idles w.wire h
   passes d (line ∷ lines) gone (suc k) w e h =
@@ -159,4 +232,5 @@ module _ {Client State : Type 0} (ends : Ends State) (rule : Rule Client) where
   -- so many events bring at most as many of each
   pub within_all : (es : List Event) (v : Streams Client State) (n : ℕ) → IsWithin n v.world.wire → IsWithin (n + length es) (flow ends rule es v).world.wire
   within_all [] v n h = let z : n ≡ n + 0 = omega arith in subst (λ m. IsWithin m v.world.wire) z h
-  within_all (e ∷ es) v n h = let z : n + 1 + length es ≡ n + length (e ∷ es) = omega arith in subst (λ m. IsWithin m (flow ends rule es (flows ends rule v e)).world.wire) z (within_all es (flows ends rule v e) (n + 1) (one_event ends rule n v e h))
+  within_all (e ∷ es) v n h = let z : n + 1 + length es ≡ n + length (e ∷ es) = omega arith in
+      subst (λ m. IsWithin m (flow ends rule es (flows ends rule v e)).world.wire) z (within_all es (flows ends rule v e) (n + 1) (one_event ends rule n v e h))

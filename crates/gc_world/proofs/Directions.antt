@@ -44,7 +44,8 @@ module _ {Client State : Type 0} where
 
     -- What is under way behind a step.
 
-    up_less : (w : Wire State) (q : List (Numbered Request)) → w.up ≡ q → map (λ x. request_line (Some x.line.id) x.line.call) (up_delivered ends w q).up ≡ drop 1 (map (λ x. request_line (Some x.line.id) x.line.call) q)
+    up_less : (w : Wire State) (q : List (Numbered Request)) → w.up ≡ q
+        → map (λ x. request_line (Some x.line.id) x.line.call) (up_delivered ends w q).up ≡ drop 1 (map (λ x. request_line (Some x.line.id) x.line.call) q)
     up_less w [] e = ap (map (λ x. request_line (Some x.line.id) x.line.call)) e
     up_less w (x ∷ rest) e = refl
 

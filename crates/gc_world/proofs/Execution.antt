@@ -38,14 +38,16 @@ module _ {State : Type 0} (ends : Ends State) where
   before_in sent starts j s [] (m ∷ ms) t h k = absurd h
   before_in sent starts j s (n ∷ ns) [] t h k = absurd h
 
-  before_first : (sent : List Sent) (starts : List ℕ) (j : ℕ) (s : State) (ns : List ℕ) (ms : List (Numbered (List ℕ))) (t : State) (h : Replays ends sent starts j s ns ms t) → before_in sent starts j s ns ms t h 0 ≡ s
+  before_first : (sent : List Sent) (starts : List ℕ) (j : ℕ) (s : State) (ns : List ℕ) (ms : List (Numbered (List ℕ))) (t : State)
+      (h : Replays ends sent starts j s ns ms t) → before_in sent starts j s ns ms t h 0 ≡ s
   unfolding before_in
   before_first sent starts j s [] [] t h = refl
   before_first sent starts j s (n ∷ ns) (m ∷ ms) t h = refl
   before_first sent starts j s [] (m ∷ ms) t h = absurd h
   before_first sent starts j s (n ∷ ns) [] t h = absurd h
 
-  before_last : (sent : List Sent) (starts : List ℕ) (j : ℕ) (s : State) (ns : List ℕ) (ms : List (Numbered (List ℕ))) (t : State) (h : Replays ends sent starts j s ns ms t) → t ≡ before_in sent starts j s ns ms t h (length ns)
+  before_last : (sent : List Sent) (starts : List ℕ) (j : ℕ) (s : State) (ns : List ℕ) (ms : List (Numbered (List ℕ))) (t : State)
+      (h : Replays ends sent starts j s ns ms t) → t ≡ before_in sent starts j s ns ms t h (length ns)
   unfolding before_in
   before_last sent starts j s [] [] t h = sym h
   before_last sent starts j s (n ∷ ns) (m ∷ ms) t h = before_last sent starts (j + 1) (begun ends.restarted (has_number (j + 1) starts) h.0) ns ms t h.2
@@ -69,7 +71,9 @@ module _ {State : Type 0} (ends : Ends State) where
     made : entry ≡ Some (record { number = n; line = (ends.handed state id request.call).reply })
     next_is : next ≡ begun ends.restarted (has_number i starts) (ends.handed state id request.call).state
 
-  step_at : (sent : List Sent) (starts : List ℕ) (j : ℕ) (s : State) (ns : List ℕ) (ms : List (Numbered (List ℕ))) (t : State) (h : Replays ends sent starts j s ns ms t) (k n : ℕ) → slice_get ns k ≡ Some n → IsStep sent starts (j + k + 1) (before_in sent starts j s ns ms t h k) (before_in sent starts j s ns ms t h (suc k)) (slice_get ms k) n
+  step_at : (sent : List Sent) (starts : List ℕ) (j : ℕ) (s : State) (ns : List ℕ) (ms : List (Numbered (List ℕ))) (t : State)
+      (h : Replays ends sent starts j s ns ms t) (k n : ℕ) → slice_get ns k ≡ Some n
+      → IsStep sent starts (j + k + 1) (before_in sent starts j s ns ms t h k) (before_in sent starts j s ns ms t h (suc k)) (slice_get ms k) n
   unfolding before_in
   step_at sent starts j s [] [] t h k n e = absurd (none_is_not n e)
   step_at sent starts j s (n' ∷ ns) (m ∷ ms) t h zero n e =
@@ -101,7 +105,9 @@ module _ {State : Type 0} (ends : Ends State) where
   step_at sent starts j s (n' ∷ ns) [] t h k n e = absurd h
 
   -- these replies are among those that were made, each of those is one of them, and no request is executed twice
-  module _ (opening : State) (w : Wire State) (replies : List (Numbered (List ℕ))) (h : Replays ends w.sent w.starts 0 (ends.restarted opening) w.executed replies w.state) (each : Each (λ m. Has m w.made) replies) (among : Each (λ m. Has m replies) w.made) where
+  module _ (opening : State) (w : Wire State) (replies : List (Numbered (List ℕ)))
+      (h : Replays ends w.sent w.starts 0 (ends.restarted opening) w.executed replies w.state)
+      (each : Each (λ m. Has m w.made) replies) (among : Each (λ m. Has m replies) w.made) where
     state_before : ℕ → State
     state_before = before_in w.sent w.starts 0 (ends.restarted opening) w.executed replies w.state h
 
@@ -171,10 +177,14 @@ module _ {State : Type 0} (ends : Ends State) (Good : State → Type 0) (ex : Is
   good_next sent s n m t false good h = subst Good h.leads (ex.stays_good s h.id h.request.call good h.small)
   good_next sent s n m t true good h = ex.restart_good t (subst Good h.leads (ex.stays_good s h.id h.request.call good h.small))
 
-  pub answers_at : (sent : List Sent) (starts : List ℕ) (j : ℕ) (s : State) (ns : List ℕ) (ms : List (Numbered (List ℕ))) (t : State) → Good s → Replays ends sent starts j s ns ms t → Each (IsAnswerAt sent) ms
+  pub answers_at : (sent : List Sent) (starts : List ℕ) (j : ℕ) (s : State) (ns : List ℕ) (ms : List (Numbered (List ℕ))) (t : State) → Good s
+      → Replays ends sent starts j s ns ms t → Each (IsAnswerAt sent) ms
   answers_at sent starts j s [] [] t good h = tt
-  answers_at sent starts j s (n ∷ ns) (m ∷ ms) t good h =
-      (answer_at sent s n m h.0 good h.1, answers_at sent starts (j + 1) (begun ends.restarted (has_number (j + 1) starts) h.0) ns ms t (good_next sent s n m h.0 (has_number (j + 1) starts) good h.1) h.2)
+  answers_at sent starts j s (n ∷ ns) (m ∷ ms) t good h = (
+    answer_at sent s n m h.0 good h.1,
+    answers_at sent starts (j + 1) (begun ends.restarted (has_number (j + 1) starts) h.0) ns ms t
+        (good_next sent s n m h.0 (has_number (j + 1) starts) good h.1) h.2,
+  )
   answers_at sent starts j s [] (m ∷ ms) t good h = absurd h
   answers_at sent starts j s (n ∷ ns) [] t good h = absurd h
 
@@ -187,7 +197,8 @@ module _ {State : Type 0} (ends : Ends State) (Good : State → Type 0) (ex : Is
       let i : n + 1 + m ≡ n + suc m = omega arith in
       subst (λ k. IsMade made k s.outcome) i (made_get made (n + 1) ss m s h.1 e)
 
-  pub booked : (sent : List Sent) (made : List (Numbered (List ℕ))) (settled : List Settlement) → IsOneForOne sent settled → AllMade made 0 settled → Each (IsAnswerAt sent) made → (m : ℕ) (s : Settlement) → slice_get settled m ≡ Some s → IsBooked ends Good made m s
+  pub booked : (sent : List Sent) (made : List (Numbered (List ℕ))) (settled : List Settlement) → IsOneForOne sent settled → AllMade made 0 settled
+      → Each (IsAnswerAt sent) made → (m : ℕ) (s : Settlement) → slice_get settled m ≡ Some s → IsBooked ends Good made m s
   booked sent made settled one all at m s e bytes answered =
       let i : 0 + m ≡ m = omega arith in
       let has : Has (record { number = m; line = bytes }) made = subst (λ o. IsMade made m o) answered (subst (λ k. IsMade made k s.outcome) i (made_get made 0 settled m s all e)) in

@@ -31,7 +31,8 @@ module _ (width : ℕ) (narrow : width ≤ 7) (opening : State) (events : List E
         executed = records_execution r w h opening (execution_at width narrow ends IsFittingState exchange kept_of keeper refl es opening good);
         agrees =
             agrees_with r (played width opening events).wire shows.reports (played_by_numbers width opening events).wire
-            (level_wire width narrow ends KeptFits reads (restarted opening) tt (streams_by_ids width ends events (restarted opening)) (streams_by_numbers width ends events (restarted opening)) level);
+            (level_wire width narrow ends KeptFits reads (restarted opening) tt (streams_by_ids width ends events (restarted opening))
+            (streams_by_numbers width ends events (restarted opening)) level);
       }
 
   pub once : (r : Report) (up down : List ℕ) (client : Windowed) → IsFittingState (restarted opening) → AreOf width r up down client (played width opening events) → ActsOnce opening r

@@ -62,7 +62,8 @@ lost_alike (p ∷ ps) (r ∷ rs) e =
     ap₂ (λ (a : Asked) (l : List Settlement). ended_as Lost a ∷ l) front (lost_alike ps rs tail)
 
 -- what wait are the requests behind those that are settled
-waiting_alike : (settled : List Settlement) (waiting : List Pending) (sent : List Sent) → map of_settled settled ++ map of_pending waiting ≡ map of_sent sent → map of_pending waiting ≡ map of_sent (drop (length settled) sent)
+waiting_alike : (settled : List Settlement) (waiting : List Pending) (sent : List Sent) → map of_settled settled ++ map of_pending waiting ≡ map of_sent sent
+    → map of_pending waiting ≡ map of_sent (drop (length settled) sent)
 waiting_alike settled waiting sent e =
     sym (drop-append_seam (map of_settled settled) (map of_pending waiting)) ∙ ap (drop (length (map of_settled settled))) e ∙ ap (λ k. drop k (map of_sent sent)) (length-map settled of_settled)
     ∙ drop-map of_sent (length settled) sent
@@ -76,7 +77,9 @@ pub record IsGained (settled : List Settlement) (waiting : List Pending) (sent :
   pub found : slice_get sent n ≡ Some request
   pub gained : settle (n - length settled) line waiting ≡ map (ended Lost) (between (length settled) n sent) ++ ended (outcome_of p line) request ∷ []
 
-gained : (settled : List Settlement) (waiting : List Pending) (sent : List Sent) (n : ℕ) (line : List ℕ) (p : Pending) → map of_settled settled ++ map of_pending waiting ≡ map of_sent sent → length settled ≤ n → slice_get waiting (n - length settled) ≡ Some p → IsGained settled waiting sent n line p
+gained : (settled : List Settlement) (waiting : List Pending) (sent : List Sent) (n : ℕ) (line : List ℕ) (p : Pending)
+    → map of_settled settled ++ map of_pending waiting ≡ map of_sent sent → length settled ≤ n → slice_get waiting (n - length settled) ≡ Some p
+    → IsGained settled waiting sent n line p
 gained settled waiting sent n line p whole le h =
     let m = length settled in
     let k = n - m in
@@ -94,17 +97,23 @@ gained settled waiting sent n line p whole le h =
 -- The run by numbers.
 
 module _ (width : ℕ) where
-  delivered : (w : World ByNumber State) (x : Numbered (List ℕ)) (rest : List (Numbered (List ℕ))) → w.wire.down ≡ x ∷ rest → w.client.count ≤ x.number → (happens ends (by_numbers width) w Down_deliver).wire.settled ≡ w.wire.settled ++ settle (x.number - w.client.count) x.line (drop w.client.count w.client.requests)
+  delivered : (w : World ByNumber State) (x : Numbered (List ℕ)) (rest : List (Numbered (List ℕ))) → w.wire.down ≡ x ∷ rest → w.client.count ≤ x.number
+      → (happens ends (by_numbers width) w Down_deliver).wire.settled ≡ w.wire.settled ++ settle (x.number - w.client.count) x.line
+      (drop w.client.count w.client.requests)
   delivered w x rest e le =
       ap (λ q. (down_delivered (by_numbers width) w q).wire.settled) e
       ∙ ap (λ old. w.wire.settled ++ (number_reply w.client x old).settlements) (le-ltb x.number w.client.count le)
 
-  delivered_again : (w : World ByNumber State) (x : Numbered (List ℕ)) (rest : List (Numbered (List ℕ))) → w.wire.down ≡ x ∷ rest → x.number < w.client.count → (happens ends (by_numbers width) w Down_deliver).wire.settled ≡ w.wire.settled
+  delivered_again : (w : World ByNumber State) (x : Numbered (List ℕ)) (rest : List (Numbered (List ℕ))) → w.wire.down ≡ x ∷ rest → x.number < w.client.count
+      → (happens ends (by_numbers width) w Down_deliver).wire.settled ≡ w.wire.settled
   delivered_again w x rest e lt =
       ap (λ q. (down_delivered (by_numbers width) w q).wire.settled) e
       ∙ ap (λ old. w.wire.settled ++ (number_reply w.client x old).settlements) (lt-ltb x.number w.client.count lt) ∙ append-nil w.wire.settled
 
-  sent_entry : (w : World ByNumber State) (target : ℕ) (call : Call) (deadline : ℕ) (full : Bool) → length w.client.requests ≡ length w.wire.sent → length (requested w target call (number_send w.client target call deadline full)).wire.sent ≡ length w.wire.sent + 1 → slice_get (requested w target call (number_send w.client target call deadline full)).client.requests (length w.wire.sent) ≡ Some (pending_of target call deadline)
+  sent_entry : (w : World ByNumber State) (target : ℕ) (call : Call) (deadline : ℕ) (full : Bool) → length w.client.requests ≡ length w.wire.sent
+      → length (requested w target call (number_send w.client target call deadline full)).wire.sent ≡ length w.wire.sent + 1
+      → slice_get (requested w target call (number_send w.client target call deadline full)).client.requests (length w.wire.sent) ≡ Some
+      (pending_of target call deadline)
   sent_entry w target call deadline true counted more = absurd (omega (arith, more))
   sent_entry w target call deadline false counted more =
       ap (λ k. slice_get (w.client.requests ++ pending_of target call deadline ∷ []) k) (sym counted) ∙ get_push w.client.requests (pending_of target call deadline)
@@ -136,7 +145,9 @@ module _ (width : ℕ) (narrow : width ≤ WINDOW) (opening : State) where
   abbrev mark_of : (earlier : List Event) (target : ℕ) (call : Call) (deadline : ℕ) (later : List Event) → Pending
   mark_of earlier target call deadline later = marked_all ends (by_numbers width) later (behind earlier target call deadline) (pending_of target call deadline)
 
-  entry : (events : List Event) (n deadline : ℕ) (later : List Event) (s : IsSentBefore width opening events n deadline later) → length (left_by_ids width opening events).settled ≤ n → slice_get (counted_by events).world.client.requests n ≡ Some (mark_of s.earlier s.target s.call deadline later)
+  entry : (events : List Event) (n deadline : ℕ) (later : List Event) (s : IsSentBefore width opening events n deadline later)
+      → length (left_by_ids width opening events).settled ≤ n → slice_get (counted_by events).world.client.requests n ≡ Some
+      (mark_of s.earlier s.target s.call deadline later)
   entry events n deadline later s le =
       let e : Event = event.Send s.target s.call deadline in
       let v = (counted_by s.earlier).world in
@@ -160,7 +171,9 @@ module _ (width : ℕ) (narrow : width ≤ WINDOW) (opening : State) where
       (sound_step width ends KeptFits reads v (Send s.target s.call deadline) (sound_in s.earlier)) at (subst (λ (u : World ByNumber State). u.client.count ≤ n) whole unsettled))
 
   -- what is settled behind a delivery
-  delivered_by : (events : List Event) (delivery : Event) → IsDelivery (seen_by events) delivery → (x : Numbered (List ℕ)) (rest : List (Numbered (List ℕ))) → (left_by_ids width opening events).down ≡ x ∷ rest → (left_by_ids width opening (events ++ delivery ∷ [])).settled ≡ (happens ends (by_numbers width) (counted_by events).world Down_deliver).wire.settled
+  delivered_by : (events : List Event) (delivery : Event) → IsDelivery (seen_by events) delivery → (x : Numbered (List ℕ)) (rest : List (Numbered (List ℕ)))
+      → (left_by_ids width opening events).down ≡ x ∷ rest → (left_by_ids width opening (events ++ delivery ∷ [])).settled ≡
+      (happens ends (by_numbers width) (counted_by events).world Down_deliver).wire.settled
   delivered_by events delivery is x rest front =
       let one : left_by_ids width opening (events ++ delivery ∷ []) ≡ left_by_ids width opening (events ++ DownDeliver ∷ []) =
       ap (λ (v : Streams ById State). v.world.wire)
@@ -170,7 +183,8 @@ module _ (width : ℕ) (narrow : width ≤ WINDOW) (opening : State) where
       ap (λ (u : Wire State). u.settled) (one ∙ wire_in (events ++ DownDeliver ∷ [])) ∙ ap (λ (u : Streams ByNumber State). u.world.wire.settled) (counted_more events DownDeliver)
 
   -- the delivery settles the request as its mark says
-  settled_at : (events : List Event) (n : ℕ) (line : List ℕ) (p : Pending) → slice_get (counted_by events).world.client.requests n ≡ Some p → DeliverySettles width opening events n line (outcome_of p line)
+  settled_at : (events : List Event) (n : ℕ) (line : List ℕ) (p : Pending) → slice_get (counted_by events).world.client.requests n ≡ Some p
+      → DeliverySettles width opening events n line (outcome_of p line)
   settled_at events n line p h delivery is next =
       let l = level events in
       let a = run_by_ids width ends l.steps (restarted opening) in
@@ -216,7 +230,9 @@ module _ (width : ℕ) (narrow : width ≤ WINDOW) (opening : State) where
       (too_late ends (by_numbers width) t.later (behind s.earlier s.target s.call t.deadline) (pending_of s.target s.call t.deadline) t.now t.told t.reached)
       (settled_at events n line p (entry events n t.deadline t.later s next.unsettled) delivery is next)
 
-  pub no_second : (events : List Event) (n : ℕ) (line : List ℕ) (rest : List (Numbered (List ℕ))) (delivery : Event) → IsDelivery (seen_by events) delivery → (left_by_ids width opening events).down ≡ record { number = n; line = line } ∷ rest → n < length (left_by_ids width opening events).settled → (left_by_ids width opening (events ++ delivery ∷ [])).settled ≡ (left_by_ids width opening events).settled
+  pub no_second : (events : List Event) (n : ℕ) (line : List ℕ) (rest : List (Numbered (List ℕ))) (delivery : Event) → IsDelivery (seen_by events) delivery
+      → (left_by_ids width opening events).down ≡ record { number = n; line = line } ∷ rest → n < length (left_by_ids width opening events).settled
+      → (left_by_ids width opening (events ++ delivery ∷ [])).settled ≡ (left_by_ids width opening events).settled
   no_second events n line rest delivery is front lt =
       let b = (counted_by events).world in
       let same = sym (wire_in events) in

@@ -53,7 +53,8 @@ module _ {State : Type 0} (width : ℕ) (narrow : width ≤ 7) (ends : Ends Stat
   level : (a : Streams ById State) (b : Streams ByNumber State) (e : Event) → AreLevel a b → AreLevel (flows ends (by_ids width ends) a e) (flows ends (by_numbers width) b e)
   level a b e h =
       let c = course_on b e in
-      subst (λ (d : Course). AreLevel (record { world = run ends (by_ids width ends) d.steps a.world; up_gone = d.up_gone; down_gone = d.down_gone }) (flows ends (by_numbers width) b e)) (sym (same_course a b e h))
+      subst (λ (d : Course). AreLevel (record { world = run ends (by_ids width ends) d.steps a.world; up_gone = d.up_gone; down_gone = d.down_gone })
+      (flows ends (by_numbers width) b e)) (sym (same_course a b e h))
       (record {
         steps = h.steps ++ c.steps;
         ids = ap (run ends (by_ids width ends) c.steps) h.ids ∙ sym (run_append ends (by_ids width ends) h.steps c.steps (ids_open state));

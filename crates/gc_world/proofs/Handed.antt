@@ -56,7 +56,8 @@ module _ (width : ℕ) (d : Direction) (v : Streams ById State) where
         text = f.0;
         behind = f.1;
         front = f.2;
-        cut_is = ap (λ q. cut (map with_end q) (gone d v + n)) f.2 ∙ cut_long (with_end f.0) (map with_end f.1) (gone d v + n) (omega (arith, size, some, le)) ∙ ap (λ k. one_more (cut (map with_end f.1) k)) left;
+        cut_is = ap (λ q. cut (map with_end q) (gone d v + n)) f.2 ∙ cut_long (with_end f.0) (map with_end f.1) (gone d v + n) (omega (arith, size, some, le))
+            ∙ ap (λ k. one_more (cut (map with_end f.1) k)) left;
         tail = sym (one_less ends (by_ids width ends) d v.world ∙ ap (drop 1) f.2);
       }
 
@@ -93,7 +94,8 @@ module _ (width : ℕ) (v : Streams ById State) where
       let s : suc (cut (map with_end h.behind) (n - used)).lines ≡ 0 = sym (ap (λ (c : Cut). c.lines) h.cut_is) ∙ z in
       absurd (omega (arith, s))
 
-  next_strays : (n used : ℕ) → IsNext width Down v n used → (q : List (Numbered (List ℕ))) → v.world.wire.down ≡ q → TakesNone width v (bytes Down n) → TakesNone width v (delivery Down) × TakesNone width (goes_on width v (delivery Down)) (bytes Down (n - used))
+  next_strays : (n used : ℕ) → IsNext width Down v n used → (q : List (Numbered (List ℕ))) → v.world.wire.down ≡ q → TakesNone width v (bytes Down n)
+      → TakesNone width v (delivery Down) × TakesNone width (goes_on width v (delivery Down)) (bytes Down (n - used))
   next_strays n used h [] e t = let wrong : [] ≡ h.text ∷ h.behind = sym (ap (map (λ x. x.line)) e) ∙ h.front in cc
   next_strays n used h (x ∷ xs) e t =
       let w = does width v.world Down_deliver in
@@ -108,7 +110,8 @@ module _ (width : ℕ) (v : Streams ById State) where
             (subst (λ j. AreStrays v.world.client j w.wire.down) count (subst (λ q. AreStrays v.world.client k q) tail all.1)),
       )
 
-spared : (width : ℕ) (d : Direction) (v : Streams ById State) (n used : ℕ) → IsNext width d v n used → TakesNone width v (bytes d n) → TakesNone width v (delivery d) × TakesNone width (goes_on width v (delivery d)) (bytes d (n - used))
+spared : (width : ℕ) (d : Direction) (v : Streams ById State) (n used : ℕ) → IsNext width d v n used → TakesNone width v (bytes d n)
+    → TakesNone width v (delivery d) × TakesNone width (goes_on width v (delivery d)) (bytes d (n - used))
 spared width Up v n used h t = absurd (next_takes width v n used h t)
 spared width Down v n used h t = next_strays width v n used h v.world.wire.down refl t
 
@@ -124,7 +127,8 @@ reached width d s v n h = record { now = v; shows = h; same = refl; spare = λ t
 
 module _ (width : ℕ) (d : Direction) (s : Seen) (v : Streams ById State) (n left : ℕ) (h : IsReached width d s v n left) where
   -- a line more
-  pub reaches_next : (t : Seen) (used : ℕ) → used ≡ remaining (gone d h.now) (lines d h.now.world.wire) → 0 < used → used ≤ left → AreStreamsOf width t (goes_on width h.now (delivery d)) → IsReached width d t v n (left - used)
+  pub reaches_next : (t : Seen) (used : ℕ) → used ≡ remaining (gone d h.now) (lines d h.now.world.wire) → 0 < used → used ≤ left
+      → AreStreamsOf width t (goes_on width h.now (delivery d)) → IsReached width d t v n (left - used)
   reaches_next t used e some le shows =
       let one = next width d h.now left used e some le in
       record {
@@ -163,7 +167,8 @@ runs_out b (suc r) l iff e le = absurd (is_not b (iff.1 (omega arith, least (suc
         by_either (inr le1) = le1
 
 -- some bytes of lines that are under way are the event
-pub under_way : (width : ℕ) (d : Direction) (v : Streams ById State) (n r : ℕ) → r ≡ remaining (gone d v) (lines d v.world.wire) → (n ≡ 0 → ⊥) → (r ≡ 0 → ⊥) → goes_on width v (bytes d n) ≡ handed width d v n
+pub under_way : (width : ℕ) (d : Direction) (v : Streams ById State) (n r : ℕ) → r ≡ remaining (gone d v) (lines d v.world.wire) → (n ≡ 0 → ⊥) → (r ≡ 0 → ⊥)
+    → goes_on width v (bytes d n) ≡ handed width d v n
 under_way width d v n r e not none = bytes_pass ends (by_ids width ends) d v n ∙ by_cases n (lines d v.world.wire) not (λ z. none (e ∙ z))
   where
     by_cases : (k : ℕ) (q : List (List ℕ)) → (k ≡ 0 → ⊥) → (remaining (gone d v) q ≡ 0 → ⊥) → passing ends (by_ids width ends) d v q k ≡ to ends (by_ids width ends) d v (cut q (gone d v + k))

@@ -49,7 +49,12 @@ new_read s id call digit = let x = exec s call in reply_back (reply_of id x.rc x
 new_kept : (s : State) (id : ℕ) (call : Call) → id < 8 → IsFittingReply (record { id = id; line = executed_line id (exec s call) })
 new_kept s id call digit =
     let x = exec s call in
-    record { fields = reply_of id x.rc x.answer x.state.precision; is_reply = reply_found (executed_line id x) (reply_of id x.rc x.answer x.state.precision) (new_read s id call digit); same_id = refl }
+    record {
+      fields = reply_of id x.rc x.answer x.state.precision;
+      is_reply =
+          reply_found (executed_line id x) (reply_of id x.rc x.answer x.state.precision) (new_read s id call digit);
+      same_id = refl;
+    }
 
 -- the reply to a request reads as one with the request's id, where what is kept does
 pub reads : IsExchange ends KeptFits
@@ -119,7 +124,8 @@ bare_begun false s t e = e
 bare_begun true s t e = ap restarted e
 
 -- the id that is kept tells whether a request was executed
-pub executed_by_id : (s : State) (id : ℕ) (call : Call) → (option_map (λ (k : KeptReply). k.id) s.kept ≡ option_map (λ (k : KeptReply). k.id) (handed s id call).state.kept → ⊥) → (handed s id call).executed ≡ true
+pub executed_by_id : (s : State) (id : ℕ) (call : Call) → (option_map (λ (k : KeptReply). k.id) s.kept ≡ option_map (λ (k : KeptReply). k.id)
+    (handed s id call).state.kept → ⊥) → (handed s id call).executed ≡ true
 executed_by_id s id call other = elim (kept_or_not (kept_line s.kept (Some id))) [
   | inl h ↦ absurd (other (sym (ap (λ (x : Handed State). option_map (λ (k : KeptReply). k.id) x.state.kept) (handed_again s id call h.0 h.1))))
   | inr e ↦ ap (λ (x : Handed State). x.executed) (handed_new s id call e)
@@ -131,7 +137,8 @@ not_kept (Some k) id e same =
     let own : k.id ≡ id = some_is k.id id same in
     let wrong : Some k.line ≡ None = sym (ap (λ b. cond b (Some k.line) None) (eq-eqb k.id id own)) ∙ e in cc
 
-pub repeated_by_id : (s : State) (id : ℕ) (call : Call) → option_map (λ (k : KeptReply). k.id) s.kept ≡ option_map (λ (k : KeptReply). k.id) (handed s id call).state.kept → (handed s id call).executed ≡ false
+pub repeated_by_id : (s : State) (id : ℕ) (call : Call) → option_map (λ (k : KeptReply). k.id) s.kept ≡ option_map (λ (k : KeptReply). k.id)
+    (handed s id call).state.kept → (handed s id call).executed ≡ false
 repeated_by_id s id call same = elim (kept_or_not (kept_line s.kept (Some id))) [
   | inl h ↦ ap (λ (x : Handed State). x.executed) (handed_again s id call h.0 h.1)
   | inr e ↦ absurd (not_kept s.kept id e (same ∙ ap (λ (x : Handed State). option_map (λ (k : KeptReply). k.id) x.state.kept) (handed_new s id call e)))

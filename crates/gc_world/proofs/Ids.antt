@@ -3,7 +3,8 @@ use Rattle.std.proofs.Common.{◌≡◌, ℕ, ◌+◌, ◌-◌, ◌%◌, ◌<◌
 use Rattle.gc_client.specs.Rule.{place}
 
 -- the place of a number under way that is not settled
-pub place_within : (since count total number : ℕ) → since ≤ count → count ≤ number → number < total → total ≤ count + 7 → place ((total - since) % 8) (total - count) ((number - since) % 8) ≡ number - count
+pub place_within : (since count total number : ℕ) → since ≤ count → count ≤ number → number < total → total ≤ count + 7
+    → place ((total - since) % 8) (total - count) ((number - since) % 8) ≡ number - count
 place_within since count total number h1 h2 h3 h4 = omega arith
 
 -- the place of the last settled one, which no window reaches

@@ -13,6 +13,7 @@ pub mod Replay
 pub mod Execution
 pub mod Runs
 pub mod Queues
+pub mod Appending
 pub mod Pieces
 pub mod Streaming
 pub mod Directions

@@ -41,7 +41,8 @@ onward_reply c x true t = stays Down_deliver c (λ p. refl)
 onward_reply c x false t = record { count = omega (arith, ltb-false _ _ t); entries = λ n p h le. h }
 
 module _ {State : Type 0} (width : ℕ) (ends : Ends State) where
-  onward_send : (w : World ByNumber State) (target : ℕ) (call : Call) (deadline : ℕ) (full : Bool) → IsOnward (Send target call deadline) w.client (requested w target call (number_send w.client target call deadline full)).client
+  onward_send : (w : World ByNumber State) (target : ℕ) (call : Call) (deadline : ℕ) (full : Bool)
+      → IsOnward (Send target call deadline) w.client (requested w target call (number_send w.client target call deadline full)).client
   onward_send w target call deadline true = stays (Send target call deadline) w.client (λ p. refl)
   onward_send w target call deadline false =
       record { count = omega arith; entries = λ n p h le. get_more w.client.requests (pending_of target call deadline ∷ []) n p h }
@@ -50,7 +51,8 @@ module _ {State : Type 0} (width : ℕ) (ends : Ends State) where
   onward_down w [] = stays Down_deliver w.client (λ p. refl)
   onward_down w (x ∷ rest) = onward_reply w.client x (ltb x.number w.client.count) refl
 
-  onward_restart : (w : World ByNumber State) (up : List (Numbered Request)) (down : List (Numbered (List ℕ))) → w.client.count ≤ length w.client.requests → IsOnward Restart_client w.client (client_restarted ends (by_numbers width) w up down).client
+  onward_restart : (w : World ByNumber State) (up : List (Numbered Request)) (down : List (Numbered (List ℕ))) → w.client.count ≤ length w.client.requests
+      → IsOnward Restart_client w.client (client_restarted ends (by_numbers width) w up down).client
   onward_restart w [] [] within =
       record { count = within; entries = λ n p h le. absurd (omega (arith, slice_get_within w.client.requests n p h, le)) }
   onward_restart w [] (y ∷ down) within = stays Restart_client w.client (λ p. refl)
@@ -76,7 +78,8 @@ module _ {State : Type 0} (width : ℕ) (ends : Ends State) where
         omega (arith, (onward w e s.within).count, count_grows es (happens ends (by_numbers width) w e) (sound_step width ends Good ex w e s))
 
     -- where request n isn't settled at the end, it was only touched by each step
-    pub entry_all : (es : List Step) (w : World ByNumber State) (n : ℕ) (p : Pending) → Sound width ends Good w → slice_get w.client.requests n ≡ Some p → (run ends (by_numbers width) es w).client.count ≤ n → slice_get (run ends (by_numbers width) es w).client.requests n ≡ Some (touched_all es p)
+    pub entry_all : (es : List Step) (w : World ByNumber State) (n : ℕ) (p : Pending) → Sound width ends Good w → slice_get w.client.requests n ≡ Some p
+        → (run ends (by_numbers width) es w).client.count ≤ n → slice_get (run ends (by_numbers width) es w).client.requests n ≡ Some (touched_all es p)
     entry_all [] w n p s h le = h
     entry_all (e ∷ es) w n p s h le =
         let v = happens ends (by_numbers width) w e in

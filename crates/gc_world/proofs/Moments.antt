@@ -116,7 +116,9 @@ module _ {Client State : Type 0} (ends : Ends State) (rule : Rule Client) where
       ∙ in_time es (flows ends rule v e) (marked ends rule v e p) (t.early g (λ now is. h now (at_head e (Expire now) es is)))
       (λ now has. subst (λ d. now < d) (sym t.deadline) (h now (at_tail e (Expire now) es has)))
 
-  late_by : (e : Event) (es : List Event) (v : Streams Client State) (p : Pending) (now : ℕ) → p.deadline ≤ now → (Contains es (Expire now) → (marked_all es (flows ends rule v e) (marked ends rule v e p)).given_up ≡ true) → (e ≡ Expire now) ⊎ Contains es (Expire now) → (marked_all es (flows ends rule v e) (marked ends rule v e p)).given_up ≡ true
+  late_by : (e : Event) (es : List Event) (v : Streams Client State) (p : Pending) (now : ℕ) → p.deadline ≤ now
+      → (Contains es (Expire now) → (marked_all es (flows ends rule v e) (marked ends rule v e p)).given_up ≡ true)
+      → (e ≡ Expire now) ⊎ Contains es (Expire now) → (marked_all es (flows ends rule v e) (marked ends rule v e p)).given_up ≡ true
   late_by e es v p now le rest (inl is) = stays_marked es (flows ends rule v e) (marked ends rule v e p) ((touch ends rule v e p).reached now is le)
   late_by e es v p now le rest (inr has) = rest has
 
@@ -166,7 +168,8 @@ earlier_or : (deadline now : ℕ) (e : Event) (es : List Event) → Early deadli
 earlier_or deadline now e es h hs (inl is) = h now is
 earlier_or deadline now e es h hs (inr has) = hs now has
 
-either_tells : (deadline : ℕ) (e : Event) (es : List Event) → Early deadline e ⊎ Reaches deadline e → AllEarly deadline es ⊎ OneReaches deadline es → AllEarly deadline (e ∷ es) ⊎ OneReaches deadline (e ∷ es)
+either_tells : (deadline : ℕ) (e : Event) (es : List Event) → Early deadline e ⊎ Reaches deadline e → AllEarly deadline es ⊎ OneReaches deadline es
+    → AllEarly deadline (e ∷ es) ⊎ OneReaches deadline (e ∷ es)
 either_tells deadline e es (inr (now, is, le)) rest = inr (now, at_head e (Expire now) es is, le)
 either_tells deadline e es (inl h) (inr (now, has, le)) = inr (now, at_tail e (Expire now) es has, le)
 either_tells deadline e es (inl h) (inl hs) = inl (λ now has. earlier_or deadline now e es h hs (head_or_tail e (Expire now) es has))

@@ -41,7 +41,8 @@ Above (Some k) since count top up = (since < top) × (k.id ≡ (top - 1 - since)
 above_none : (since count top : ℕ) (up : List (Numbered Request)) (kept : Option KeptReply) → up ≡ [] → kept ≡ None → Above kept since count top up
 above_none since count top up kept e none = subst (λ k. Above k since count top up) (sym none) (subst (λ q. Each (λ x. top ≤ x.number) q) (sym e) tt)
 
-above_push : (kept : Option KeptReply) (since count top : ℕ) (up : List (Numbered Request)) (x : Numbered Request) → top ≤ x.number → Above kept since count top up → Above kept since count top (up ++ x ∷ [])
+above_push : (kept : Option KeptReply) (since count top : ℕ) (up : List (Numbered Request)) (x : Numbered Request) → top ≤ x.number
+    → Above kept since count top up → Above kept since count top (up ++ x ∷ [])
 above_push None since count top up x le h = each_append _ up (x ∷ []) h (le, tt)
 above_push (Some k) since count top up x le h = (h.0, h.1, h.2, each_append _ up (x ∷ []) h.3 (omega arith, tt))
 
@@ -70,7 +71,8 @@ not_chosen true l e = cc
 not_chosen false l e = refl
 
 -- a request that is not known again is above all that were executed
-is_new : (kept : Option KeptReply) (since count top : ℕ) (x : Numbered Request) (up : List (Numbered Request)) → kept_line kept (Some ((x.number - since) % 8)) ≡ None → Above kept since count top (x ∷ up) → top ≤ x.number
+is_new : (kept : Option KeptReply) (since count top : ℕ) (x : Numbered Request) (up : List (Numbered Request))
+    → kept_line kept (Some ((x.number - since) % 8)) ≡ None → Above kept since count top (x ∷ up) → top ≤ x.number
 is_new None since count top x up e h = h.0
 is_new (Some k) since count top x up e h =
     let ne = eqb-false _ _ (not_chosen (eqb k.id ((x.number - since) % 8)) k.line e) in
@@ -80,7 +82,9 @@ is_new (Some k) since count top x up e h =
     ]
 
 -- one that is known again is the last that was executed
-is_last : (width : ℕ) (kept : Option KeptReply) (since count top total : ℕ) (x : Numbered Request) (up : List (Numbered Request)) (line : List ℕ) → width ≤ 7 → kept_line kept (Some ((x.number - since) % 8)) ≡ Some line → since ≤ x.number → x.number < total → total ≤ count + width → Above kept since count top (x ∷ up) → x.number + 1 ≡ top
+is_last : (width : ℕ) (kept : Option KeptReply) (since count top total : ℕ) (x : Numbered Request) (up : List (Numbered Request)) (line : List ℕ) → width ≤ 7
+    → kept_line kept (Some ((x.number - since) % 8)) ≡ Some line → since ≤ x.number → x.number < total → total ≤ count + width
+    → Above kept since count top (x ∷ up) → x.number + 1 ≡ top
 is_last width None since count top total x up line narrow e h1 h2 h3 h = cc
 is_last width (Some k) since count top total x up line narrow e h1 h2 h3 h =
     let same = eqb-true _ _ (chosen (eqb k.id ((x.number - since) % 8)) k.line line e) in
@@ -95,7 +99,8 @@ held_none : (top : ℕ) (replies : List (Numbered (List ℕ))) (kept : Option Ke
 held_none top replies kept none = subst (λ k. Held k top replies) (sym none) tt
 
 -- the kept line is the reply to that request
-held_line : (kept : Option KeptReply) (id n top : ℕ) (line : List ℕ) (replies : List (Numbered (List ℕ))) → kept_line kept (Some id) ≡ Some line → n + 1 ≡ top → Held kept top replies → Has (record { number = n; line = line }) replies
+held_line : (kept : Option KeptReply) (id n top : ℕ) (line : List ℕ) (replies : List (Numbered (List ℕ))) → kept_line kept (Some id) ≡ Some line → n + 1 ≡ top
+    → Held kept top replies → Has (record { number = n; line = line }) replies
 held_line None id n top line replies e t h = cc
 held_line (Some k) id n top line replies e t h =
     let b = chosen (eqb k.id id) k.line line e in
@@ -112,7 +117,9 @@ IsLast (Some k) top executed = (earlier : List ℕ) × (executed ≡ earlier ++ 
 last_none : (top : ℕ) (executed : List ℕ) (kept : Option KeptReply) → kept ≡ None → IsLast kept top executed
 last_none top executed kept none = subst (λ k. IsLast k top executed) (sym none) tt
 
-recent_row : (width since count top total : ℕ) (k : KeptReply) (executed earlier : List ℕ) (up : List (Numbered Request)) → executed ≡ earlier ++ (top - 1) ∷ [] → since < top → count ≤ top → total ≤ count + width → Each (λ x. top ≤ x.number + 1) up → Each (IsGoing since total) up → IsRecent width (Some k) executed (numbers up)
+recent_row : (width since count top total : ℕ) (k : KeptReply) (executed earlier : List ℕ) (up : List (Numbered Request))
+    → executed ≡ earlier ++ (top - 1) ∷ [] → since < top → count ≤ top → total ≤ count + width
+    → Each (λ x. top ≤ x.number + 1) up → Each (IsGoing since total) up → IsRecent width (Some k) executed (numbers up)
 recent_row width since count top total k executed earlier up is some counted few above going =
     (earlier, top - 1, is, each_number (λ n. (top - 1 ≤ n) × (n ≤ top - 1 + width)) up (both up above going))
   where
@@ -120,11 +127,13 @@ recent_row width since count top total k executed earlier up is some counted few
     both [] a g = tt
     both (x ∷ xs) a g = ((omega (arith, a.0), omega (arith, g.0.sent, some, counted, few)), both xs a.1 g.1)
 
-recent_of : (width since count top total : ℕ) (kept : Option KeptReply) (executed : List ℕ) (up : List (Numbered Request)) → Above kept since count top up → IsLast kept top executed → total ≤ count + width → Each (IsGoing since total) up → IsRecent width kept executed (numbers up)
+recent_of : (width since count top total : ℕ) (kept : Option KeptReply) (executed : List ℕ) (up : List (Numbered Request)) → Above kept since count top up
+    → IsLast kept top executed → total ≤ count + width → Each (IsGoing since total) up → IsRecent width kept executed (numbers up)
 recent_of width since count top total None executed up above last few going = tt
 recent_of width since count top total (Some k) executed up above last few going = recent_row width since count top total k executed last.0 up last.1 above.0 above.2 few above.3 going
 
-module _ {State : Type 0} (width : ℕ) (narrow : width ≤ 7) (ends : Ends State) (Good : State → Type 0) (ex : IsExchange ends Good) (kept : State → Option KeptReply) (keeper : IsKeeper ends kept) (opening : State) where
+module _ {State : Type 0} (width : ℕ) (narrow : width ≤ 7) (ends : Ends State) (Good : State → Type 0) (ex : IsExchange ends Good)
+    (kept : State → Option KeptReply) (keeper : IsKeeper ends kept) (opening : State) where
   -- what was executed is a run of the instrument, with these replies; each entry is one of them, and each of them is an entry
   pub record IsTold (w : Wire State) (top : ℕ) : Type 0 where
     pub replies : List (Numbered (List ℕ))
@@ -151,7 +160,9 @@ module _ {State : Type 0} (width : ℕ) (narrow : width ≤ 7) (ends : Ends Stat
     pub once : IsOnce w.client w.wire
 
   -- one more is executed
-  told_new : (w : Wire State) (x : Numbered Request) (rest : List (Numbered Request)) (top : ℕ) → w.up ≡ x ∷ rest → (hd : Handed State) → ends.handed w.state x.line.id x.line.call ≡ hd → kept_line (kept w.state) (Some x.line.id) ≡ None → IsTold w top → hd.executed ≡ true → IsTold (replied w x.number rest (record hd { executed = true })) (x.number + 1)
+  told_new : (w : Wire State) (x : Numbered Request) (rest : List (Numbered Request)) (top : ℕ) → w.up ≡ x ∷ rest → (hd : Handed State)
+      → ends.handed w.state x.line.id x.line.call ≡ hd → kept_line (kept w.state) (Some x.line.id) ≡ None → IsTold w top → hd.executed ≡ true
+      → IsTold (replied w x.number rest (record hd { executed = true })) (x.number + 1)
   told_new w x rest top q hd is none h exe =
       let of = subst (λ l. Each (IsOf w.sent) l) q h.lines in
       let y : Numbered (List ℕ) = record { number = x.number; line = hd.reply } in
@@ -183,7 +194,9 @@ module _ {State : Type 0} (width : ℕ) (narrow : width ≤ 7) (ends : Ends Stat
         lines = of.1;
       }
 
-  once_new : (w : World ByNumber State) (x : Numbered Request) (rest : List (Numbered Request)) (hd : Handed State) → w.wire.up ≡ x ∷ rest → ends.handed w.wire.state x.line.id x.line.call ≡ hd → kept_line (kept w.wire.state) (Some x.line.id) ≡ None → hd.executed ≡ true → Sound width ends Good w → IsOnce w.client w.wire → IsOnce w.client (replied w.wire x.number rest (record hd { executed = true }))
+  once_new : (w : World ByNumber State) (x : Numbered Request) (rest : List (Numbered Request)) (hd : Handed State) → w.wire.up ≡ x ∷ rest
+      → ends.handed w.wire.state x.line.id x.line.call ≡ hd → kept_line (kept w.wire.state) (Some x.line.id) ≡ None → hd.executed ≡ true
+      → Sound width ends Good w → IsOnce w.client w.wire → IsOnce w.client (replied w.wire x.number rest (record hd { executed = true }))
   once_new w x rest hd q is none exe s h =
       let c = w.client in
       let g = subst (λ l. Each (IsGoing c.since (length c.requests)) l) q s.going in
@@ -199,19 +212,23 @@ module _ {State : Type 0} (width : ℕ) (narrow : width ≤ 7) (ends : Ends Stat
         below = each_append _ w.wire.executed _ (each_more (λ n. n < h.top) (λ n. n < x.number + 1) (λ n l. omega (arith, l, new)) w.wire.executed h.below) (omega arith, tt);
         sent = omega (arith, g.0.sent);
         made = each_append _ w.wire.down _ (each_more (λ (y : Numbered (List ℕ)). y.number < h.top) (λ y. y.number < x.number + 1) (λ y l. omega (arith, l, new)) w.wire.down h.made) (omega arith, tt);
-        above = subst (λ k. Above k c.since c.count (x.number + 1) rest) (sym keeps_it) (omega (arith, g.0.recent), g.0.id ∙ ap (λ n. (n - c.since) % 8) m, order.0, rising_each (x.number + 1) rest order.1);
+        above = subst (λ k. Above k c.since c.count (x.number + 1) rest) (sym keeps_it)
+            (omega (arith, g.0.recent), g.0.id ∙ ap (λ n. (n - c.since) % 8) m, order.0, rising_each (x.number + 1) rest order.1);
         last = subst (λ k. IsLast k (x.number + 1) (w.wire.executed ++ x.number ∷ [])) (sym keeps_it) (w.wire.executed, ap (λ n. w.wire.executed ++ n ∷ []) m);
         told = told_new w.wire x rest h.top q hd is none h.told exe;
       }
 
   -- the last one comes again
-  once_again : (w : World ByNumber State) (x : Numbered Request) (rest : List (Numbered Request)) (line : List ℕ) → w.wire.up ≡ x ∷ rest → kept_line (kept w.wire.state) (Some x.line.id) ≡ Some line → Sound width ends Good w → IsOnce w.client w.wire → IsOnce w.client (replied w.wire x.number rest (record { state = w.wire.state; reply = line; executed = false }))
+  once_again : (w : World ByNumber State) (x : Numbered Request) (rest : List (Numbered Request)) (line : List ℕ) → w.wire.up ≡ x ∷ rest
+      → kept_line (kept w.wire.state) (Some x.line.id) ≡ Some line → Sound width ends Good w → IsOnce w.client w.wire
+      → IsOnce w.client (replied w.wire x.number rest (record { state = w.wire.state; reply = line; executed = false }))
   once_again w x rest line q is s h =
       let c = w.client in
       let r = h.told in
       let g = subst (λ l. Each (IsGoing c.since (length c.requests)) l) q s.going in
       let a = subst (λ l. Above (kept w.wire.state) c.since c.count h.top l) q h.above in
-      let last = is_last width (kept w.wire.state) c.since c.count h.top (length c.requests) x rest line narrow (subst (λ i. kept_line (kept w.wire.state) (Some i) ≡ Some line) g.0.id is) g.0.recent g.0.sent s.few a in
+      let last = is_last width (kept w.wire.state) c.since c.count h.top (length c.requests) x rest line narrow
+      (subst (λ i. kept_line (kept w.wire.state) (Some i) ≡ Some line) g.0.id is) g.0.recent g.0.sent s.few a in
       let y : Numbered (List ℕ) = record { number = x.number; line = line } in
       record {
         top = h.top;
@@ -232,14 +249,18 @@ module _ {State : Type 0} (width : ℕ) (narrow : width ≤ 7) (ends : Ends Stat
         };
       }
 
-  once_handed : (w : World ByNumber State) (x : Numbered Request) (rest : List (Numbered Request)) (hd : Handed State) (b : Bool) (o : Option (List ℕ)) → hd.executed ≡ b → w.wire.up ≡ x ∷ rest → ends.handed w.wire.state x.line.id x.line.call ≡ hd → kept_line (kept w.wire.state) (Some x.line.id) ≡ o → Sound width ends Good w → IsOnce w.client w.wire → IsOnce w.client (replied w.wire x.number rest hd)
+  once_handed : (w : World ByNumber State) (x : Numbered Request) (rest : List (Numbered Request)) (hd : Handed State) (b : Bool) (o : Option (List ℕ))
+      → hd.executed ≡ b → w.wire.up ≡ x ∷ rest → ends.handed w.wire.state x.line.id x.line.call ≡ hd → kept_line (kept w.wire.state) (Some x.line.id) ≡ o
+      → Sound width ends Good w → IsOnce w.client w.wire → IsOnce w.client (replied w.wire x.number rest hd)
   once_handed w x rest hd b (Some line) e q is o s h =
       subst (λ (k : Handed State). IsOnce w.client (replied w.wire x.number rest k)) (sym (keeper.again w.wire.state x.line.id x.line.call line o) ∙ is) (once_again w x rest line q o s h)
   once_handed w x rest hd b None e q is o s h =
       let exe : hd.executed ≡ true = sym (ap (λ (k : Handed State). k.executed) is) ∙ keeper.executes w.wire.state x.line.id x.line.call o in
       subst (λ v. IsOnce w.client (replied w.wire x.number rest (record hd { executed = v }))) (sym exe) (once_new w x rest hd q is o exe s h)
 
-  once_sent : (w : World ByNumber State) (target : ℕ) (call : Call) (deadline : ℕ) (x : Sending ByNumber) → x.id < 8 → length x.client.requests ≡ length w.client.requests + 1 → x.client.since ≡ w.client.since → x.client.count ≡ w.client.count → Sound width ends Good w → IsOnce w.client w.wire → IsOnce x.client (requested w target call (Some x)).wire
+  once_sent : (w : World ByNumber State) (target : ℕ) (call : Call) (deadline : ℕ) (x : Sending ByNumber) → x.id < 8
+      → length x.client.requests ≡ length w.client.requests + 1 → x.client.since ≡ w.client.since → x.client.count ≡ w.client.count → Sound width ends Good w
+      → IsOnce w.client w.wire → IsOnce x.client (requested w target call (Some x)).wire
   once_sent w target call deadline x digit grows since count s h =
       let r : Sent = record { target = target; call = call; line = request_line (Some x.id) call } in
       let t = h.told in
@@ -267,18 +288,26 @@ module _ {State : Type 0} (width : ℕ) (narrow : width ≤ 7) (ends : Ends Stat
         };
       }
 
-  once_send : (w : World ByNumber State) (target : ℕ) (call : Call) (deadline : ℕ) (full : Bool) (x : Sending ByNumber) → number_send w.client target call deadline full ≡ Some x → Sound width ends Good w → IsOnce w.client w.wire → IsOnce x.client (requested w target call (Some x)).wire
+  once_send : (w : World ByNumber State) (target : ℕ) (call : Call) (deadline : ℕ) (full : Bool) (x : Sending ByNumber)
+      → number_send w.client target call deadline full ≡ Some x → Sound width ends Good w → IsOnce w.client w.wire
+      → IsOnce x.client (requested w target call (Some x)).wire
   once_send w target call deadline true x e s h = cc
   once_send w target call deadline false x e s h =
       let c = w.client in
-      let y : Sending ByNumber = record { id = (length c.requests - c.since) % 8; client = record { count = c.count; requests = c.requests ++ pending_of target call deadline ∷ []; since = c.since } } in
-      subst (λ z. IsOnce z.client (requested w target call (Some z)).wire) (some_is y x e) (once_sent w target call deadline y (omega arith) (length_push c.requests (pending_of target call deadline)) refl refl s h)
+      let y : Sending ByNumber = record {
+        id = (length c.requests - c.since) % 8;
+        client =
+            record { count = c.count; requests = c.requests ++ pending_of target call deadline ∷ []; since = c.since };
+      } in
+      subst (λ z. IsOnce z.client (requested w target call (Some z)).wire) (some_is y x e)
+      (once_sent w target call deadline y (omega arith) (length_push c.requests (pending_of target call deadline)) refl refl s h)
 
   -- the upward queue is another one
   told_up : (w : Wire State) (top : ℕ) (up : List (Numbered Request)) (down : List (Numbered (List ℕ))) → Each (IsOf w.sent) up → IsTold w top → IsTold (record w { up = up; down = down }) top
   told_up w top up down u t = record { replies = t.replies; replays = t.replays; among = t.among; each = t.each; begins = t.begins; held = t.held; lines = u }
 
-  once_queues : (c : ByNumber) (w : Wire State) (up : List (Numbered Request)) (down : List (Numbered (List ℕ))) (h : IsOnce c w) → Each (λ x. x.number < h.top) down → Above (kept w.state) c.since c.count h.top up → Each (IsOf w.sent) up → IsOnce c (record w { up = up; down = down })
+  once_queues : (c : ByNumber) (w : Wire State) (up : List (Numbered Request)) (down : List (Numbered (List ℕ))) (h : IsOnce c w)
+      → Each (λ x. x.number < h.top) down → Above (kept w.state) c.since c.count h.top up → Each (IsOf w.sent) up → IsOnce c (record w { up = up; down = down })
   once_queues c w up down h d u l = record { top = h.top; last = h.last; climbs = h.climbs; below = h.below; sent = h.sent; made = d; above = u; told = told_up w h.top up down l h.told }
 
   -- nothing that counts here is another one
@@ -286,15 +315,37 @@ module _ {State : Type 0} (width : ℕ) (narrow : width ≤ 7) (ends : Ends Stat
   told_else w top settled down refused idle t = record { replies = t.replies; replays = t.replays; among = t.among; each = t.each; begins = t.begins; held = t.held; lines = t.lines }
 
   once_else : (c : ByNumber) (w : Wire State) (settled : _) (refused idle : ℕ) → IsOnce c w → IsOnce c (record w { settled = settled; refused = refused; idle = idle })
-  once_else c w settled refused idle h = record { top = h.top; last = h.last; climbs = h.climbs; below = h.below; sent = h.sent; made = h.made; above = h.above; told = told_else w h.top settled w.down refused idle h.told }
+  once_else c w settled refused idle h = record {
+    top = h.top;
+    last = h.last;
+    climbs = h.climbs;
+    below = h.below;
+    sent = h.sent;
+    made = h.made;
+    above =
+        h.above;
+    told = told_else w h.top settled w.down refused idle h.told;
+  }
 
-  once_reply : (w : World ByNumber State) (x : Numbered (List ℕ)) (rest : List (Numbered (List ℕ))) (old : Bool) → w.wire.down ≡ x ∷ rest → IsOnce w.client w.wire → IsOnce (number_reply w.client x old).client (with_settled (record w.wire { down = rest }) (number_reply w.client x old)).wire
+  once_reply : (w : World ByNumber State) (x : Numbered (List ℕ)) (rest : List (Numbered (List ℕ))) (old : Bool) → w.wire.down ≡ x ∷ rest
+      → IsOnce w.client w.wire → IsOnce (number_reply w.client x old).client (with_settled (record w.wire { down = rest }) (number_reply w.client x old)).wire
   once_reply w x rest true e h =
       let m = subst (λ q. Each (λ y. y.number < h.top) q) e h.made in
       record { top = h.top; last = h.last; climbs = h.climbs; below = h.below; sent = h.sent; made = m.1; above = h.above; told = told_else w.wire h.top _ rest w.wire.refused w.wire.idle h.told }
   once_reply w x rest false e h =
       let m = subst (λ q. Each (λ y. y.number < h.top) q) e h.made in
-      record { top = h.top; last = h.last; climbs = h.climbs; below = h.below; sent = h.sent; made = m.1; above = above_count (kept w.wire.state) w.client.since w.client.count (x.number + 1) h.top w.wire.up (omega (arith, m.0)) h.above; told = told_else w.wire h.top _ rest w.wire.refused w.wire.idle h.told }
+      record {
+        top = h.top;
+        last = h.last;
+        climbs = h.climbs;
+        below = h.below;
+        sent = h.sent;
+        made = m.1;
+        above =
+            above_count (kept w.wire.state) w.client.since w.client.count (x.number + 1) h.top w.wire.up (omega (arith, m.0)) h.above;
+        told =
+            told_else w.wire h.top _ rest w.wire.refused w.wire.idle h.told;
+      }
 
   -- the instrument forgets what it kept
   once_forgotten : (c : ByNumber) (w : Wire State) (count since : ℕ) → w.up ≡ [] → IsOnce c w → IsOnce (record c { count = count; since = since }) (started ends w true)
@@ -320,10 +371,21 @@ module _ {State : Type 0} (width : ℕ) (narrow : width ≤ 7) (ends : Ends Stat
       }
 
   once_expired : (w : World ByNumber State) (now : ℕ) → IsOnce w.client w.wire → IsOnce ((by_numbers width).expire w.client now) w.wire
-  once_expired w now h = record { top = h.top; last = h.last; climbs = h.climbs; below = h.below; sent = omega (arith, h.sent, length_expired now w.client.count w.client.requests); made = h.made; above = h.above; told = h.told }
+  once_expired w now h = record {
+    top = h.top;
+    last = h.last;
+    climbs = h.climbs;
+    below = h.below;
+    sent =
+        omega (arith, h.sent, length_expired now w.client.count w.client.requests);
+    made = h.made;
+    above = h.above;
+    told = h.told;
+  }
 
   -- a restart of the client restarts the instrument too
-  once_restarted : (w : World ByNumber State) → ends.joint ≡ true → w.wire.up ≡ [] → IsOnce w.client w.wire → IsOnce ((by_numbers width).restart w.client).client (with_settled (started ends w.wire ends.joint) ((by_numbers width).restart w.client)).wire
+  once_restarted : (w : World ByNumber State) → ends.joint ≡ true → w.wire.up ≡ [] → IsOnce w.client w.wire
+      → IsOnce ((by_numbers width).restart w.client).client (with_settled (started ends w.wire ends.joint) ((by_numbers width).restart w.client)).wire
   once_restarted w joint e h =
       let total = length w.client.requests in
       let v = started ends w.wire true in
@@ -336,21 +398,38 @@ module _ {State : Type 0} (width : ℕ) (narrow : width ≤ 7) (ends : Ends Stat
       record {
         idles = λ w h. record { sound = k.idles w h.sound; once = once_else w.client w.wire w.wire.settled w.wire.refused (w.wire.idle + 1) h.once };
         refuses = λ w h. record { sound = k.refuses w h.sound; once = once_else w.client w.wire w.wire.settled (w.wire.refused + 1) w.wire.idle h.once };
-        sends = λ w target call deadline x e h. record { sound = k.sends w target call deadline x e h.sound; once = once_send w target call deadline (eqb (length w.client.requests - w.client.count) width) x e h.sound h.once };
+        sends = λ w target call deadline x e h. record {
+          sound = k.sends w target call deadline x e h.sound;
+          once =
+              once_send w target call deadline (eqb (length w.client.requests - w.client.count) width) x e h.sound h.once;
+        };
         answers = λ w x rest q h. record {
           sound = k.answers w x rest q h.sound;
-          once = once_handed w x rest (ends.handed w.wire.state x.line.id x.line.call) (ends.handed w.wire.state x.line.id x.line.call).executed (kept_line (kept w.wire.state) (Some x.line.id)) refl q refl refl h.sound h.once;
+          once = once_handed w x rest (ends.handed w.wire.state x.line.id x.line.call) (ends.handed w.wire.state x.line.id x.line.call).executed
+              (kept_line (kept w.wire.state) (Some x.line.id)) refl q refl refl h.sound h.once;
         };
         loses_up = λ w n h. record {
           sound = k.loses_up w n h.sound;
-          once = once_queues w.client w.wire (without n w.wire.up) w.wire.down h.once h.once.made (above_without (kept w.wire.state) w.client.since w.client.count h.once.top n w.wire.up h.once.above) (each_without _ n w.wire.up h.once.told.lines);
+          once = once_queues w.client w.wire (without n w.wire.up) w.wire.down h.once h.once.made
+              (above_without (kept w.wire.state) w.client.since w.client.count h.once.top n w.wire.up h.once.above)
+              (each_without _ n w.wire.up h.once.told.lines);
         };
         repeats_up = λ w n h. record {
           sound = k.repeats_up w n h.sound;
-          once = once_queues w.client w.wire (doubled n w.wire.up) w.wire.down h.once h.once.made (above_doubled (kept w.wire.state) w.client.since w.client.count h.once.top n w.wire.up h.once.above) (each_doubled _ n w.wire.up h.once.told.lines);
+          once = once_queues w.client w.wire (doubled n w.wire.up) w.wire.down h.once h.once.made
+              (above_doubled (kept w.wire.state) w.client.since w.client.count h.once.top n w.wire.up h.once.above)
+              (each_doubled _ n w.wire.up h.once.told.lines);
         };
-        loses_down = λ w n h. record { sound = k.loses_down w n h.sound; once = once_queues w.client w.wire w.wire.up (without n w.wire.down) h.once (each_without _ n w.wire.down h.once.made) h.once.above h.once.told.lines };
-        repeats_down = λ w n h. record { sound = k.repeats_down w n h.sound; once = once_queues w.client w.wire w.wire.up (doubled n w.wire.down) h.once (each_doubled _ n w.wire.down h.once.made) h.once.above h.once.told.lines };
+        loses_down = λ w n h. record {
+          sound = k.loses_down w n h.sound;
+          once =
+              once_queues w.client w.wire w.wire.up (without n w.wire.down) h.once (each_without _ n w.wire.down h.once.made) h.once.above h.once.told.lines;
+        };
+        repeats_down = λ w n h. record {
+          sound = k.repeats_down w n h.sound;
+          once =
+              once_queues w.client w.wire w.wire.up (doubled n w.wire.down) h.once (each_doubled _ n w.wire.down h.once.made) h.once.above h.once.told.lines;
+        };
         hears = λ w x rest q h. record { sound = k.hears w x rest q h.sound; once = once_reply w x rest (ltb x.number w.client.count) q h.once };
         expires = λ w now h. record { sound = k.expires w now h.sound; once = once_expired w now h.once };
         restarts = λ w u d h. record { sound = k.restarts w u d h.sound; once = once_restarted w joint u h.once };

@@ -70,7 +70,8 @@ module _ {P Q : Type 0} (old new : Kept) (line : List ℕ) (plain : IsPlain line
       → (position is_line_feed (take (m - g) (drop g line)) ≡ None → P × Q × ((rest : List ℕ) → StandsFor old rest → StandsFor new (rest ++ take (m - g) (drop g line))))
       → StandsFor old (take g (with_end line)) → StandsFor new (take m (with_end line))
   fed_within g m le within next stands =
-      let fed = (next (no_feed (take (m - g) (drop g line)) (All-take Plain (m - g) (drop g line) (All-drop Plain g line plain)))).2 (take g line) (subst (StandsFor old) (take_front g line (13 ∷ 10 ∷ []) (omega (arith, le, within))) stands) in
+      let fed = (next (no_feed (take (m - g) (drop g line)) (All-take Plain (m - g) (drop g line) (All-drop Plain g line plain)))).2 (take g line)
+      (subst (StandsFor old) (take_front g line (13 ∷ 10 ∷ []) (omega (arith, le, within))) stands) in
       subst (StandsFor new) (take_pieces g m line le ∙ sym (take_front m line (13 ∷ 10 ∷ []) within)) fed
 
   -- all that remains of the line
@@ -80,7 +81,8 @@ module _ {P Q : Type 0} (old new : Kept) (line : List ℕ) (plain : IsPlain line
   fed_line g le next stands = subst (StandsFor new) (take_at line (13 ∷ 10 ∷ []) (length line) refl) (fed_within g (length line) le (omega arith) next stands)
 
 -- and the CR behind it
-pub fed_return : {P Q : Type 0} (old new : Kept) (line : List ℕ) (m : ℕ) → m ≡ length line + 1 → (position is_line_feed (13 ∷ []) ≡ None → P × Q × ((rest : List ℕ) → StandsFor old rest → StandsFor new (rest ++ 13 ∷ [])))
+pub fed_return : {P Q : Type 0} (old new : Kept) (line : List ℕ) (m : ℕ) → m ≡ length line + 1
+    → (position is_line_feed (13 ∷ []) ≡ None → P × Q × ((rest : List ℕ) → StandsFor old rest → StandsFor new (rest ++ 13 ∷ [])))
     → StandsFor old line → StandsFor new (take m (with_end line))
 fed_return old new line m e next stands = subst (StandsFor new) (sym (with_return line m e)) ((next refl).2 line stands)
 

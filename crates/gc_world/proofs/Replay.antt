@@ -46,17 +46,31 @@ module _ {State : Type 0} (ends : Ends State) where
   Replays sent starts j s (n ∷ ns) [] t = ⊥
 
   reply_more : (sent more : List Sent) (s : State) (n : ℕ) (m : Numbered (List ℕ)) (t : State) → IsReply sent s n m t → IsReply (sent ++ more) s n m t
-  reply_more sent more s n m t h = record { request = h.request; found = get_more sent more n h.request h.found; id = h.id; small = h.small; text = h.text; executed = h.executed; number = h.number; line = h.line; leads = h.leads }
+  reply_more sent more s n m t h = record {
+    request = h.request;
+    found = get_more sent more n h.request h.found;
+    id = h.id;
+    small = h.small;
+    text =
+        h.text;
+    executed = h.executed;
+    number = h.number;
+    line = h.line;
+    leads = h.leads;
+  }
 
   -- further requests change nothing
-  pub replays_more : (sent more : List Sent) (starts : List ℕ) (j : ℕ) (s : State) (ns : List ℕ) (ms : List (Numbered (List ℕ))) (t : State) → Replays sent starts j s ns ms t → Replays (sent ++ more) starts j s ns ms t
+  pub replays_more : (sent more : List Sent) (starts : List ℕ) (j : ℕ) (s : State) (ns : List ℕ) (ms : List (Numbered (List ℕ))) (t : State)
+      → Replays sent starts j s ns ms t → Replays (sent ++ more) starts j s ns ms t
   replays_more sent more starts j s [] [] t h = h
   replays_more sent more starts j s (n ∷ ns) (m ∷ ms) t h = (h.0, reply_more sent more s n m h.0 h.1, replays_more sent more starts (j + 1) _ ns ms t h.2)
   replays_more sent more starts j s [] (m ∷ ms) t h = h
   replays_more sent more starts j s (n ∷ ns) [] t h = h
 
   -- one more request is executed, after the last start
-  pub replays_push : (sent : List Sent) (starts : List ℕ) (j l : ℕ) (s : State) (ns : List ℕ) (ms : List (Numbered (List ℕ))) (t : State) (n : ℕ) (m : Numbered (List ℕ)) (u : State) → j + length ns + 1 ≡ l → has_number l starts ≡ false → IsReply sent t n m u → Replays sent starts j s ns ms t → Replays sent starts j s (ns ++ n ∷ []) (ms ++ m ∷ []) u
+  pub replays_push : (sent : List Sent) (starts : List ℕ) (j l : ℕ) (s : State) (ns : List ℕ) (ms : List (Numbered (List ℕ))) (t : State) (n : ℕ)
+      (m : Numbered (List ℕ)) (u : State) → j + length ns + 1 ≡ l → has_number l starts ≡ false → IsReply sent t n m u → Replays sent starts j s ns ms t
+      → Replays sent starts j s (ns ++ n ∷ []) (ms ++ m ∷ []) u
   replays_push sent starts j l s [] [] t n m u e none r h =
       let e1 : l ≡ j + 1 = omega (arith, e) in
       (u, subst (λ x. IsReply sent x n m u) (sym h) r, ap (λ b. begun ends.restarted b u) (subst (λ k. has_number k starts ≡ false) e1 none))
@@ -69,18 +83,30 @@ module _ {State : Type 0} (ends : Ends State) where
   begun_twice twice true s = sym (twice s)
 
   -- a start after the last that was executed
-  replays_start : ((s : State) → ends.restarted (ends.restarted s) ≡ ends.restarted s) → (sent : List Sent) (starts : List ℕ) (j l : ℕ) (s : State) (n : ℕ) (ns : List ℕ) (ms : List (Numbered (List ℕ))) (t : State) → j + length ns + 1 ≡ l → Replays sent starts j s (n ∷ ns) ms t → Replays sent (starts ++ l ∷ []) j s (n ∷ ns) ms (ends.restarted t)
+  replays_start : ((s : State) → ends.restarted (ends.restarted s) ≡ ends.restarted s)
+      → (sent : List Sent) (starts : List ℕ) (j l : ℕ) (s : State) (n : ℕ) (ns : List ℕ) (ms : List (Numbered (List ℕ))) (t : State) → j + length ns + 1 ≡ l
+      → Replays sent starts j s (n ∷ ns) ms t → Replays sent (starts ++ l ∷ []) j s (n ∷ ns) ms (ends.restarted t)
   replays_start twice sent starts j l s n [] (m ∷ []) t e h =
-      let e1 : j + 1 ≡ l = omega (arith, e) in
-      (h.0, h.1, ap (λ b. begun ends.restarted b h.0) (ap (λ k. has_number k (starts ++ l ∷ [])) e1 ∙ has_number_pushed l starts) ∙ begun_twice twice (has_number (j + 1) starts) h.0 ∙ ap ends.restarted h.2)
+      let e1 : j + 1 ≡ l = omega (arith, e) in (
+        h.0,
+        h.1,
+        ap (λ b. begun ends.restarted b h.0) (ap (λ k. has_number k (starts ++ l ∷ [])) e1 ∙ has_number_pushed l starts)
+            ∙ begun_twice twice (has_number (j + 1) starts) h.0 ∙ ap ends.restarted h.2,
+      )
   replays_start twice sent starts j l s n (k ∷ ns) (m ∷ ms) t e h =
-      let b = has_number_push (j + 1) l starts (λ same. omega (arith, e, same)) in
-      (h.0, h.1, subst (λ v. Replays sent (starts ++ l ∷ []) (j + 1) (begun ends.restarted v h.0) (k ∷ ns) ms (ends.restarted t)) (sym b) (replays_start twice sent starts (j + 1) l _ k ns ms t (omega (arith, e)) h.2))
+      let b = has_number_push (j + 1) l starts (λ same. omega (arith, e, same)) in (
+        h.0,
+        h.1,
+        subst (λ v. Replays sent (starts ++ l ∷ []) (j + 1) (begun ends.restarted v h.0) (k ∷ ns) ms (ends.restarted t)) (sym b)
+            (replays_start twice sent starts (j + 1) l _ k ns ms t (omega (arith, e)) h.2),
+      )
   replays_start twice sent starts j l s n [] [] t e h = absurd h
   replays_start twice sent starts j l s n [] (m ∷ (x ∷ ms)) t e h = absurd h.2
   replays_start twice sent starts j l s n (k ∷ ns) [] t e h = absurd h
 
-  pub replays_started : ((s : State) → ends.restarted (ends.restarted s) ≡ ends.restarted s) → (sent : List Sent) (starts : List ℕ) (opening : State) (ns : List ℕ) (ms : List (Numbered (List ℕ))) (t : State) → Replays sent starts 0 (ends.restarted opening) ns ms t → Replays sent (starts ++ length ns ∷ []) 0 (ends.restarted opening) ns ms (ends.restarted t)
+  pub replays_started : ((s : State) → ends.restarted (ends.restarted s) ≡ ends.restarted s)
+      → (sent : List Sent) (starts : List ℕ) (opening : State) (ns : List ℕ) (ms : List (Numbered (List ℕ))) (t : State)
+      → Replays sent starts 0 (ends.restarted opening) ns ms t → Replays sent (starts ++ length ns ∷ []) 0 (ends.restarted opening) ns ms (ends.restarted t)
   replays_started twice sent starts opening [] [] t h = sym (twice opening) ∙ ap ends.restarted h
   replays_started twice sent starts opening (n ∷ ns) ms t h = replays_start twice sent starts 0 (length (n ∷ ns)) (ends.restarted opening) n ns ms t (omega arith) h
   replays_started twice sent starts opening [] (m ∷ ms) t h = absurd h

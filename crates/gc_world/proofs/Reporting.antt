@@ -70,8 +70,10 @@ module _ (r : Report) (w : Wire State) (h : IsReport r w) where
       }
 
   -- a reply in a state that fits to a call that fits reads as a value or a refusal
-  module _ (Good : State → Type 0) (fine : (call : Call) (bytes : List ℕ) (reading : Reading) → IsReplyTo ends Good call bytes → IsFitting call → ReadsAs call bytes reading → IsValueOrRefusal reading) (fits : Each (λ (q : Sent). IsFitting q.call) r.sent) where
-    booked_at : (one : OneForOne r) → ((m : ℕ) (s : Rule.Settlement) → slice_get w.settled m ≡ Some s → IsBooked ends Good w.made m s) → (m : ℕ) (s : Settlement) (o : Outcome) → s.outcome ≡ o → slice_get r.settled m ≡ Some s → IsWellRead s.call o → IsBookedAnswer r m s.call o
+  module _ (Good : State → Type 0) (fine : (call : Call) (bytes : List ℕ) (reading : Reading) → IsReplyTo ends Good call bytes → IsFitting call
+      → ReadsAs call bytes reading → IsValueOrRefusal reading) (fits : Each (λ (q : Sent). IsFitting q.call) r.sent) where
+    booked_at : (one : OneForOne r) → ((m : ℕ) (s : Rule.Settlement) → slice_get w.settled m ≡ Some s → IsBooked ends Good w.made m s)
+        → (m : ℕ) (s : Settlement) (o : Outcome) → s.outcome ≡ o → slice_get r.settled m ≡ Some s → IsWellRead s.call o → IsBookedAnswer r m s.call o
     booked_at one booked m s Late o e read = tt
     booked_at one booked m s Lost o e read = tt
     booked_at one booked m s (Answered reading line) o e read =

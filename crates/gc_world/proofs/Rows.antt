@@ -59,12 +59,14 @@ module _ {Line : Type 0} where
   rising_doubled_behind low k (n ∷ ns) xs h = (h.0, rising_doubled_behind (n + 1) k ns xs h.1)
 
   -- a line of the number that stands in front of ns goes to the back of the queue
-  pub rising_moved : (low n : ℕ) (line : Line) (xs : List (Numbered Line)) (ns : List ℕ) → Rising low (numbers xs ++ n ∷ ns) → Rising low (numbers (xs ++ record { number = n; line = line } ∷ []) ++ ns)
+  pub rising_moved : (low n : ℕ) (line : Line) (xs : List (Numbered Line)) (ns : List ℕ) → Rising low (numbers xs ++ n ∷ ns)
+      → Rising low (numbers (xs ++ record { number = n; line = line } ∷ []) ++ ns)
   rising_moved low n line [] ns h = h
   rising_moved low n line (x ∷ xs) ns h = (h.0, rising_moved (x.number + 1) n line xs ns h.1)
 
   -- a number above all
-  pub rising_push : (low n : ℕ) (line : Line) (ns : List ℕ) (xs : List (Numbered Line)) → low ≤ n + 1 → Each (λ m. m < n) (ns ++ numbers xs) → Rising low (ns ++ numbers xs) → Rising low (ns ++ numbers (xs ++ record { number = n; line = line } ∷ []))
+  pub rising_push : (low n : ℕ) (line : Line) (ns : List ℕ) (xs : List (Numbered Line)) → low ≤ n + 1
+      → Each (λ m. m < n) (ns ++ numbers xs) → Rising low (ns ++ numbers xs) → Rising low (ns ++ numbers (xs ++ record { number = n; line = line } ∷ []))
   rising_push low n line [] [] le below h = (le, tt)
   rising_push low n line [] (x ∷ xs) le below h = (h.0, rising_push (x.number + 1) n line [] xs (omega (arith, below.0)) below.1 h.1)
   rising_push low n line (m ∷ ns) xs le below h = (h.0, rising_push (m + 1) n line ns xs (omega (arith, below.0)) below.1 h.1)

@@ -22,7 +22,9 @@ module _ {State : Type 0} (width : ℕ) (ends : Ends State) (es : List Step) whe
       let w = run_by_ids width ends es state in
       one_for_one w.wire.settled w.client.waiting w.wire.sent (whole_at width ends es state)
 
-module _ {State : Type 0} (width : ℕ) (narrow : width ≤ 7) (ends : Ends State) (Good : State → Type 0) (ex : IsExchange ends Good) (kept : State → Option KeptReply) (keeper : IsKeeper ends kept) (joint : ends.joint ≡ true) (es : List Step) (opening : State) (good : Good (ends.restarted opening)) where
+module _ {State : Type 0} (width : ℕ) (narrow : width ≤ 7) (ends : Ends State) (Good : State → Type 0) (ex : IsExchange ends Good)
+    (kept : State → Option KeptReply) (keeper : IsKeeper ends kept) (joint : ends.joint ≡ true) (es : List Step) (opening : State)
+    (good : Good (ends.restarted opening)) where
   abbrev by_number : World ByNumber State
   by_number = run_by_numbers width ends es (ends.restarted opening)
 
@@ -52,7 +54,9 @@ module _ {State : Type 0} (width : ℕ) (narrow : width ≤ 7) (ends : Ends Stat
       let t = once.once.told in
       let w = by_number.wire in
       subst (λ (w : Wire State). Each (IsAnswerAt ends Good ex w.sent) w.made) (sym same)
-      (each_more (λ m. Has m t.replies) (IsAnswerAt ends Good ex w.sent) (λ m has. each_has (IsAnswerAt ends Good ex w.sent) t.replies m (answers_at ends Good ex w.sent w.starts 0 (ends.restarted opening) w.executed t.replies w.state good t.replays) has) w.made t.among)
+      (each_more (λ m. Has m t.replies) (IsAnswerAt ends Good ex w.sent)
+      (λ m has. each_has (IsAnswerAt ends Good ex w.sent) t.replies m
+      (answers_at ends Good ex w.sent w.starts 0 (ends.restarted opening) w.executed t.replies w.state good t.replays) has) w.made t.among)
 
   pub booked_at : (m : ℕ) (s : Settlement) → slice_get wire.settled m ≡ Some s → IsBooked ends Good wire.made m s
   booked_at m s e = booked ends Good ex wire.sent wire.made wire.settled (one_for_one_at width ends es (ends.restarted opening)) all_made answered m s e

@@ -30,7 +30,9 @@ module _ {Client S : Type 0} (ends : Ends S) (rule : Rule Client) where
       (length (flows ends rule v e).world.wire.sent ≡ length v.world.wire.sent)
       ⊎ (IsSend e × (length (flows ends rule v e).world.wire.sent ≡ length v.world.wire.sent + 1))
 
-  at_send : (w : World Client S) (target : ℕ) (call : Call) (deadline : ℕ) (o : Option (Sending Client)) → (length (requested w target call o).wire.sent ≡ length w.wire.sent) ⊎ (IsSend (Send target call deadline) × (length (requested w target call o).wire.sent ≡ length w.wire.sent + 1))
+  at_send : (w : World Client S) (target : ℕ) (call : Call) (deadline : ℕ) (o : Option (Sending Client))
+      → (length (requested w target call o).wire.sent ≡ length w.wire.sent)
+      ⊎ (IsSend (Send target call deadline) × (length (requested w target call o).wire.sent ≡ length w.wire.sent + 1))
   at_send w target call deadline None = inl refl
   at_send w target call deadline (Some x) = inr ((target, call, deadline, refl), length_push w.wire.sent (record { target = target; call = call; line = request_line (Some x.id) call }))
 
@@ -113,7 +115,8 @@ module _ (width : ℕ) (opening : State) (n : ℕ) where
   abbrev pub IsSentIn : List Event → Type 0
   IsSentIn events = (deadline : ℕ) × (later : List Event) × IsSentBefore width opening events n deadline later
 
-  found_at : (earlier : List Event) (e : Event) (rest : List Event) (b : Bool) → eqb (sent_in earlier) n ≡ b → sent_in earlier ≤ n → IsSend e → sent_in (earlier ++ e ∷ []) ≡ sent_in earlier + 1 → (sent_in (earlier ++ e ∷ []) ≤ n → IsSentIn (earlier ++ e ∷ rest)) → IsSentIn (earlier ++ e ∷ rest)
+  found_at : (earlier : List Event) (e : Event) (rest : List Event) (b : Bool) → eqb (sent_in earlier) n ≡ b → sent_in earlier ≤ n → IsSend e
+      → sent_in (earlier ++ e ∷ []) ≡ sent_in earlier + 1 → (sent_in (earlier ++ e ∷ []) ≤ n → IsSentIn (earlier ++ e ∷ rest)) → IsSentIn (earlier ++ e ∷ rest)
   found_at earlier e rest true t le (target, call, deadline, is) more again =
       let here : sent_in earlier ≡ n = eqb-true _ _ t in (
         deadline,
@@ -129,7 +132,9 @@ module _ (width : ℕ) (opening : State) (n : ℕ) where
       )
   found_at earlier e rest false t le send more again = again (omega (arith, eqb-false _ _ t, le, more))
 
-  found_by : (earlier : List Event) (e : Event) (rest : List Event) → sent_in earlier ≤ n → (sent_in (earlier ++ e ∷ []) ≡ sent_in earlier) ⊎ (IsSend e × (sent_in (earlier ++ e ∷ []) ≡ sent_in earlier + 1)) → (sent_in (earlier ++ e ∷ []) ≤ n → IsSentIn (earlier ++ e ∷ rest)) → IsSentIn (earlier ++ e ∷ rest)
+  found_by : (earlier : List Event) (e : Event) (rest : List Event) → sent_in earlier ≤ n
+      → (sent_in (earlier ++ e ∷ []) ≡ sent_in earlier) ⊎ (IsSend e × (sent_in (earlier ++ e ∷ []) ≡ sent_in earlier + 1))
+      → (sent_in (earlier ++ e ∷ []) ≤ n → IsSentIn (earlier ++ e ∷ rest)) → IsSentIn (earlier ++ e ∷ rest)
   found_by earlier e rest le (inl same) again = again (omega (arith, same, le))
   found_by earlier e rest le (inr (send, more)) again = found_at earlier e rest (eqb (sent_in earlier) n) refl le send more again
 
@@ -149,7 +154,8 @@ module _ (width : ℕ) (opening : State) (n : ℕ) where
   is_sent events lt = found [] events (omega arith) lt
 
 -- it is in time or too late
-told : (width : ℕ) (opening : State) (events : List Event) (n deadline : ℕ) (later : List Event) → IsSentBefore width opening events n deadline later → AllEarly deadline later ⊎ OneReaches deadline later → IsInTime width opening events n ⊎ IsTooLate width opening events n
+told : (width : ℕ) (opening : State) (events : List Event) (n deadline : ℕ) (later : List Event) → IsSentBefore width opening events n deadline later
+    → AllEarly deadline later ⊎ OneReaches deadline later → IsInTime width opening events n ⊎ IsTooLate width opening events n
 told width opening events n deadline later s (inl early) = inl (record { deadline = deadline; later = later; sent = s; early = early })
 told width opening events n deadline later s (inr (now, has, reached)) = inr (record { deadline = deadline; later = later; sent = s; now = now; told = has; reached = reached })
 
@@ -172,7 +178,9 @@ module _ (rule : Rule ById) (n : ℕ) where
   sent_grows [] w = omega arith
   sent_grows (e ∷ es) w = omega (arith, no_fewer w e (sends_one ends rule w e), sent_grows es (flows ends rule w e))
 
-  one_split : (xs ys : List Event) (a b : Event) (later rest : List Event) (w : Streams ById State) → xs ++ a ∷ later ≡ ys ++ b ∷ rest → length (runs xs w).world.wire.sent ≡ n → length (runs ys w).world.wire.sent ≡ n → length (runs (xs ++ a ∷ []) w).world.wire.sent ≡ n + 1 → length (runs (ys ++ b ∷ []) w).world.wire.sent ≡ n + 1 → a ∷ later ≡ b ∷ rest
+  one_split : (xs ys : List Event) (a b : Event) (later rest : List Event) (w : Streams ById State) → xs ++ a ∷ later ≡ ys ++ b ∷ rest
+      → length (runs xs w).world.wire.sent ≡ n → length (runs ys w).world.wire.sent ≡ n → length (runs (xs ++ a ∷ []) w).world.wire.sent ≡ n + 1
+      → length (runs (ys ++ b ∷ []) w).world.wire.sent ≡ n + 1 → a ∷ later ≡ b ∷ rest
   one_split [] [] a b later rest w e hx hy tx ty = e
   one_split [] (y ∷ ys) a b later rest w e hx hy tx ty =
       let same : a ≡ y = cc in

@@ -21,14 +21,18 @@ module _ {State : Type 0} (width : ℕ) (ends : Ends State) where
   abbrev pub Whole : World ById State → Type 0
   Whole w = map of_settled w.wire.settled ++ map of_pending w.client.waiting ≡ map of_sent w.wire.sent
 
-  whole_sent : (w : World ById State) (target : ℕ) (call : Call) (deadline : ℕ) (full : Bool) (x : Sending ById) → id_send w.client target call deadline full ≡ Some x → Whole w → Whole (requested w target call (Some x))
+  whole_sent : (w : World ById State) (target : ℕ) (call : Call) (deadline : ℕ) (full : Bool) (x : Sending ById)
+      → id_send w.client target call deadline full ≡ Some x → Whole w → Whole (requested w target call (Some x))
   whole_sent w target call deadline true x e h = absurd (none_is_not x e)
   whole_sent w target call deadline false x e h =
       let y : Sending ById = record { id = w.client.next; client = record { next = (w.client.next + 1) % 8; waiting = w.client.waiting ++ pending_of target call deadline ∷ [] } } in
-      let done : Whole (requested w target call (Some y)) = simp map-append (sym (append_assoc (map of_settled w.wire.settled) (map of_pending w.client.waiting) _) ∙ ap (λ l. l ++ record { target = target; call = call } ∷ []) h) in
+      let done : Whole (requested w target call (Some y)) = simp map-append
+      (sym (append_assoc (map of_settled w.wire.settled) (map of_pending w.client.waiting) _)
+      ∙ ap (λ l. l ++ record { target = target; call = call } ∷ []) h) in
       subst (λ z. Whole (requested w target call (Some z))) (some_is y x e) done
 
-  whole_booked : (w : World ById State) (wire : Wire State) (x : Settled ById) → wire.settled ≡ w.wire.settled → wire.sent ≡ w.wire.sent → map of_settled x.settlements ++ map of_pending x.client.waiting ≡ map of_pending w.client.waiting → Whole w → Whole (with_settled wire x)
+  whole_booked : (w : World ById State) (wire : Wire State) (x : Settled ById) → wire.settled ≡ w.wire.settled → wire.sent ≡ w.wire.sent
+      → map of_settled x.settlements ++ map of_pending x.client.waiting ≡ map of_pending w.client.waiting → Whole w → Whole (with_settled wire x)
   whole_booked w wire x e1 e2 p h =
       pieces ∙ ap (λ l. map of_settled wire.settled ++ l) p ∙ ap (λ l. map of_settled l ++ map of_pending w.client.waiting) e1 ∙ h ∙ ap (λ l. map of_sent l) (sym e2)
     where
@@ -60,7 +64,8 @@ module _ {State : Type 0} (width : ℕ) (ends : Ends State) where
   whole_at es state = stable_all ends (by_ids width ends) Whole keeps_whole es (ids_open state) refl
 
 -- the same at the same place
-same_at : (settled : List Settlement) (rest : List Asked) (sent : List Sent) (m : ℕ) (s : Settlement) (r : Sent) → map of_settled settled ++ rest ≡ map of_sent sent → slice_get settled m ≡ Some s → slice_get sent m ≡ Some r → of_settled s ≡ of_sent r
+same_at : (settled : List Settlement) (rest : List Asked) (sent : List Sent) (m : ℕ) (s : Settlement) (r : Sent)
+    → map of_settled settled ++ rest ≡ map of_sent sent → slice_get settled m ≡ Some s → slice_get sent m ≡ Some r → of_settled s ≡ of_sent r
 same_at [] rest sent m s r e g h = absurd (none_is_not s g)
 same_at (x ∷ xs) rest [] m s r e g h = absurd (none_is_not r h)
 same_at (x ∷ xs) rest (y ∷ ys) zero s r e g h =

@@ -35,14 +35,16 @@ use Rattle.gc_world.proofs.Handing.{executed_by_id, repeated_by_id}
 use Rattle.gc_world.proofs.Queues.{without_map, doubled_map, without_past, doubled_past}
 use Rattle.gc_world.proofs.Rows.{each_append, each_more, each_without, each_doubled}
 use Rattle.gc_world.proofs.Options.{some_is, none_is_not}
-use Rattle.gc_world.proofs.Places.{get_map, get_more, get_push, below}
+use Rattle.gc_world.proofs.Places.{get_map, get_more, get_push}
 
 -- what the instrument does with a line that a client wrote
 abbrev pub ExchangesAny : State → List ℕ → State → Option (List ℕ) → Type 0
 ExchangesAny before line after reply = (id : ℕ) (call : Call) → id < 8 → IsFitting call → line ≡ request_line (Some id) call → IsExchanged before id call after reply
 
 -- the same, of a reply that was appended to an empty line
-pub exchanges_any : (before : State) (bytes line : List ℕ) (after : State) (old new : List ℕ) (b : Bool) → bytes ≡ line → old ≡ [] → ((id : ℕ) (call : Call) → id < 8 → IsFitting call → bytes ≡ request_line (Some id) call → AppendsAnswer (IsExchanged before id call after) old new b) → ExchangesAny before line after (cond b (Some new) None)
+pub exchanges_any : (before : State) (bytes line : List ℕ) (after : State) (old new : List ℕ) (b : Bool) → bytes ≡ line → old ≡ []
+    → ((id : ℕ) (call : Call) → id < 8 → IsFitting call → bytes ≡ request_line (Some id) call → AppendsAnswer (IsExchanged before id call after) old new b)
+    → ExchangesAny before line after (cond b (Some new) None)
 exchanges_any before bytes line after old new true is none h id call digit fits e =
     let a = h id call digit fits (is ∙ e) in
     subst (λ (t : List ℕ). IsExchanged before id call after (Some t)) (sym (a.2 ∙ ap (λ l. l ++ a.0) none)) a.1
@@ -62,7 +64,8 @@ either_id (Some x) (Some y) = elim (cases_eq x y) [
   | inr ne ↦ inr (λ e. ne (some_is x y e))
 ]
 
-noted : (s : State) (id : ℕ) (call : Call) (after : State) (n : ℕ) (old new : List ℕ) → after ≡ (handed s id call).state → Notes s after n old new → new ≡ cond (handed s id call).executed (old ++ n ∷ []) old
+noted : (s : State) (id : ℕ) (call : Call) (after : State) (n : ℕ) (old new : List ℕ) → after ≡ (handed s id call).state → Notes s after n old new
+    → new ≡ cond (handed s id call).executed (old ++ n ∷ []) old
 noted s id call after n old new is h =
     let same_id = λ (e : option_map (λ (k : KeptReply). k.id) s.kept ≡ option_map (λ (k : KeptReply). k.id) after.kept). e ∙ ap (λ (t : State). option_map (λ (k : KeptReply). k.id) t.kept) is in
     elim (either_id (option_map (λ (k : KeptReply). k.id) s.kept) (option_map (λ (k : KeptReply). k.id) after.kept)) [
@@ -127,7 +130,8 @@ named_more made entry (p ∷ ps) (x ∷ xs) h =
     let others : named made ps ≡ map Some xs = cc in
     ap₂ (λ (a : Option (Numbered (List ℕ))) b. a ∷ b) (made_more made entry p x one) (named_more made entry ps xs others)
 
-named_push : (made : List Made) (entry : Made) (places : List ℕ) (xs : List (Numbered (List ℕ))) → named made places ≡ map Some xs → named (made ++ entry ∷ []) (places ++ length made ∷ []) ≡ map Some (xs ++ made_seen entry ∷ [])
+named_push : (made : List Made) (entry : Made) (places : List ℕ) (xs : List (Numbered (List ℕ))) → named made places ≡ map Some xs
+    → named (made ++ entry ∷ []) (places ++ length made ∷ []) ≡ map Some (xs ++ made_seen entry ∷ [])
 named_push made entry places xs h =
     map-append (slice_get (map made_seen (made ++ entry ∷ []))) places (length made ∷ [])
     ∙ ap₂ (λ (a : List (Option (Numbered (List ℕ)))) b. a ++ b ∷ []) (named_more made entry places xs h) (made_last made entry)
@@ -162,7 +166,8 @@ module _ (width : ℕ) (r : Report) (up down : List ℕ) (c : Windowed) (w : Wor
   no_down e = map_none Some w.wire.down (sym h.down_is ∙ ap (named r.made) e)
 
   -- the upward queue is another one, if there is a line at place k
-  up_changed : (k : ℕ) (b : Bool) (places : List ℕ) (us : List (Numbered Request)) → b ≡ ltb k (length up) → (length up ≤ k → places ≡ up) → places ≡ numbers us → Each (IsSentIn r.sent) us → AreOf width (counted b r) places down c (on_wire w (with_up w.wire us (ltb k (length w.wire.up))))
+  up_changed : (k : ℕ) (b : Bool) (places : List ℕ) (us : List (Numbered Request)) → b ≡ ltb k (length up) → (length up ≤ k → places ≡ up)
+      → places ≡ numbers us → Each (IsSentIn r.sent) us → AreOf width (counted b r) places down c (on_wire w (with_up w.wire us (ltb k (length w.wire.up))))
   up_changed k true places us e past is each =
       let e1 : ltb k (length w.wire.up) ≡ true = ap (λ n. ltb k n) (sym same_up) ∙ sym e in
       subst (λ v. AreOf width r places down c (on_wire w (with_up w.wire us v))) (sym e1)
@@ -183,7 +188,8 @@ module _ (width : ℕ) (r : Report) (up down : List ℕ) (c : Windowed) (w : Wor
       (ap (doubled k) h.up_is ∙ doubled_map (λ x. x.number) k w.wire.up) (each_doubled (IsSentIn r.sent) k w.wire.up h.requests)
 
   -- the downward queue is another one, if there is a line at place k
-  down_changed : (k : ℕ) (b : Bool) (places : List ℕ) (ds : List (Numbered (List ℕ))) → b ≡ ltb k (length down) → (length down ≤ k → places ≡ down) → named r.made places ≡ map Some ds → AreOf width (counted b r) up places c (on_wire w (with_down w.wire ds (ltb k (length w.wire.down))))
+  down_changed : (k : ℕ) (b : Bool) (places : List ℕ) (ds : List (Numbered (List ℕ))) → b ≡ ltb k (length down) → (length down ≤ k → places ≡ down)
+      → named r.made places ≡ map Some ds → AreOf width (counted b r) up places c (on_wire w (with_down w.wire ds (ltb k (length w.wire.down))))
   down_changed k true places ds e past is =
       let e1 : ltb k (length w.wire.down) ≡ true = ap (λ n. ltb k n) (sym same_down) ∙ sym e in
       subst (λ v. AreOf width r up places c (on_wire w (with_down w.wire ds v))) (sym e1)
@@ -212,10 +218,13 @@ module _ (width : ℕ) (r : Report) (up down : List ℕ) (c : Windowed) (w : Wor
       front (y ∷ ys) g = let one : y.number ≡ n = cc in let others : numbers ys ≡ rest = cc in (y, ys, refl, one, sym others)
 
   -- the reply in front is the one at that place
-  pub down_front : (p : ℕ) (rest : List ℕ) → down ≡ p ∷ rest → (x : Numbered (List ℕ)) × (xs : List (Numbered (List ℕ))) × (w.wire.down ≡ x ∷ xs) × (slice_get (map made_seen r.made) p ≡ Some x) × (named r.made rest ≡ map Some xs)
+  pub down_front : (p : ℕ) (rest : List ℕ) → down ≡ p ∷ rest → (x : Numbered (List ℕ)) × (xs : List (Numbered (List ℕ))) × (w.wire.down ≡ x ∷ xs)
+      × (slice_get (map made_seen r.made) p ≡ Some x) × (named r.made rest ≡ map Some xs)
   down_front p rest e = front w.wire.down (ap (named r.made) (sym e) ∙ h.down_is)
     where
-      front : (ds : List (Numbered (List ℕ))) → named r.made (p ∷ rest) ≡ map Some ds → (x : Numbered (List ℕ)) × (xs : List (Numbered (List ℕ))) × (ds ≡ x ∷ xs) × (slice_get (map made_seen r.made) p ≡ Some x) × (named r.made rest ≡ map Some xs)
+      front : (ds : List (Numbered (List ℕ))) → named r.made (p ∷ rest) ≡ map Some ds
+          → (x : Numbered (List ℕ)) × (xs : List (Numbered (List ℕ))) × (ds ≡ x ∷ xs) × (slice_get (map made_seen r.made) p ≡ Some x)
+          × (named r.made rest ≡ map Some xs)
       front [] g = cc
       front (x ∷ xs) g = let one : slice_get (map made_seen r.made) p ≡ Some x = cc in let others : named r.made rest ≡ map Some xs = cc in (x, xs, refl, one, others)
 
@@ -224,7 +233,10 @@ module _ (width : ℕ) (r : Report) (up down : List ℕ) (c : Windowed) (w : Wor
   down_line p rest m e found = let f = down_front p rest e in some_is (made_seen m) f.0 (sym (get_map made_seen r.made p m found) ∙ f.3)
 
   -- a request was sent, and its line is under way
-  pub shows_send : (entry : Sent) (deadline : ℕ) (client : Windowed) (sent : List Sent) (up' : List ℕ) → sends c.width c.ids entry.target entry.call deadline ≡ Some (record { id = c.ids.next; client = client.ids }) → client.width ≡ c.width → entry.line.items ≡ request_line (Some c.ids.next) entry.call → IsFitting entry.call → sent ≡ r.sent ++ entry ∷ [] → up' ≡ up ++ length r.sent ∷ [] → AreOf width (record r { sent = sent }) up' down client (does width w (Send entry.target entry.call deadline))
+  pub shows_send : (entry : Sent) (deadline : ℕ) (client : Windowed) (sent : List Sent) (up' : List ℕ)
+      → sends c.width c.ids entry.target entry.call deadline ≡ Some (record { id = c.ids.next; client = client.ids }) → client.width ≡ c.width
+      → entry.line.items ≡ request_line (Some c.ids.next) entry.call → IsFitting entry.call → sent ≡ r.sent ++ entry ∷ [] → up' ≡ up ++ length r.sent ∷ []
+      → AreOf width (record r { sent = sent }) up' down client (does width w (Send entry.target entry.call deadline))
   shows_send entry deadline client sent up' sends_is wide line fits sent_is up_is =
       let x : Sending ById = record { id = c.ids.next; client = client.ids } in
       let ruled : sends width w.client entry.target entry.call deadline ≡ Some x = ap (λ (k : Windowed). sends k.width k.ids entry.target entry.call deadline) (sym h.client_is) ∙ sends_is in
@@ -248,13 +260,24 @@ module _ (width : ℕ) (r : Report) (up down : List ℕ) (c : Windowed) (w : Wor
         client_is = ap (λ n. record { width = n; ids = client.ids }) (wide ∙ ap (λ (k : Windowed). k.width) h.client_is);
         next = sends_next c.width c.ids entry.target entry.call deadline x sends_is;
         requests =
-            each_append _ w.wire.up _ (each_more _ _ (λ y s. record { request = s.request; found = get_more r.sent (entry ∷ []) y.number s.request s.found; line = s.line; digit = s.digit; fits = s.fits }) w.wire.up h.requests)
+            each_append _ w.wire.up _ (each_more _ _ (λ y s. record {
+              request = s.request;
+              found =
+                  get_more r.sent (entry ∷ []) y.number s.request s.found;
+              line = s.line;
+              digit = s.digit;
+              fits = s.fits;
+            }) w.wire.up h.requests)
             (record { request = entry; found = number; line = line; digit = digit; fits = fits }, tt);
         calls = each_append _ r.sent (entry ∷ []) h.calls (fits, tt);
       }))
 
   -- the line in front of the upward queue was handed to the instrument
-  pub shows_up_deliver : (n : ℕ) (rest down' : List ℕ) (request : Sent) (entry : Made) (executed : List ℕ) (made : List Made) (state : State) (o : Option (List ℕ)) → up ≡ n ∷ rest → slice_get r.sent n ≡ Some request → ExchangesAny r.instrument request.line.items state o → o ≡ Some entry.line.items → entry.number ≡ n → Notes r.instrument state n r.executed executed → made ≡ r.made ++ entry ∷ [] → down' ≡ down ++ length r.made ∷ [] → AreOf width (record r { executed = executed; made = made; instrument = state }) rest down' c (does width w Up_deliver)
+  pub shows_up_deliver : (n : ℕ) (rest down' : List ℕ) (request : Sent) (entry : Made) (executed : List ℕ) (made : List Made) (state : State)
+      (o : Option (List ℕ)) → up ≡ n ∷ rest → slice_get r.sent n ≡ Some request → ExchangesAny r.instrument request.line.items state o
+      → o ≡ Some entry.line.items → entry.number ≡ n → Notes r.instrument state n r.executed executed → made ≡ r.made ++ entry ∷ []
+      → down' ≡ down ++ length r.made ∷ [] → AreOf width (record r { executed = executed; made = made; instrument = state }) rest down' c
+      (does width w Up_deliver)
   shows_up_deliver n rest down' request entry executed made state o e found replied told same executed_is made_is down'_is =
       let f = up_front n rest e in
       let y = f.0 in
@@ -292,7 +315,8 @@ module _ (width : ℕ) (r : Report) (up down : List ℕ) (c : Windowed) (w : Wor
       })
 
   -- which the instrument answers
-  pub up_answered : (n : ℕ) (rest : List ℕ) (request : Sent) (state : State) (o : Option (List ℕ)) → up ≡ n ∷ rest → slice_get r.sent n ≡ Some request → ExchangesAny r.instrument request.line.items state o → o ≡ None → ⊥
+  pub up_answered : (n : ℕ) (rest : List ℕ) (request : Sent) (state : State) (o : Option (List ℕ)) → up ≡ n ∷ rest → slice_get r.sent n ≡ Some request
+      → ExchangesAny r.instrument request.line.items state o → o ≡ None → ⊥
   up_answered n rest request state o e found replied told =
       let f = up_front n rest e in
       let sound = subst (λ q. Each (IsSentIn r.sent) q) f.2 h.requests in
@@ -302,7 +326,10 @@ module _ (width : ℕ) (r : Report) (up down : List ℕ) (c : Windowed) (w : Wor
       none_is_not _ (sym told ∙ did.line)
 
   -- the line in front of the downward queue was handed to the client
-  pub shows_down_deliver : (p : ℕ) (rest : List ℕ) (m : Made) (bytes : List ℕ) (more settled : List Settlement) (client : Windowed) → down ≡ p ∷ rest → slice_get r.made p ≡ Some m → bytes ≡ m.line.items → AreSettlements more (hears c.ids bytes (heard bytes)).settlements → client ≡ record c { ids = (hears c.ids bytes (heard bytes)).client } → settled ≡ r.settled ++ more → AreOf width (record r { settled = settled }) up rest client (does width w Down_deliver)
+  pub shows_down_deliver : (p : ℕ) (rest : List ℕ) (m : Made) (bytes : List ℕ) (more settled : List Settlement) (client : Windowed) → down ≡ p ∷ rest
+      → slice_get r.made p ≡ Some m → bytes ≡ m.line.items → AreSettlements more (hears c.ids bytes (heard bytes)).settlements
+      → client ≡ record c { ids = (hears c.ids bytes (heard bytes)).client } → settled ≡ r.settled ++ more
+      → AreOf width (record r { settled = settled }) up rest client (does width w Down_deliver)
   shows_down_deliver p rest m bytes more settled client e found same_bytes more_are client_is settled_is =
       let f = down_front p rest e in
       let x = f.0 in
@@ -314,7 +341,8 @@ module _ (width : ℕ) (r : Report) (up down : List ℕ) (c : Windowed) (w : Wor
           sent = h.reports.sent;
           executed = h.reports.executed;
           made = h.reports.made;
-          settled = subst (λ l. AreSettlements l (w.wire.settled ++ (hears w.client x.line (heard x.line)).settlements)) (sym settled_is) (are_more r.settled more w.wire.settled (hears w.client x.line (heard x.line)).settlements h.reports.settled are);
+          settled = subst (λ l. AreSettlements l (w.wire.settled ++ (hears w.client x.line (heard x.line)).settlements)) (sym settled_is)
+              (are_more r.settled more w.wire.settled (hears w.client x.line (heard x.line)).settlements h.reports.settled are);
           starts = h.reports.starts;
           instrument = h.reports.instrument;
           refused = h.reports.refused;
@@ -329,7 +357,10 @@ module _ (width : ℕ) (r : Report) (up down : List ℕ) (c : Windowed) (w : Wor
       })
 
   -- no line is under way, and the client was restarted
-  pub shows_restart_client : (more settled : List Settlement) (client : Windowed) (starts : List ℕ) (state : State) → up ≡ [] → down ≡ [] → AreSettlements more (restarts c.ids).settlements → client ≡ record c { ids = (restarts c.ids).client } → settled ≡ r.settled ++ more → starts ≡ r.starts ++ length r.executed ∷ [] → state ≡ restarted r.instrument → AreOf width (record r { settled = settled; starts = starts; instrument = state }) up down client (does width w Restart_client)
+  pub shows_restart_client : (more settled : List Settlement) (client : Windowed) (starts : List ℕ) (state : State) → up ≡ [] → down ≡ []
+      → AreSettlements more (restarts c.ids).settlements → client ≡ record c { ids = (restarts c.ids).client } → settled ≡ r.settled ++ more
+      → starts ≡ r.starts ++ length r.executed ∷ [] → state ≡ restarted r.instrument
+      → AreOf width (record r { settled = settled; starts = starts; instrument = state }) up down client (does width w Restart_client)
   shows_restart_client more settled client starts state eu ed more_are client_is settled_is starts_is state_is =
       let are : AreSettlements more (restarts w.client).settlements = subst (λ (k : Windowed). AreSettlements more (restarts k.ids).settlements) h.client_is more_are in
       subst (λ u. AreOf width (record r { settled = settled; starts = starts; instrument = state }) up down client (client_restarted ends (by_ids width ends) w u w.wire.down)) (sym (no_up eu))
@@ -338,7 +369,8 @@ module _ (width : ℕ) (r : Report) (up down : List ℕ) (c : Windowed) (w : Wor
           sent = h.reports.sent;
           executed = h.reports.executed;
           made = h.reports.made;
-          settled = subst (λ l. AreSettlements l (w.wire.settled ++ (restarts w.client).settlements)) (sym settled_is) (are_more r.settled more w.wire.settled (restarts w.client).settlements h.reports.settled are);
+          settled = subst (λ l. AreSettlements l (w.wire.settled ++ (restarts w.client).settlements)) (sym settled_is)
+              (are_more r.settled more w.wire.settled (restarts w.client).settlements h.reports.settled are);
           starts = starts_is ∙ ap₂ (λ (l m : List ℕ). l ++ length m ∷ []) h.reports.starts h.reports.executed;
           instrument = state_is ∙ ap restarted h.reports.instrument;
           refused = h.reports.refused;
@@ -353,7 +385,8 @@ module _ (width : ℕ) (r : Report) (up down : List ℕ) (c : Windowed) (w : Wor
       }))
 
   -- and the instrument was
-  pub shows_restart_instrument : (starts : List ℕ) (state : State) → up ≡ [] → down ≡ [] → starts ≡ r.starts ++ length r.executed ∷ [] → state ≡ restarted r.instrument → AreOf width (record r { starts = starts; instrument = state }) up down c (does width w Restart_instrument)
+  pub shows_restart_instrument : (starts : List ℕ) (state : State) → up ≡ [] → down ≡ [] → starts ≡ r.starts ++ length r.executed ∷ []
+      → state ≡ restarted r.instrument → AreOf width (record r { starts = starts; instrument = state }) up down c (does width w Restart_instrument)
   shows_restart_instrument starts state eu ed starts_is state_is =
       let after = record r { starts = starts; instrument = state } in
       subst (λ u. AreOf width after up down c (on_wire w (instrument_restarted ends w.wire u w.wire.down))) (sym (no_up eu))
@@ -380,7 +413,8 @@ module _ (width : ℕ) (r : Report) (up down : List ℕ) (c : Windowed) (w : Wor
   pub busy_client : IsBusy up down → AreOf width (counted false r) up down c (does width w Restart_client)
   busy_client b = by_queues w.wire.up w.wire.down refl refl
     where
-      by_queues : (us : List (Numbered Request)) (ds : List (Numbered (List ℕ))) → w.wire.up ≡ us → w.wire.down ≡ ds → AreOf width (counted false r) up down c (client_restarted ends (by_ids width ends) w us ds)
+      by_queues : (us : List (Numbered Request)) (ds : List (Numbered (List ℕ))) → w.wire.up ≡ us → w.wire.down ≡ ds
+          → AreOf width (counted false r) up down c (client_restarted ends (by_ids width ends) w us ds)
       by_queues [] [] eu ed = absurd (b (h.up_is ∙ ap numbers eu, map_none (slice_get (map made_seen r.made)) down (h.down_is ∙ ap (map Some) ed)))
       by_queues [] (y ∷ ds) eu ed = shows_idle
       by_queues (x ∷ us) ds eu ed = shows_idle
@@ -388,7 +422,8 @@ module _ (width : ℕ) (r : Report) (up down : List ℕ) (c : Windowed) (w : Wor
   pub busy_instrument : IsBusy up down → AreOf width (counted false r) up down c (does width w Restart_instrument)
   busy_instrument b = by_queues w.wire.up w.wire.down refl refl
     where
-      by_queues : (us : List (Numbered Request)) (ds : List (Numbered (List ℕ))) → w.wire.up ≡ us → w.wire.down ≡ ds → AreOf width (counted false r) up down c (on_wire w (instrument_restarted ends w.wire us ds))
+      by_queues : (us : List (Numbered Request)) (ds : List (Numbered (List ℕ))) → w.wire.up ≡ us → w.wire.down ≡ ds
+          → AreOf width (counted false r) up down c (on_wire w (instrument_restarted ends w.wire us ds))
       by_queues [] [] eu ed = absurd (b (h.up_is ∙ ap numbers eu, map_none (slice_get (map made_seen r.made)) down (h.down_is ∙ ap (map Some) ed)))
       by_queues [] (y ∷ ds) eu ed = shows_idle
       by_queues (x ∷ us) ds eu ed = shows_idle

@@ -21,7 +21,7 @@ use Rattle.gc_world.specs.declared.report.Report.{Report}
 use Rattle.gc_world.specs.declared.report.Sent.{Sent}
 use Rattle.gc_world.specs.declared.side.Side.{Side}
 use Rattle.gc_world.specs.Clients.{by_ids, ends}
-use Rattle.gc_world.specs.Directions.{pick, deliver, delivery, bytes, texts, lines, gone, reaches}
+use Rattle.gc_world.specs.Directions.{pick, bytes, texts, lines, gone, reaches}
 use Rattle.gc_world.specs.Memory.{IsBusy}
 use Rattle.gc_world.specs.Order.{Each, numbers}
 use Rattle.gc_world.specs.Reports.{made_seen}
@@ -30,11 +30,11 @@ use Rattle.gc_world.specs.Stages
 use Rattle.gc_world.specs.Stages.{Seen, does, goes_on, bytes_of, IsSentIn, named, AreOf, AreStreamsOf}
 use Rattle.gc_world.specs.Streams.{Streams, up_texts, down_texts, is_begun, remaining}
 use Rattle.gc_world.specs.World.{Request, Numbered, Wire, World, Step, Send, Up_deliver, Up_lose, Up_repeat, Down_deliver, Down_lose, Down_repeat, Restart_client, Restart_instrument, Nothing, without, doubled, idle, up_delivered, with_up, with_down, on_wire, requested, down_delivered, client_restarted, instrument_restarted}
-use Rattle.gc_world.proofs.Directions.{delivered, passing, bytes_pass, to}
+use Rattle.gc_world.proofs.Directions.{passing, bytes_pass, to}
 use Rattle.gc_world.proofs.Options.{some_is}
 use Rattle.gc_world.proofs.Places.{get_seen}
 use Rattle.gc_world.proofs.Queues.{without_map, doubled_map}
-use Rattle.gc_world.proofs.Showing.{Notes, ExchangesAny, counted, shows_idle, shows_up_lose, shows_up_repeat, shows_down_lose, shows_down_repeat, shows_send, shows_up_deliver, shows_down_deliver, shows_restart_client, shows_restart_instrument, busy_client, busy_instrument, up_front, down_front, no_up, no_down}
+use Rattle.gc_world.proofs.Showing.{Notes, ExchangesAny, counted, shows_idle, shows_up_lose, shows_up_repeat, shows_down_lose, shows_down_repeat, shows_send, shows_up_deliver, shows_down_deliver, shows_restart_client, busy_client, busy_instrument, up_front, down_front}
 use Rattle.gc_world.proofs.Streaming.{flow_start, flow_push, flow_without, flow_doubled, cut_short}
 
 -- The queues behind a step.
@@ -57,7 +57,8 @@ up_of_down : (w : Wire State) (ds : List (Numbered (List ℕ))) (b : Bool) → (
 up_of_down w ds true = refl
 up_of_down w ds false = refl
 
-of_restart : (width : ℕ) (w : World ById State) (us : List (Numbered Request)) (ds : List (Numbered (List ℕ))) → ((client_restarted ends (by_ids width ends) w us ds).wire.up ≡ w.wire.up) × ((client_restarted ends (by_ids width ends) w us ds).wire.down ≡ w.wire.down)
+of_restart : (width : ℕ) (w : World ById State) (us : List (Numbered Request)) (ds : List (Numbered (List ℕ)))
+    → ((client_restarted ends (by_ids width ends) w us ds).wire.up ≡ w.wire.up) × ((client_restarted ends (by_ids width ends) w us ds).wire.down ≡ w.wire.down)
 of_restart width w [] [] = (refl, refl)
 of_restart width w [] (d ∷ ds) = (refl, refl)
 of_restart width w (u ∷ us) ds = (refl, refl)
@@ -94,7 +95,9 @@ unmoved Up v w = refl
 unmoved Down v w = refl
 
 -- no bytes, or no line that they could be of
-idle_bytes : (width : ℕ) (d : Direction) (v : Streams ById State) (q : List (List ℕ)) (n : ℕ) {r : ℕ} → r ≡ remaining (gone d v) q → (n ≡ 0) ⊎ (r ≡ 0) → IsPart (gone d v) q → passing ends (by_ids width ends) d v q n ≡ record { world = on_wire v.world (idle v.world.wire); up_gone = v.up_gone; down_gone = v.down_gone }
+idle_bytes : (width : ℕ) (d : Direction) (v : Streams ById State) (q : List (List ℕ)) (n : ℕ) {r : ℕ} → r ≡ remaining (gone d v) q → (n ≡ 0) ⊎ (r ≡ 0)
+    → IsPart (gone d v) q → passing ends (by_ids width ends) d v q n ≡ record
+    { world = on_wire v.world (idle v.world.wire); up_gone = v.up_gone; down_gone = v.down_gone }
 idle_bytes width d v [] n e none part = unmoved d v (on_wire v.world (idle v.world.wire))
 idle_bytes width d v (line ∷ q) zero e none part = unmoved d v (on_wire v.world (idle v.world.wire))
 idle_bytes width d v (line ∷ q) (suc n) e (inl z) part = absurd (omega (arith, z))
@@ -143,7 +146,9 @@ module _ (width : ℕ) (s : Seen) (v : Streams ById State) (h : AreStreamsOf wid
       (m.0, m.1)
 
   -- neither queue is another one
-  kept : (r' : Report) (c' : Windowed) (w : World ById State) → AreOf width r' s.up.queue s.down.queue c' w → (w.wire.up ≡ v.world.wire.up) × (w.wire.down ≡ v.world.wire.down) → AreStreamsOf width (record s { report = r'; client = c' }) (record { world = w; up_gone = v.up_gone; down_gone = v.down_gone })
+  kept : (r' : Report) (c' : Windowed) (w : World ById State) → AreOf width r' s.up.queue s.down.queue c' w
+      → (w.wire.up ≡ v.world.wire.up) × (w.wire.down ≡ v.world.wire.down)
+      → AreStreamsOf width (record s { report = r'; client = c' }) (record { world = w; up_gone = v.up_gone; down_gone = v.down_gone })
   kept r' c' w lines same =
       record {
         lines = lines;
@@ -160,7 +165,11 @@ module _ (width : ℕ) (s : Seen) (v : Streams ById State) (h : AreStreamsOf wid
   -- Losses and repeats.
 
   -- a side has another queue, or the event isn't possible
-  up_queue : (b : Bool) (queue : List ℕ) (us : List (Numbered Request)) (k : ℕ) → AreOf width (counted b s.report) queue s.down.queue s.client (on_wire v.world (with_up v.world.wire us (ltb k (length v.world.wire.up)))) → IsFlow s.up.assembler s.up.gone (map (λ x. bytes_of x.line) us) → AreStreamsOf width (record s { report = counts b s.report; up = record s.up { queue = queue } }) (record { world = on_wire v.world (with_up v.world.wire us (ltb k (length v.world.wire.up))); up_gone = v.up_gone; down_gone = v.down_gone })
+  up_queue : (b : Bool) (queue : List ℕ) (us : List (Numbered Request)) (k : ℕ)
+      → AreOf width (counted b s.report) queue s.down.queue s.client (on_wire v.world (with_up v.world.wire us (ltb k (length v.world.wire.up))))
+      → IsFlow s.up.assembler s.up.gone (map (λ x. bytes_of x.line) us)
+      → AreStreamsOf width (record s { report = counts b s.report; up = record s.up { queue = queue } })
+      (record { world = on_wire v.world (with_up v.world.wire us (ltb k (length v.world.wire.up))); up_gone = v.up_gone; down_gone = v.down_gone })
   up_queue b queue us k lines flow =
       let t = ltb k (length v.world.wire.up) in
       record {
@@ -171,7 +180,11 @@ module _ (width : ℕ) (s : Seen) (v : Streams ById State) (h : AreStreamsOf wid
         down_flow = subst (λ q. IsFlow s.down.assembler s.down.gone (map (λ x. x.line) q)) (sym (down_of_up v.world.wire us t)) h.down_flow;
       }
 
-  down_queue : (b : Bool) (queue : List ℕ) (ds : List (Numbered (List ℕ))) (k : ℕ) → AreOf width (counted b s.report) s.up.queue queue s.client (on_wire v.world (with_down v.world.wire ds (ltb k (length v.world.wire.down)))) → IsFlow s.down.assembler s.down.gone (map (λ x. x.line) ds) → AreStreamsOf width (record s { report = counts b s.report; down = record s.down { queue = queue } }) (record { world = on_wire v.world (with_down v.world.wire ds (ltb k (length v.world.wire.down))); up_gone = v.up_gone; down_gone = v.down_gone })
+  down_queue : (b : Bool) (queue : List ℕ) (ds : List (Numbered (List ℕ))) (k : ℕ)
+      → AreOf width (counted b s.report) s.up.queue queue s.client (on_wire v.world (with_down v.world.wire ds (ltb k (length v.world.wire.down))))
+      → IsFlow s.down.assembler s.down.gone (map (λ x. x.line) ds) → AreStreamsOf width
+      (record s { report = counts b s.report; down = record s.down { queue = queue } })
+      (record { world = on_wire v.world (with_down v.world.wire ds (ltb k (length v.world.wire.down))); up_gone = v.up_gone; down_gone = v.down_gone })
   down_queue b queue ds k lines flow =
       let t = ltb k (length v.world.wire.down) in
       record {
@@ -187,8 +200,10 @@ module _ (width : ℕ) (s : Seen) (v : Streams ById State) (h : AreStreamsOf wid
   behind step = record { world = does width v.world step; up_gone = v.up_gone; down_gone = v.down_gone }
 
   -- a line of a side is lost or repeated, where it hasn't begun to go
-  changes : (old : Side) (g : ℕ) (put : Side → ℕ → Seen) (k : ℕ) (queue : List ℕ) (step : Step) (side : Side) (count : ℕ) → old.gone ≡ g → put old (s.report.idle_events + 1) ≡ record s { report = counted false s.report } → Changes k queue old side s.report.idle_events count
-      → (is_begun k old.gone ≡ false → (b : Bool) → b ≡ ltb k (length old.queue) → AreStreamsOf width (put (record old { queue = queue }) (cond b s.report.idle_events (s.report.idle_events + 1))) (behind step))
+  changes : (old : Side) (g : ℕ) (put : Side → ℕ → Seen) (k : ℕ) (queue : List ℕ) (step : Step) (side : Side) (count : ℕ) → old.gone ≡ g
+      → put old (s.report.idle_events + 1) ≡ record s { report = counted false s.report } → Changes k queue old side s.report.idle_events count
+      → (is_begun k old.gone ≡ false → (b : Bool) → b ≡ ltb k (length old.queue)
+      → AreStreamsOf width (put (record old { queue = queue }) (cond b s.report.idle_events (s.report.idle_events + 1))) (behind step))
       → AreStreamsOf width (put side count) (behind (cond (is_begun k g) Nothing step))
   changes old g put k queue step side count gone_is same c done = by_begun (is_begun k g) (ap (is_begun k) gone_is)
     where
@@ -230,12 +245,18 @@ module _ (width : ℕ) (s : Seen) (v : Streams ById State) (h : AreStreamsOf wid
 
   -- A send.
 
-  pub streams_send : (entry : Sent) (deadline : ℕ) (client : Windowed) (sent : List Sent) (queue : List ℕ) → sends s.client.width s.client.ids entry.target entry.call deadline ≡ Some (record { id = s.client.ids.next; client = client.ids }) → client.width ≡ s.client.width → entry.line.items ≡ request_line (Some s.client.ids.next) entry.call → IsPlain entry.line.items → IsFitting entry.call → sent ≡ s.report.sent ++ entry ∷ [] → queue ≡ s.up.queue ++ length s.report.sent ∷ [] → AreStreamsOf width (record s { report = record s.report { sent = sent }; up = record s.up { queue = queue }; client = client }) (goes_on width v (event.Send entry.target entry.call deadline))
+  pub streams_send : (entry : Sent) (deadline : ℕ) (client : Windowed) (sent : List Sent) (queue : List ℕ)
+      → sends s.client.width s.client.ids entry.target entry.call deadline ≡ Some (record { id = s.client.ids.next; client = client.ids })
+      → client.width ≡ s.client.width → entry.line.items ≡ request_line (Some s.client.ids.next) entry.call → IsPlain entry.line.items → IsFitting entry.call
+      → sent ≡ s.report.sent ++ entry ∷ [] → queue ≡ s.up.queue ++ length s.report.sent ∷ []
+      → AreStreamsOf width (record s { report = record s.report { sent = sent }; up = record s.up { queue = queue }; client = client })
+      (goes_on width v (event.Send entry.target entry.call deadline))
   streams_send entry deadline client sent queue sends_is wide line plain fits sent_is queue_is =
       let c = s.client in
       let x : Sending ById = record { id = c.ids.next; client = client.ids } in
       let request : Numbered Request = record { number = length v.world.wire.sent; line = record { id = c.ids.next; call = entry.call } } in
-      let ruled : sends width v.world.client entry.target entry.call deadline ≡ Some x = ap (λ (k : Windowed). sends k.width k.ids entry.target entry.call deadline) (sym h.lines.client_is) ∙ sends_is in
+      let ruled : sends width v.world.client entry.target entry.call deadline ≡ Some x =
+      ap (λ (k : Windowed). sends k.width k.ids entry.target entry.call deadline) (sym h.lines.client_is) ∙ sends_is in
       let whole : does width v.world (Send entry.target entry.call deadline) ≡ requested v.world entry.target entry.call (Some x) = ap (requested v.world entry.target entry.call) ruled in
       record {
         lines = shows_send width s.report s.up.queue s.down.queue c v.world h.lines entry deadline client sent queue sends_is wide line fits sent_is queue_is;
@@ -250,9 +271,15 @@ module _ (width : ℕ) (s : Seen) (v : Streams ById State) (h : AreStreamsOf wid
 
   -- Restarts.
 
-  pub streams_restart_client : (more settled : List Settlement) (client : Windowed) (starts : List ℕ) (state : State) → s.up.queue ≡ [] → s.down.queue ≡ [] → AreSettlements more (restarts s.client.ids).settlements → client ≡ record s.client { ids = (restarts s.client.ids).client } → settled ≡ s.report.settled ++ more → starts ≡ s.report.starts ++ length s.report.executed ∷ [] → state ≡ restarted s.report.instrument → AreStreamsOf width (record s { report = record s.report { settled = settled; starts = starts; instrument = state }; client = client }) (goes_on width v event.RestartClient)
+  pub streams_restart_client : (more settled : List Settlement) (client : Windowed) (starts : List ℕ) (state : State) → s.up.queue ≡ [] → s.down.queue ≡ []
+      → AreSettlements more (restarts s.client.ids).settlements → client ≡ record s.client { ids = (restarts s.client.ids).client }
+      → settled ≡ s.report.settled ++ more → starts ≡ s.report.starts ++ length s.report.executed ∷ [] → state ≡ restarted s.report.instrument
+      → AreStreamsOf width (record s { report = record s.report { settled = settled; starts = starts; instrument = state }; client = client })
+      (goes_on width v event.RestartClient)
   streams_restart_client more settled client starts state eu ed more_are client_is settled_is starts_is state_is =
-      kept (record s.report { settled = settled; starts = starts; instrument = state }) client (does width v.world Restart_client) (shows_restart_client width s.report s.up.queue s.down.queue s.client v.world h.lines more settled client starts state eu ed more_are client_is settled_is starts_is state_is)
+      kept (record s.report { settled = settled; starts = starts; instrument = state }) client (does width v.world Restart_client)
+      (shows_restart_client width s.report s.up.queue s.down.queue s.client v.world h.lines more settled client starts state eu ed more_are client_is
+      settled_is starts_is state_is)
       (of_restart width v.world v.world.wire.up v.world.wire.down)
 
   pub streams_busy_client : IsBusy s.up.queue s.down.queue → AreStreamsOf width (record s { report = counted false s.report }) (goes_on width v event.RestartClient)
@@ -268,7 +295,13 @@ module _ (width : ℕ) (s : Seen) (v : Streams ById State) (h : AreStreamsOf wid
   -- Deliveries.
 
   -- the line in front of the upward queue went over
-  pub streams_up_deliver : (n : ℕ) (side : Side) (queue : List ℕ) (request : Sent) (entry : Made) (executed : List ℕ) (made : List Made) (state : State) (o : Option (List ℕ)) → s.up.queue ≡ n ∷ side.queue → slice_get s.report.sent n ≡ Some request → ExchangesAny s.report.instrument request.line.items state o → o ≡ Some entry.line.items → entry.number ≡ n → Notes s.report.instrument state n s.report.executed executed → made ≡ s.report.made ++ entry ∷ [] → queue ≡ s.down.queue ++ length s.report.made ∷ [] → StandsFor side.assembler [] → side.gone ≡ 0 → AreStreamsOf width (record s { report = record s.report { executed = executed; made = made; instrument = state }; up = side; down = record s.down { queue = queue } }) (goes_on width v event.UpDeliver)
+  pub streams_up_deliver : (n : ℕ) (side : Side) (queue : List ℕ) (request : Sent) (entry : Made) (executed : List ℕ) (made : List Made) (state : State)
+      (o : Option (List ℕ)) → s.up.queue ≡ n ∷ side.queue → slice_get s.report.sent n ≡ Some request
+      → ExchangesAny s.report.instrument request.line.items state o → o ≡ Some entry.line.items → entry.number ≡ n
+      → Notes s.report.instrument state n s.report.executed executed → made ≡ s.report.made ++ entry ∷ [] → queue ≡ s.down.queue ++ length s.report.made ∷ []
+      → StandsFor side.assembler [] → side.gone ≡ 0 → AreStreamsOf width
+      (record s { report = record s.report { executed = executed; made = made; instrument = state }; up = side; down = record s.down { queue = queue } })
+      (goes_on width v event.UpDeliver)
   streams_up_deliver n side queue request entry executed made state o e found replied told same executed_is made_is queue_is stands none =
       let f = up_front width s.report s.up.queue s.down.queue s.client v.world h.lines n side.queue e in
       let x = f.0 in
@@ -280,7 +313,8 @@ module _ (width : ℕ) (s : Seen) (v : Streams ById State) (h : AreStreamsOf wid
       let m : Numbered (List ℕ) = record { number = x.number; line = reply } in
       let whole : does width v.world Up_deliver ≡ on_wire v.world (up_delivered ends v.world.wire (x ∷ f.1)) = ap (λ q. on_wire v.world (up_delivered ends v.world.wire q)) f.2 in
       record {
-        lines = shows_up_deliver width s.report s.up.queue s.down.queue s.client v.world h.lines n side.queue queue request entry executed made state o e found replied told same executed_is made_is queue_is;
+        lines = shows_up_deliver width s.report s.up.queue s.down.queue s.client v.world h.lines n side.queue queue request entry executed made state o e
+            found replied told same executed_is made_is queue_is;
         up_is = none;
         down_is = h.down_is;
         up_flow =
@@ -288,11 +322,17 @@ module _ (width : ℕ) (s : Seen) (v : Streams ById State) (h : AreStreamsOf wid
             (from_start side (map (λ y. bytes_of y.line) f.1) none stands (subst (λ q. IsFlow s.up.assembler s.up.gone (map (λ y. bytes_of y.line) q)) f.2 h.up_flow).plain.1);
         down_flow =
             subst (λ (w : World ById State). IsFlow s.down.assembler s.down.gone (down_texts w.wire)) (sym whole)
-            (subst (IsFlow s.down.assembler s.down.gone) (sym (map-append (λ y. y.line) v.world.wire.down (m ∷ []))) (flow_push s.down.assembler s.down.gone (down_texts v.world.wire) reply plain h.down_flow));
+            (subst (IsFlow s.down.assembler s.down.gone) (sym (map-append
+            (λ y. y.line) v.world.wire.down (m ∷ []))) (flow_push s.down.assembler s.down.gone (down_texts v.world.wire) reply plain h.down_flow));
       }
 
   -- the line in front of the downward queue went over
-  pub streams_down_deliver : (p : ℕ) (side : Side) (m : Made) (line : List ℕ) (more settled : List Settlement) (client : Windowed) → s.down.queue ≡ p ∷ side.queue → slice_get s.report.made p ≡ Some m → line ≡ m.line.items → AreSettlements more (hears s.client.ids line (heard line)).settlements → client ≡ record s.client { ids = (hears s.client.ids line (heard line)).client } → settled ≡ s.report.settled ++ more → StandsFor side.assembler [] → side.gone ≡ 0 → AreStreamsOf width (record s { report = record s.report { settled = settled }; down = side; client = client }) (goes_on width v event.DownDeliver)
+  pub streams_down_deliver : (p : ℕ) (side : Side) (m : Made) (line : List ℕ) (more settled : List Settlement) (client : Windowed)
+      → s.down.queue ≡ p ∷ side.queue → slice_get s.report.made p ≡ Some m → line ≡ m.line.items
+      → AreSettlements more (hears s.client.ids line (heard line)).settlements
+      → client ≡ record s.client { ids = (hears s.client.ids line (heard line)).client } → settled ≡ s.report.settled ++ more → StandsFor side.assembler []
+      → side.gone ≡ 0 → AreStreamsOf width (record s { report = record s.report { settled = settled }; down = side; client = client })
+      (goes_on width v event.DownDeliver)
   streams_down_deliver p side m line more settled client e found is more_are client_is settled_is stands none =
       let f = down_front width s.report s.up.queue s.down.queue s.client v.world h.lines p side.queue e in
       let whole : does width v.world Down_deliver ≡ down_delivered (by_ids width ends) v.world (f.0 ∷ f.1) = ap (λ q. down_delivered (by_ids width ends) v.world q) f.2 in
@@ -309,20 +349,26 @@ module _ (width : ℕ) (s : Seen) (v : Streams ById State) (h : AreStreamsOf wid
   -- Bytes.
 
   -- the front line has begun to go
-  pub streams_begin : (d : Direction) (n : ℕ) (side : Side) → n < remaining (gone d v) (lines d v.world.wire) → IsFlow side.assembler side.gone (texts d v.world.wire) → side.gone ≡ (pick d s.up s.down).gone + n → side.queue ≡ (pick d s.up s.down).queue → AreStreamsOf width (record s { up = pick d side s.up; down = pick d s.down side }) (Stages.handed width d v n)
+  pub streams_begin : (d : Direction) (n : ℕ) (side : Side) → n < remaining (gone d v) (lines d v.world.wire)
+      → IsFlow side.assembler side.gone (texts d v.world.wire) → side.gone ≡ (pick d s.up s.down).gone + n → side.queue ≡ (pick d s.up s.down).queue
+      → AreStreamsOf width (record s { up = pick d side s.up; down = pick d s.down side }) (Stages.handed width d v n)
   streams_begin d n side lt flow gone_of queue_is =
       subst (λ c. AreStreamsOf width (record s { up = pick d side s.up; down = pick d s.down side }) (to ends (by_ids width ends) d v c)) (sym (cut_short (lines d v.world.wire) (gone d v) n lt))
       (by_direction d flow (gone_of ∙ ap (λ g. g + n) (gone_is d)) queue_is)
     where
-      by_direction : (d : Direction) → IsFlow side.assembler side.gone (texts d v.world.wire) → side.gone ≡ gone d v + n → side.queue ≡ (pick d s.up s.down).queue → AreStreamsOf width (record s { up = pick d side s.up; down = pick d s.down side }) (reaches d v v.world (gone d v + n))
+      by_direction : (d : Direction) → IsFlow side.assembler side.gone (texts d v.world.wire) → side.gone ≡ gone d v + n
+          → side.queue ≡ (pick d s.up s.down).queue → AreStreamsOf width (record s { up = pick d side s.up; down = pick d s.down side })
+          (reaches d v v.world (gone d v + n))
       by_direction Up flow gone queue =
           record { lines = subst (λ q. AreOf width s.report q s.down.queue s.client v.world) (sym queue) h.lines; up_is = gone; down_is = h.down_is; up_flow = flow; down_flow = h.down_flow }
       by_direction Down flow gone queue =
           record { lines = subst (λ q. AreOf width s.report s.up.queue q s.client v.world) (sym queue) h.lines; up_is = h.up_is; down_is = gone; up_flow = h.up_flow; down_flow = flow }
 
   -- no bytes, or no line that they could be of
-  pub streams_idle_bytes : (d : Direction) (n r : ℕ) → r ≡ remaining (gone d v) (lines d v.world.wire) → (n ≡ 0) ⊎ (r ≡ 0) → AreStreamsOf width (record s { report = counted false s.report }) (goes_on width v (bytes d n))
-  streams_idle_bytes d n r e none = subst (λ x. AreStreamsOf width (record s { report = counted false s.report }) x) (sym (bytes_pass ends (by_ids width ends) d v n ∙ idle_bytes width d v (lines d v.world.wire) n e none (part d))) nothing
+  pub streams_idle_bytes : (d : Direction) (n r : ℕ) → r ≡ remaining (gone d v) (lines d v.world.wire) → (n ≡ 0) ⊎ (r ≡ 0)
+      → AreStreamsOf width (record s { report = counted false s.report }) (goes_on width v (bytes d n))
+  streams_idle_bytes d n r e none = subst (λ x. AreStreamsOf width (record s { report = counted false s.report }) x)
+      (sym (bytes_pass ends (by_ids width ends) d v n ∙ idle_bytes width d v (lines d v.world.wire) n e none (part d))) nothing
 
 -- a line is under way
 pub is_busy : {P : Type 0} (quiet : Bool) → IsTrue quiet ↔ P → quiet ≡ false → P → ⊥

@@ -24,7 +24,8 @@ named_first f queue place rest texts e h = by_texts texts (sym (ap (map f) e) �
     by_texts (t ∷ ts) g = let one : f place ≡ Some t = cc in record { text = t; behind = ts; are = refl; found = one }
 
 -- the place in front was taken from the queue, and its line is still to go
-pub taken : (d : Direction) (r : Report) (s : Side) (texts : List (List ℕ)) (place : ℕ) (rest : List ℕ) → s.queue ≡ place ∷ rest → Carries d r s texts → Carries d r (record s { queue = place ∷ rest }) texts
+pub taken : (d : Direction) (r : Report) (s : Side) (texts : List (List ℕ)) (place : ℕ) (rest : List ℕ) → s.queue ≡ place ∷ rest → Carries d r s texts
+    → Carries d r (record s { queue = place ∷ rest }) texts
 taken d r s texts place rest e h = record { names = ap (map (written d r)) (sym e) ∙ h.names; flow = h.flow }
 
 module _ (d : Direction) (r : Report) (s : Side) (texts : List (List ℕ)) (h : Carries d r s texts) where
@@ -38,6 +39,12 @@ module _ (d : Direction) (r : Report) (s : Side) (texts : List (List ℕ)) (h : 
       let same : f.text ≡ line = some_is f.text line (sym f.found ∙ found) in
       subst (λ (t : List ℕ). IsFront t s.assembler s.gone (map with_end texts)) same
       (subst (λ ts. IsFront f.text s.assembler s.gone (map with_end ts)) (sym f.are) (front_of s.assembler s.gone f.text f.behind (subst (λ ts. IsFlow s.assembler s.gone ts) f.are h.flow)))
+
+  -- and with those behind it, it is what its assembler has a part of
+  pub front_flow : (place : ℕ) (rest : List ℕ) (line : List ℕ) → s.queue ≡ place ∷ rest → written d r place ≡ Some line → (behind : List (List ℕ)) × IsFlow s.assembler s.gone (line ∷ behind)
+  front_flow place rest line e found =
+      let f = named_first (written d r) s.queue place rest texts e h.names in
+      (f.behind, subst (λ (t : List ℕ). IsFlow s.assembler s.gone (t ∷ f.behind)) (some_is f.text line (sym f.found ∙ found)) (subst (λ ts. IsFlow s.assembler s.gone ts) f.are h.flow))
 
   pub left_of : (place : ℕ) (rest : List ℕ) (line : List ℕ) → s.queue ≡ place ∷ rest → written d r place ≡ Some line → length line + 2 - s.gone ≡ remaining s.gone (map with_end texts)
   left_of place rest line e found = remaining_is line s.assembler s.gone (map with_end texts) (front_line place rest line e found)

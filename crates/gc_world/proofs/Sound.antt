@@ -54,13 +54,16 @@ module _ {State : Type 0} (width : ℕ) (ends : Ends State) (Good : State → Ty
   coming_more since total total' le x h = record { recent = h.recent; sent = omega (arith, h.sent); id = h.id }
 
   -- the numbers under way are those of requests that were sent
-  pub all_sent : (since total : ℕ) (down : List (Numbered (List ℕ))) (up : List (Numbered Request)) → Each (IsComing since total) down → Each (IsGoing since total) up → Each (λ n. n < total) (numbers down ++ numbers up)
+  pub all_sent : (since total : ℕ) (down : List (Numbered (List ℕ))) (up : List (Numbered Request)) → Each (IsComing since total) down
+      → Each (IsGoing since total) up → Each (λ n. n < total) (numbers down ++ numbers up)
   all_sent since total down up cs gs =
       each_append (λ n. n < total) (numbers down) (numbers up)
       (each_number (λ n. n < total) down (each_more (IsComing since total) (λ x. x.number < total) (λ x h. h.sent) down cs))
       (each_number (λ n. n < total) up (each_more (IsGoing since total) (λ x. x.number < total) (λ x h. h.sent) up gs))
 
-  sound_sent : (w : World ByNumber State) (target : ℕ) (call : Call) (deadline : ℕ) (full : Bool) (x : Sending ByNumber) → eqb (length w.client.requests - w.client.count) width ≡ full → number_send w.client target call deadline full ≡ Some x → Sound w → Sound (requested w target call (Some x))
+  sound_sent : (w : World ByNumber State) (target : ℕ) (call : Call) (deadline : ℕ) (full : Bool) (x : Sending ByNumber)
+      → eqb (length w.client.requests - w.client.count) width ≡ full → number_send w.client target call deadline full ≡ Some x → Sound w
+      → Sound (requested w target call (Some x))
   sound_sent w target call deadline true x e s h = cc
   sound_sent w target call deadline false x e s h =
       let c = w.client in
@@ -92,7 +95,8 @@ module _ {State : Type 0} (width : ℕ) (ends : Ends State) (Good : State → Ty
       } in
       subst (λ z. Sound (requested w target call (Some z))) (some_is _ x s) done
 
-  sound_answer : IsExchange ends Good → (w : World ByNumber State) (x : Numbered Request) (rest : List (Numbered Request)) → w.wire.up ≡ x ∷ rest → Sound w → Sound (on_wire w (replied w.wire x.number rest (ends.handed w.wire.state x.line.id x.line.call)))
+  sound_answer : IsExchange ends Good → (w : World ByNumber State) (x : Numbered Request) (rest : List (Numbered Request)) → w.wire.up ≡ x ∷ rest → Sound w
+      → Sound (on_wire w (replied w.wire x.number rest (ends.handed w.wire.state x.line.id x.line.call)))
   sound_answer ex w x rest e h =
       let c = w.client in
       let g = subst (λ q. Each (IsGoing c.since (length c.requests)) q) e h.going in
@@ -112,11 +116,14 @@ module _ {State : Type 0} (width : ℕ) (ends : Ends State) (Good : State → Ty
       }
 
   -- the two queues are other ones
-  sound_queues : (w : World ByNumber State) (down : List (Numbered (List ℕ))) (up : List (Numbered Request)) → Rising w.client.count (numbers down ++ numbers up) → Each (IsGoing w.client.since (length w.client.requests)) up → Each (IsComing w.client.since (length w.client.requests)) down → Sound w → Sound (on_wire w (record w.wire { down = down; up = up }))
+  sound_queues : (w : World ByNumber State) (down : List (Numbered (List ℕ))) (up : List (Numbered Request))
+      → Rising w.client.count (numbers down ++ numbers up) → Each (IsGoing w.client.since (length w.client.requests)) up
+      → Each (IsComing w.client.since (length w.client.requests)) down → Sound w → Sound (on_wire w (record w.wire { down = down; up = up }))
   sound_queues w down up order going coming h =
       record { good = h.good; counted = h.counted; booked = h.booked; begun = h.begun; within = h.within; few = h.few; order = order; going = going; coming = coming }
 
-  sound_reply : (w : World ByNumber State) (x : Numbered (List ℕ)) (rest : List (Numbered (List ℕ))) (old : Bool) → w.wire.down ≡ x ∷ rest → ltb x.number w.client.count ≡ old → Sound w → Sound (with_settled (record w.wire { down = rest }) (number_reply w.client x old))
+  sound_reply : (w : World ByNumber State) (x : Numbered (List ℕ)) (rest : List (Numbered (List ℕ))) (old : Bool) → w.wire.down ≡ x ∷ rest
+      → ltb x.number w.client.count ≡ old → Sound w → Sound (with_settled (record w.wire { down = rest }) (number_reply w.client x old))
   sound_reply w x rest true e t h =
       let c = w.client in
       let order = subst (λ q. Rising c.count (numbers q ++ numbers w.wire.up)) e h.order in
@@ -170,7 +177,18 @@ module _ {State : Type 0} (width : ℕ) (ends : Ends State) (Good : State → Ty
   sound_started : IsExchange ends Good → (w : World ByNumber State) (b : Bool) → Sound w → Sound (on_wire w (started ends w.wire b))
   sound_started ex w false h = h
   sound_started ex w true h =
-      record { good = ex.restart_good w.wire.state h.good; counted = h.counted; booked = h.booked; begun = h.begun; within = h.within; few = h.few; order = h.order; going = h.going; coming = h.coming }
+      record {
+        good = ex.restart_good w.wire.state h.good;
+        counted = h.counted;
+        booked = h.booked;
+        begun = h.begun;
+        within = h.within;
+        few = h.few;
+        order =
+            h.order;
+        going = h.going;
+        coming = h.coming;
+      }
 
   -- all that wait are settled, while no line is under way
   sound_lost : (w : World ByNumber State) → w.wire.up ≡ [] → w.wire.down ≡ [] → Sound w → Sound (with_settled w.wire ((by_numbers width).restart w.client))
@@ -190,7 +208,8 @@ module _ {State : Type 0} (width : ℕ) (ends : Ends State) (Good : State → Ty
         coming = subst (λ q. Each (IsComing total total) q) (sym ed) tt;
       }
 
-  sound_restarted : IsExchange ends Good → (w : World ByNumber State) (b : Bool) → w.wire.up ≡ [] → w.wire.down ≡ [] → Sound w → Sound (with_settled (started ends w.wire b) ((by_numbers width).restart w.client))
+  sound_restarted : IsExchange ends Good → (w : World ByNumber State) (b : Bool) → w.wire.up ≡ [] → w.wire.down ≡ [] → Sound w
+      → Sound (with_settled (started ends w.wire b) ((by_numbers width).restart w.client))
   sound_restarted ex w false eu ed h = sound_lost w eu ed h
   sound_restarted ex w true eu ed h = sound_lost (on_wire w (started ends w.wire true)) eu ed (sound_started ex w true h)
 
@@ -202,10 +221,14 @@ module _ {State : Type 0} (width : ℕ) (ends : Ends State) (Good : State → Ty
         refuses = λ w h. h;
         sends = λ w target call deadline x e h. sound_sent w target call deadline (eqb (length w.client.requests - w.client.count) width) x refl e h;
         answers = λ w x rest q h. sound_answer ex w x rest q h;
-        loses_up = λ w k h. sound_queues w w.wire.down (without k w.wire.up) (rising_without_behind w.client.count k (numbers w.wire.down) w.wire.up h.order) (each_without _ k w.wire.up h.going) h.coming h;
-        repeats_up = λ w k h. sound_queues w w.wire.down (doubled k w.wire.up) (rising_doubled_behind w.client.count k (numbers w.wire.down) w.wire.up h.order) (each_doubled _ k w.wire.up h.going) h.coming h;
-        loses_down = λ w k h. sound_queues w (without k w.wire.down) w.wire.up (rising_without w.client.count k w.wire.down (numbers w.wire.up) h.order) h.going (each_without _ k w.wire.down h.coming) h;
-        repeats_down = λ w k h. sound_queues w (doubled k w.wire.down) w.wire.up (rising_doubled w.client.count k w.wire.down (numbers w.wire.up) h.order) h.going (each_doubled _ k w.wire.down h.coming) h;
+        loses_up = λ w k h. sound_queues w w.wire.down (without k w.wire.up) (rising_without_behind w.client.count k (numbers w.wire.down) w.wire.up h.order)
+            (each_without _ k w.wire.up h.going) h.coming h;
+        repeats_up = λ w k h. sound_queues w w.wire.down (doubled k w.wire.up)
+            (rising_doubled_behind w.client.count k (numbers w.wire.down) w.wire.up h.order) (each_doubled _ k w.wire.up h.going) h.coming h;
+        loses_down = λ w k h. sound_queues w (without k w.wire.down) w.wire.up
+            (rising_without w.client.count k w.wire.down (numbers w.wire.up) h.order) h.going (each_without _ k w.wire.down h.coming) h;
+        repeats_down = λ w k h. sound_queues w (doubled k w.wire.down) w.wire.up
+            (rising_doubled w.client.count k w.wire.down (numbers w.wire.up) h.order) h.going (each_doubled _ k w.wire.down h.coming) h;
         hears = λ w x rest q h. sound_reply w x rest (ltb x.number w.client.count) q refl h;
         expires = λ w now h. sound_expired w now h;
         restarts = λ w u d h. sound_restarted ex w ends.joint u d h;

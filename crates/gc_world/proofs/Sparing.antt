@@ -46,7 +46,9 @@ module _ (width : ℕ) (r : Report) (up down : List ℕ) (c : Windowed) (w : Wor
   busy b = λ quiet. b (no_up width r up down c w h quiet.0, no_down width r up down c w h quiet.1)
 
   -- a reply in front for which no request waits
-  pub stray : (p : ℕ) (rest : List ℕ) (m : Made) (bytes : List ℕ) → down ≡ p ∷ rest → slice_get r.made p ≡ Some m → bytes ≡ m.line.items → IsStray w.client w.wire.down → fits c.ids (heard bytes) ≡ false
+  pub stray : (p : ℕ) (rest : List ℕ) (m : Made) (bytes : List ℕ) → down ≡ p ∷ rest → slice_get r.made p ≡ Some m → bytes ≡ m.line.items
+      → IsStray w.client w.wire.down → fits c.ids (heard bytes) ≡ false
   stray p rest m bytes e found same t =
       let f = down_front width r up down c w h p rest e in
-      ap₂ (λ (k : Windowed) (l : List ℕ). fits k.ids (heard l)) h.client_is (same ∙ ap (λ (x : Numbered (List ℕ)). x.line) (down_line width r up down c w h p rest m e found)) ∙ subst (λ q. IsStray w.client q) f.2 t
+      ap₂ (λ (k : Windowed) (l : List ℕ). fits k.ids (heard l)) h.client_is
+      (same ∙ ap (λ (x : Numbered (List ℕ)). x.line) (down_line width r up down c w h p rest m e found)) ∙ subst (λ q. IsStray w.client q) f.2 t

@@ -9,12 +9,14 @@ module _ {Client State : Type 0} (ends : Ends State) (rule : Rule Client) (P : W
     pub idles : (w : World Client State) → P w → P (on_wire w (idle w.wire))
     pub refuses : (w : World Client State) → P w → P (on_wire w (record w.wire { refused = w.wire.refused + 1 }))
     pub sends : (w : World Client State) (target : ℕ) (call : Call) (deadline : ℕ) (x : Sending Client) → rule.send w.client target call deadline ≡ Some x → P w → P (requested w target call (Some x))
-    pub answers : (w : World Client State) (x : Numbered Request) (rest : List (Numbered Request)) → w.wire.up ≡ x ∷ rest → P w → P (on_wire w (replied w.wire x.number rest (ends.handed w.wire.state x.line.id x.line.call)))
+    pub answers : (w : World Client State) (x : Numbered Request) (rest : List (Numbered Request)) → w.wire.up ≡ x ∷ rest → P w
+        → P (on_wire w (replied w.wire x.number rest (ends.handed w.wire.state x.line.id x.line.call)))
     pub loses_up : (w : World Client State) (k : ℕ) → P w → P (on_wire w (record w.wire { up = without k w.wire.up }))
     pub repeats_up : (w : World Client State) (k : ℕ) → P w → P (on_wire w (record w.wire { up = doubled k w.wire.up }))
     pub loses_down : (w : World Client State) (k : ℕ) → P w → P (on_wire w (record w.wire { down = without k w.wire.down }))
     pub repeats_down : (w : World Client State) (k : ℕ) → P w → P (on_wire w (record w.wire { down = doubled k w.wire.down }))
-    pub hears : (w : World Client State) (x : Numbered (List ℕ)) (rest : List (Numbered (List ℕ))) → w.wire.down ≡ x ∷ rest → P w → P (with_settled (record w.wire { down = rest }) (rule.reply w.client x))
+    pub hears : (w : World Client State) (x : Numbered (List ℕ)) (rest : List (Numbered (List ℕ))) → w.wire.down ≡ x ∷ rest → P w
+        → P (with_settled (record w.wire { down = rest }) (rule.reply w.client x))
     pub expires : (w : World Client State) (now : ℕ) → P w → P (record { wire = w.wire; client = rule.expire w.client now })
     pub restarts : (w : World Client State) → w.wire.up ≡ [] → w.wire.down ≡ [] → P w → P (with_settled (started ends w.wire ends.joint) (rule.restart w.client))
     pub starts : (w : World Client State) → w.wire.up ≡ [] → w.wire.down ≡ [] → P w → P (on_wire w (started ends w.wire true))
@@ -45,7 +47,8 @@ module _ {Client State : Type 0} (ends : Ends State) (rule : Rule Client) (P : W
     at_restart w [] (y ∷ down) u d h = st.idles w h
     at_restart w (x ∷ up) down u d h = st.idles w h
 
-    at_start : (w : World Client State) (up : List (Numbered Request)) (down : List (Numbered (List ℕ))) → w.wire.up ≡ up → w.wire.down ≡ down → P w → P (on_wire w (instrument_restarted ends w.wire up down))
+    at_start : (w : World Client State) (up : List (Numbered Request)) (down : List (Numbered (List ℕ))) → w.wire.up ≡ up → w.wire.down ≡ down → P w
+        → P (on_wire w (instrument_restarted ends w.wire up down))
     at_start w [] [] u d h = st.starts w u d h
     at_start w [] (y ∷ down) u d h = st.idles w h
     at_start w (x ∷ up) down u d h = st.idles w h

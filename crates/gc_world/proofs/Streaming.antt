@@ -59,7 +59,8 @@ remaining_is line kept gone lines h =
     omega (arith, at, end_length line)
 
 -- bytes more, which don't complete it
-pub flow_more : (kept after : Kept) (gone n : ℕ) (line : List ℕ) (texts : List (List ℕ)) → IsFront line kept gone (map with_end texts) → n < remaining gone (map with_end texts) → StandsFor after (take (gone + n) (with_end line)) → IsFlow kept gone texts → IsFlow after (gone + n) texts
+pub flow_more : (kept after : Kept) (gone n : ℕ) (line : List ℕ) (texts : List (List ℕ)) → IsFront line kept gone (map with_end texts)
+    → n < remaining gone (map with_end texts) → StandsFor after (take (gone + n) (with_end line)) → IsFlow kept gone texts → IsFlow after (gone + n) texts
 flow_more kept after gone n line [] front lt s h = absurd (omega (arith, lt))
 flow_more kept after gone n line (t ∷ ts) front lt s h =
     record { part = omega (arith, lt, h.part); stands = subst (StandsFor after) (sym (ap (gone_of (gone + n)) front.lines_are)) s; plain = h.plain }

@@ -14,7 +14,8 @@ use Rattle.gc_world.proofs.Counts.{IsWithin, within_all}
 use Rattle.gc_world.proofs.Flow.{flow_append}
 
 -- one event more
-pub played_more : (width : ℕ) (opening : State) (events : List Event) (i : ℕ) (e : Event) → i < length events → e ≡ get_or events i e → streamed width opening (take (i + 1) events) ≡ goes_on width (streamed width opening (take i events)) e
+pub played_more : (width : ℕ) (opening : State) (events : List Event) (i : ℕ) (e : Event) → i < length events → e ≡ get_or events i e
+    → streamed width opening (take (i + 1) events) ≡ goes_on width (streamed width opening (take i events)) e
 played_more width opening events i e lt is =
     ap (streamed width opening) (take_more events i e lt ∙ ap (λ x. take i events ++ x ∷ []) (sym is))
     ∙ flow_append ends (by_ids width ends) (take i events) (e ∷ []) (begins opening)
@@ -23,7 +24,8 @@ pub played_within : (width : ℕ) (opening : State) (events : List Event) → Is
 played_within width opening events =
     let e : 0 + length events ≡ length events = omega arith in
     subst (λ n. IsWithin n (played width opening events).wire) e
-    (within_all ends (by_ids width ends) events (begins opening) 0 (record { sent = omega arith; executed = omega arith; made = omega arith; starts = omega arith; refused = omega arith; idle = omega arith }))
+    (within_all ends (by_ids width ends) events (begins opening) 0 (record
+    { sent = omega arith; executed = omega arith; made = omega arith; starts = omega arith; refused = omega arith; idle = omega arith }))
 
 -- the assemblers don't count for the lines
 with_kept : (width : ℕ) (r : Report) (up down : List ℕ) (c : Windowed) (w : World ById State) (a b : Kept) → AreOf width r up down c w → AreOf width (record r { up = a; down = b }) up down c w
@@ -40,14 +42,17 @@ with_kept width r up down c w a b h =
     }
 
 -- what is handed back behind the last event
-pub at_end : (width : ℕ) (opening : State) (events : List Event) (s : Seen) (i : ℕ) (r : Report) → length events ≤ i → AreStreamsOf width s (streamed width opening (take i events)) → r ≡ record s.report { up = s.up.assembler; down = s.down.assembler } → AreOf width r s.up.queue s.down.queue s.client (played width opening events)
+pub at_end : (width : ℕ) (opening : State) (events : List Event) (s : Seen) (i : ℕ) (r : Report) → length events ≤ i
+    → AreStreamsOf width s (streamed width opening (take i events)) → r ≡ record s.report { up = s.up.assembler; down = s.down.assembler }
+    → AreOf width r s.up.queue s.down.queue s.client (played width opening events)
 at_end width opening events s i r all h is =
     let shows = subst (λ es. AreStreamsOf width s (streamed width opening es)) (take_all i events all) h in
     subst (λ (x : Report). AreOf width x s.up.queue s.down.queue s.client (played width opening events)) (sym is)
     (with_kept width s.report s.up.queue s.down.queue s.client (played width opening events) s.up.assembler s.down.assembler shows.lines)
 
 -- a stage after so many events has counted no more
-pub counts_at : (width : ℕ) (opening : State) (events : List Event) (i : ℕ) (report : Report) → IsReport report (played width opening (take i events)).wire → i ≤ length events → (report.refused_sends ≤ i) × (report.idle_events ≤ i)
+pub counts_at : (width : ℕ) (opening : State) (events : List Event) (i : ℕ) (report : Report) → IsReport report (played width opening (take i events)).wire
+    → i ≤ length events → (report.refused_sends ≤ i) × (report.idle_events ≤ i)
 counts_at width opening events i report h le =
     let w = played_within width opening (take i events) in
     let n = length-take i events in

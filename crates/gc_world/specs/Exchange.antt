@@ -17,6 +17,8 @@ pub record IsExchange {State : Type 0} (ends : Ends State) (Good : State → Typ
 pub record IsKeeper {State : Type 0} (ends : Ends State) (kept : State → Option KeptReply) : Type 0 where
   pub twice : (state : State) → ends.restarted (ends.restarted state) ≡ ends.restarted state
   pub forgets : (state : State) → kept (ends.restarted state) ≡ None
-  pub again : (state : State) (id : ℕ) (call : Call) (line : List ℕ) → kept_line (kept state) (Some id) ≡ Some line → ends.handed state id call ≡ record { state = state; reply = line; executed = false }
+  pub again : (state : State) (id : ℕ) (call : Call) (line : List ℕ) → kept_line (kept state) (Some id) ≡ Some line
+      → ends.handed state id call ≡ record { state = state; reply = line; executed = false }
   pub executes : (state : State) (id : ℕ) (call : Call) → kept_line (kept state) (Some id) ≡ None → (ends.handed state id call).executed ≡ true
-  pub keeps : (state : State) (id : ℕ) (call : Call) → kept_line (kept state) (Some id) ≡ None → kept (ends.handed state id call).state ≡ Some (record { id = id; line = (ends.handed state id call).reply })
+  pub keeps : (state : State) (id : ℕ) (call : Call) → kept_line (kept state) (Some id) ≡ None
+      → kept (ends.handed state id call).state ≡ Some (record { id = id; line = (ends.handed state id call).reply })

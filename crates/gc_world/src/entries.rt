@@ -1,9 +1,13 @@
 //! Entries: a list on the heap that contracts see as a list.
 
 ghost use Rattle.std.specs.Prelude.{◌≡◌, ◌<◌, ◌↔◌, [], ◌∷◌, ◌++◌, length, slice_get, Some, OnOk, IsTrue};
+ghost use Rattle.gc_catalogue.specs.declared.answer.Reading.{Reading};
+ghost use Rattle.gc_client.specs.declared.settlement.Outcome.TheVariants.{Answered, Late, Lost};
 
-use arrayvec::ArrayVec;
-use gc_client::Settlement;
+use crate::report::{Made, Sent};
+use gc_catalogue::{Call, Reading};
+use gc_client::{Outcome, Settlement};
+use gc_lines::{Line, append};
 use std::alloc::AllocError;
 use std::marker::Model;
 
@@ -82,18 +86,124 @@ impl<T> Entries<T> {
     }
 }
 
-impl Entries<Settlement> {
-    /// Appends each of these, in order, and takes them out of the list that is handed in.
-    pub(crate) fn append_from(
+// An entry that holds a line is made where it is to stand, with a line of no bytes, and gets the bytes there: so a line costs as
+// many bytes as it has, and not the 512 that it has room for.
+
+impl Entries<Sent> {
+    /// Appends a request that was sent.
+    pub(crate) fn push_sent(
         &mut self,
-        settlements: &mut ArrayVec<Settlement, 7>,
+        target: u32,
+        call: &Call,
+        line: &Line,
     ) -> Result<(), AllocError>
-        ensures appended { OnOk result (self.new ≡ self.old ++ settlements.old.items) }
-        ensures taken { OnOk result (settlements.new.items ≡ []) }
+        ensures { OnOk result (self.new ≡ self.old ++ record { target = target; call = call.now; line = line.now } ∷ []) }
     {
-        for settlement in settlements.drain(..) {
-            self.push(settlement)?;
+        let place = self.entries.len();
+        self.entries.reserve(1)?;
+        self.entries.push_reserved(Sent {
+            target,
+            call: *call,
+            line: Line::new(),
+        });
+        append(&mut self.entries[place].line, line);
+        Ok(())
+    }
+}
+
+impl Entries<Made> {
+    /// Appends a reply that was made.
+    pub(crate) fn push_made(&mut self, number: usize, line: &Line) -> Result<(), AllocError>
+        ensures { OnOk result (self.new ≡ self.old ++ record { number = number; line = line.now } ∷ []) }
+    {
+        let place = self.entries.len();
+        self.entries.reserve(1)?;
+        self.entries.push_reserved(Made {
+            number,
+            line: Line::new(),
+        });
+        append(&mut self.entries[place].line, line);
+        Ok(())
+    }
+}
+
+impl Entries<Settlement> {
+    /// Appends each of these, in order.
+    pub(crate) fn append_all(&mut self, settlements: &[Settlement]) -> Result<(), AllocError>
+        ensures { OnOk result (self.new ≡ self.old ++ settlements.now) }
+    {
+        for settlement in settlements {
+            self.push_settled(settlement)?;
         }
         Ok(())
+    }
+
+    // Appends one.
+    fn push_settled(&mut self, settlement: &Settlement) -> Result<(), AllocError>
+        ensures { OnOk result (self.new ≡ self.old ++ settlement.now ∷ []) }
+    {
+        match &settlement.outcome {
+            Outcome::Answered(reading, line) => {
+                self.push_answered(settlement.target, &settlement.call, reading, line)
+            }
+            Outcome::Late => self.push_late(settlement.target, &settlement.call),
+            Outcome::Lost => self.push_lost(settlement.target, &settlement.call),
+        }
+    }
+
+    // Appends one that was answered.
+    fn push_answered(
+        &mut self,
+        target: u32,
+        call: &Call,
+        reading: &Reading,
+        line: &Line,
+    ) -> Result<(), AllocError>
+        ensures { OnOk result (self.new ≡ self.old ++ record { target = target; call = call.now; outcome = Answered reading.now line.now } ∷ []) }
+    {
+        let place = self.entries.len();
+        self.entries.reserve(1)?;
+        self.entries.push_reserved(Settlement {
+            target,
+            call: *call,
+            outcome: Outcome::Answered(*reading, Line::new()),
+        });
+        append_answer(&mut self.entries[place].outcome, line);
+        Ok(())
+    }
+
+    // Appends one that is late. It has its own frame, since a settlement is large.
+    #[inline(never)]
+    fn push_late(&mut self, target: u32, call: &Call) -> Result<(), AllocError>
+        ensures { OnOk result (self.new ≡ self.old ++ record { target = target; call = call.now; outcome = Late } ∷ []) }
+    {
+        self.push(Settlement {
+            target,
+            call: *call,
+            outcome: Outcome::Late,
+        })
+    }
+
+    // Appends one that is lost. It has its own frame, since a settlement is large.
+    #[inline(never)]
+    fn push_lost(&mut self, target: u32, call: &Call) -> Result<(), AllocError>
+        ensures { OnOk result (self.new ≡ self.old ++ record { target = target; call = call.now; outcome = Lost } ∷ []) }
+    {
+        self.push(Settlement {
+            target,
+            call: *call,
+            outcome: Outcome::Lost,
+        })
+    }
+}
+
+// Appends a line to that of an answer, which has no bytes.
+#[inline]
+fn append_answer(outcome: &mut Outcome, line: &Line)
+    requires { (reading : Reading) × (outcome.old ≡ Answered reading (record { items = [] })) }
+    ensures { (reading : Reading) → outcome.old ≡ Answered reading (record { items = [] }) → outcome.new ≡ Answered reading line.now }
+{
+    if let Outcome::Answered(_, empty) = outcome {
+        append(empty, line);
     }
 }

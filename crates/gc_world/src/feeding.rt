@@ -30,7 +30,7 @@ pub fn feed_some(assembler: &mut Assembler, line: &[u8], gone: usize, n: usize, 
 #[inline]
 pub fn feed_rest<'a>(
     assembler: &mut Assembler,
-    line: &[u8],
+    line: &'a [u8],
     gone: usize,
     cut: &'a mut Line,
 ) -> Lent<'a>
@@ -41,6 +41,9 @@ pub fn feed_rest<'a>(
     ensures line { lent_seen result ≡ Frame.Line (record { items = line.now }) }
     ensures start { StandsFor assembler.new [] }
 {
+    if assembler.at_start() {
+        return Lent::Line(line);
+    }
     if gone <= line.len() {
         assembler.next(&line[gone..], cut);
         assembler.next(b"\r\n", cut).1

@@ -69,23 +69,16 @@ impl Side {
         self.gone += n;
     }
 
-    /// What remains of the line at this place of the report, which was taken from the front: the line comes out.
+    /// What remains of this line, which was taken from the front: the line comes out.
     #[inline(always)]
-    pub fn finish<'a>(
-        &mut self,
-        direction: Direction,
-        report: &Report,
-        place: usize,
-        cut: &'a mut Line,
-    ) -> Lent<'a>
-        requires { (texts : List (List ℕ)) × Carries direction report.now (record self.old { queue = place ∷ self.old.queue }) texts }
-        ensures line { (text : List ℕ) → written direction report.now place ≡ Some text → lent_seen result ≡ Frame.Line (record { items = text }) }
-        ensures within { (text : List ℕ) → written direction report.now place ≡ Some text → length text ≤ 512 }
+    pub fn finish<'a>(&mut self, line: &'a [u8], cut: &'a mut Line) -> Lent<'a>
+        requires flow { (texts : List (List ℕ)) × IsFlow self.old.assembler self.old.gone (line.now ∷ texts) }
+        requires within { length line.now ≤ 512 }
+        ensures line { lent_seen result ≡ Frame.Line (record { items = line.now }) }
         ensures start { StandsFor self.new.assembler [] }
         ensures gone { self.new.gone ≡ 0 }
         ensures queue { self.new.queue ≡ self.old.queue }
     {
-        let line = report.line(direction, place).as_slice();
         let frame = feed_rest(&mut self.assembler, line, self.gone, cut);
         self.gone = 0;
         frame

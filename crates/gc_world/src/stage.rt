@@ -116,20 +116,12 @@ impl<W: Window> Stage<W> {
         ensures follows { OnOk result (Follows self.old (Event.Send target call.now deadline) self.new) }
         ensures spare { length self.old.client.ids.waiting ≡ self.old.client.width → IsOk result }
     {
-        let mut sent = Sent {
-            target,
-            call: *call,
-            line: Line::new(),
-        };
-        let Ok(()) = self
-            .client
-            .send_into(target, call, deadline, &mut sent.line)
-        else {
+        let Ok(()) = self.client.send_into(target, call, deadline, &mut self.cut) else {
             self.report.refused_sends += 1;
             return Ok(());
         };
         self.up.queue.push(self.report.sent.len())?;
-        self.report.sent.push(sent)
+        self.report.sent.push_sent(target, call, &self.cut)
     }
 
     // The front request reaches the instrument, and its reply goes to the back of the downward queue.
@@ -144,22 +136,18 @@ impl<W: Window> Stage<W> {
             self.report.idle_events += 1;
             return Ok(());
         };
-        let mut made = Made {
-            number,
-            line: Line::new(),
-        };
-        let frame = self
-            .up
-            .finish(Direction::Up, &self.report, number, &mut self.cut);
+        let mut reply = Line::new();
+        let line = self.report.sent.at(number).line.as_slice();
+        let frame = self.up.finish(line, &mut self.cut);
         let Lent::Line(request) = frame else {
             return Ok(());
         };
         let kept = self.report.instrument.kept_id();
-        if self.report.instrument.reply_onto(request, &mut made.line) {
+        if self.report.instrument.reply_onto(request, &mut reply) {
             let id = self.report.instrument.kept_id();
             note_execution(&mut self.report.executed, number, kept, id)?;
             self.down.queue.push(self.report.made.len())?;
-            self.report.made.push(made)?;
+            self.report.made.push_made(number, &reply)?;
         }
         Ok(())
     }
@@ -176,14 +164,13 @@ impl<W: Window> Stage<W> {
             self.report.idle_events += 1;
             return Ok(());
         };
-        let frame = self
-            .down
-            .finish(Direction::Down, &self.report, place, &mut self.cut);
+        let line = self.report.made.at(place).line.as_slice();
+        let frame = self.down.finish(line, &mut self.cut);
         let Lent::Line(reply) = frame else {
             return Ok(());
         };
         if let Hearing::Settled = self.client.hear(reply, &mut self.settled) {
-            self.report.settled.append_from(&mut self.settled)?;
+            self.report.settled.append_all(self.settled.as_slice())?;
         }
         Ok(())
     }
@@ -271,7 +258,9 @@ impl<W: Window> Stage<W> {
             self.report.idle_events += 1;
             return Ok(());
         }
-        self.report.settled.append_from(&mut self.client.restart())?;
+        self.report
+            .settled
+            .append_all(self.client.restart().as_slice())?;
         self.report.starts.push(self.report.executed.len())?;
         self.report.instrument.restart();
         Ok(())

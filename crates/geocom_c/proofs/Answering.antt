@@ -36,7 +36,8 @@ pub record HeardTo (r bytes word : List ℕ) (rest : GeocomRest) (left more : Li
   pub behind : rest_behind now more ≡ rest_behind r bytes
 
 -- all were, and no line feed came
-pub heard_none : (r bytes word : List ℕ) (rest : GeocomRest) (left more : List ℕ) → position is_line_feed bytes ≡ None → more ≡ [] → IsRest rest (r ++ bytes) → left ≡ word → HeardTo r bytes word rest left more
+pub heard_none : (r bytes word : List ℕ) (rest : GeocomRest) (left more : List ℕ) → position is_line_feed bytes ≡ None → more ≡ [] → IsRest rest (r ++ bytes)
+    → left ≡ word → HeardTo r bytes word rest left more
 heard_none r bytes word rest left more e none is same =
     record {
       now = r ++ bytes;
@@ -46,7 +47,8 @@ heard_none r bytes word rest left more e none is same =
     }
 
 -- those through the first line feed were
-pub heard_some : (r bytes word : List ℕ) (rest : GeocomRest) (left more : List ℕ) (at : ℕ) → position is_line_feed bytes ≡ Some at → more ≡ drop (at + 1) bytes → IsRest rest [] → left ≡ left_past word (frame_of (r ++ take at bytes)) → HeardTo r bytes word rest left more
+pub heard_some : (r bytes word : List ℕ) (rest : GeocomRest) (left more : List ℕ) (at : ℕ) → position is_line_feed bytes ≡ Some at
+    → more ≡ drop (at + 1) bytes → IsRest rest [] → left ≡ left_past word (frame_of (r ++ take at bytes)) → HeardTo r bytes word rest left more
 heard_some r bytes word rest left more at e n is same =
     record {
       now = [];
@@ -56,11 +58,13 @@ heard_some r bytes word rest left more at e n is same =
     }
 
 -- one behind the other
-pub heard_on : (r bytes word : List ℕ) (rest new : GeocomRest) (left more after end : List ℕ) (f : HeardTo r bytes word rest left more) → HeardTo f.now more left new after end → HeardTo r bytes word new after end
+pub heard_on : (r bytes word : List ℕ) (rest new : GeocomRest) (left more after end : List ℕ) (f : HeardTo r bytes word rest left more)
+    → HeardTo f.now more left new after end → HeardTo r bytes word new after end
 heard_on r bytes word rest new left more after end f g = record { now = g.now; is = g.is; same = g.same ∙ f.same; behind = g.behind ∙ f.behind }
 
 -- where all were
-pub heard_to_end : (r bytes word : List ℕ) (rest : GeocomRest) (left more : List ℕ) (f : HeardTo r bytes word rest left more) → more ≡ [] → (f.now ≡ rest_behind r bytes) × (left ≡ left_behind word r bytes)
+pub heard_to_end : (r bytes word : List ℕ) (rest : GeocomRest) (left more : List ℕ) (f : HeardTo r bytes word rest left more) → more ≡ []
+    → (f.now ≡ rest_behind r bytes) × (left ≡ left_behind word r bytes)
 heard_to_end r bytes word rest left more f none = (sym (ap (rest_behind f.now) none) ∙ f.behind, sym (ap (left_behind left f.now) none) ∙ f.same)
 
 -- Of how many null procedures are answered.

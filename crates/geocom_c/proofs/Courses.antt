@@ -10,7 +10,7 @@ use Rattle.gc_client.specs.OneForOne as one
 use Rattle.gc_client.specs.Rule.{ById, Settled, expires, fresh, heard, hears, id_settled, place_in, restarts}
 use Rattle.gc_client.proofs.OneForOne.{one_for_one}
 use Rattle.geocom_c.specs.Beginning.{anew, given, left_behind, left_by_all}
-use Rattle.geocom_c.specs.Following.{Follows, Stage, hearing, opened}
+use Rattle.geocom_c.specs.Following.{CallsReach, Stage, hearing, opened}
 use Rattle.geocom_c.specs.Rest.{lines_behind}
 use Rattle.geocom_c.specs.Steps.{Event, Came, Went, AreEvents, AreInTurn, IsOverEvents, asked_by, begins_by, goes_by, left_among, steps_among}
 use Rattle.geocom_c.specs.declared.following.Step.{Step}
@@ -35,7 +35,8 @@ leads_asked : (width : ℕ) (x : Course) (left : List ℕ) (o : Option (List ℕ
 leads_asked width x left None = leads_none width x left
 leads_asked width x left (Some line) = record { turns = λ es h. h; reached = λ es. refl; behind = λ es. refl }
 
-leads_both : (width : ℕ) (x y z : Course) (left between after : List ℕ) (front later : List Event) → Leads width x y left between front → Leads width y z between after later → Leads width x z left after (front ++ later)
+leads_both : (width : ℕ) (x y z : Course) (left between after : List ℕ) (front later : List Event) → Leads width x y left between front
+    → Leads width y z between after later → Leads width x z left after (front ++ later)
 leads_both width x y z left between after front later f g =
     record {
       turns = λ es h. subst (λ l. AreInTurn left l) (sym (append_assoc front later es)) (f.turns (later ++ es) (g.turns es h));
@@ -53,7 +54,8 @@ leads_begin width x [] rest bytes = subst (λ l. Leads width x x [] l []) (sym (
 leads_begin width x (asked ∷ later) rest bytes =
     let left = asked ∷ later in
     let after = left_behind left rest bytes in
-    leads_both width x x x left after after (map Came (lines_behind rest bytes)) (asked_by (given bytes left after)) (leads_came width x (lines_behind rest bytes) left) (leads_asked width x after (given bytes left after))
+    leads_both width x x x left after after (map Came (lines_behind rest bytes)) (asked_by (given bytes left after))
+    (leads_came width x (lines_behind rest bytes) left) (leads_asked width x after (given bytes left after))
 
 -- A client that hasn't begun has nothing that waits, so a line, a moment or a restart is nothing to it.
 
@@ -121,7 +123,7 @@ record Over (width : ℕ) (s : Stage) (calls : List Step) (t : Stage) : Type 0 w
   reached : t.reached ≡ course width s.reached (steps_among events)
   left : t.left ≡ left_among s.left events
 
-as_events : (width : ℕ) (s : Stage) (calls : List Step) (t : Stage) → IsIdle s.reached s.left → Follows width s calls t → Over width s calls t
+as_events : (width : ℕ) (s : Stage) (calls : List Step) (t : Stage) → IsIdle s.reached s.left → CallsReach width s calls t → Over width s calls t
 as_events width s [] t idle f = record { events = []; are = refl; turns = tt; reached = ap (λ (x : Stage). x.reached) f; left = ap (λ (x : Stage). x.left) f }
 as_events width s (Send target deadline procedure params ∷ calls) t idle (inl f) =
     let more = as_events width (record s { reached = goes width s.reached (one.Send target f.0 deadline) }) calls t (λ no. absurd (no f.1)) f.3 in
@@ -138,7 +140,8 @@ as_events width s (Send target deadline procedure params ∷ calls) t idle (inr 
 as_events width s (Begin bytes ∷ calls) t idle f =
     let lines = lines_behind s.rest bytes.now in
     let l = leads_begin width s.reached s.left s.rest bytes.now in
-    let more = as_events width (record s { rest = rest_behind s.rest bytes.now; left = left_behind s.left s.rest bytes.now }) calls t (λ no. idle (λ e. no (ap (λ a. left_by_all a lines) e ∙ stays_begun lines))) f in
+    let more = as_events width (record s { rest = rest_behind s.rest bytes.now; left = left_behind s.left s.rest bytes.now }) calls t
+    (λ no. idle (λ e. no (ap (λ a. left_by_all a lines) e ∙ stays_begun lines))) f in
     record {
       events = begins_by s.left s.rest bytes.now ++ more.events;
       are = (more.events, refl, more.are);
@@ -149,7 +152,8 @@ as_events width s (Begin bytes ∷ calls) t idle f =
 as_events width s (Feed bytes ∷ calls) t idle f =
     let lines = lines_behind s.rest bytes.now in
     let l = leads_feed width s.reached s.left lines idle in
-    let more = as_events width (record s { reached = hearing width s.reached s.rest bytes.now; rest = rest_behind s.rest bytes.now }) calls t (λ no. ap (λ (x : Course). x.client) (idle_lines width s.reached lines (idle no)) ∙ idle no) f in
+    let more = as_events width (record s { reached = hearing width s.reached s.rest bytes.now; rest = rest_behind s.rest bytes.now }) calls t
+    (λ no. ap (λ (x : Course). x.client) (idle_lines width s.reached lines (idle no)) ∙ idle no) f in
     record {
       events = goes_by s.left (map one.Hear lines) ++ more.events;
       are = (more.events, refl, more.are);
@@ -196,13 +200,13 @@ only_events left rest (Feed bytes ∷ calls) es fs f g =
 only_events left rest (Expire now ∷ calls) es fs f g = f.1 ∙ ap (λ later. goes_by left (one.Expire now ∷ []) ++ later) (only_events left rest calls f.0 g.0 f.2 g.2) ∙ sym g.1
 only_events left rest (Restart ∷ calls) es fs f g = f.1 ∙ ap (λ later. goes_by left (one.Restart ∷ []) ++ later) (only_events (anew left) [] calls f.0 g.0 f.2 g.2) ∙ sym g.1
 
-pub over_events : (width : ℕ) (calls : List Step) (t : Stage) → Follows width opened calls t → IsOverEvents width calls t
+pub over_events : (width : ℕ) (calls : List Step) (t : Stage) → CallsReach width opened calls t → IsOverEvents width calls t
 over_events width calls t f =
     let it = as_events width opened calls t (λ no. refl) f in
     record { events = it.events; are = it.are; only = λ others are. only_events the_word [] calls others it.events are it.are; turns = it.turns; reached = it.reached; left = it.left }
 
 -- so what was settled and what waits are the sends that weren't refused
-pub follows_one_for_one : (width : ℕ) (steps : List Step) (t : Stage) → Follows width opened steps t → IsOneForOne t.reached
+pub follows_one_for_one : (width : ℕ) (steps : List Step) (t : Stage) → CallsReach width opened steps t → IsOneForOne t.reached
 follows_one_for_one width steps t f =
     let it = over_events width steps t f in
     subst (λ (c : Course). IsOneForOne c) (sym it.reached) (one_for_one width (steps_among it.events))

@@ -36,7 +36,55 @@ any =
       follows = inl (InstrumentNo, refl, number, inl (InstrumentNo, refl, number, refl));
       lines = record { ids = tt; good = tt };
       may = not_alone;
-      are = (_, refl, (_, refl, (_, refl, (_, refl, (_, refl, (_, refl, (_, refl, (_, refl, (_, refl, (_, refl, inl (InstrumentNo, _, refl, number, refl, inl (InstrumentNo, _, refl, number, refl, (_, refl, (_, refl, (_, refl, (_, refl, refl))))))))))))))));
+      are = (
+        _,
+        refl,
+        (
+          _,
+          refl,
+          (
+            _,
+            refl,
+            (
+              _,
+              refl,
+              (
+                _,
+                refl,
+                (
+                  _,
+                  refl,
+                  (
+                    _,
+                    refl,
+                    (
+                      _,
+                      refl,
+                      (
+                        _,
+                        refl,
+                        (
+                          _,
+                          refl,
+                          inl (
+                            InstrumentNo,
+                            _,
+                            refl,
+                            number,
+                            refl,
+                            inl
+                                (InstrumentNo, _, refl, number, refl, (_, refl, (_, refl, (_, refl, (_, refl, refl))))),
+                          ),
+                        ),
+                      ),
+                    ),
+                  ),
+                ),
+              ),
+            ),
+          ),
+        ),
+      );
       possible = (
         (
           units 25,
@@ -67,7 +115,55 @@ over_simulator =
       follows = inl (InstrumentNo, refl, number, inl (InstrumentNo, refl, number, refl));
       lines = record { ids = tt; good = fits };
       may = not_alone;
-      are = (_, refl, (_, refl, (_, refl, (_, refl, (_, refl, (_, refl, (_, refl, (_, refl, (_, refl, (_, refl, inl (InstrumentNo, _, refl, number, refl, inl (InstrumentNo, _, refl, number, refl, (_, refl, (_, refl, (_, refl, (_, refl, refl))))))))))))))));
+      are = (
+        _,
+        refl,
+        (
+          _,
+          refl,
+          (
+            _,
+            refl,
+            (
+              _,
+              refl,
+              (
+                _,
+                refl,
+                (
+                  _,
+                  refl,
+                  (
+                    _,
+                    refl,
+                    (
+                      _,
+                      refl,
+                      (
+                        _,
+                        refl,
+                        (
+                          _,
+                          refl,
+                          inl (
+                            InstrumentNo,
+                            _,
+                            refl,
+                            number,
+                            refl,
+                            inl
+                                (InstrumentNo, _, refl, number, refl, (_, refl, (_, refl, (_, refl, (_, refl, refl))))),
+                          ),
+                        ),
+                      ),
+                    ),
+                  ),
+                ),
+              ),
+            ),
+          ),
+        ),
+      );
       possible = (
         (
           units 25,

@@ -35,7 +35,8 @@ with_rest s r c old new is rest =
     }
 
 -- how many bytes were used doesn't count
-pub fed_used : (c : Windowed) (f g : Frame) (r q : GeocomHeard) (records : List GeocomSettlement) (text : List ℕ) (used : ℕ) → f ≡ g → q ≡ record r { used = used } → IsFed c f r records text → IsFed c g q records text
+pub fed_used : (c : Windowed) (f g : Frame) (r q : GeocomHeard) (records : List GeocomSettlement) (text : List ℕ) (used : ℕ) → f ≡ g
+    → q ≡ record r { used = used } → IsFed c f r records text → IsFed c g q records text
 fed_used c f g r q records text used e same is =
     subst (λ (h : Frame). IsFed c h q records text) e (record {
       fault = ap (λ (x : GeocomHeard). x.fault) same ∙ is.fault;

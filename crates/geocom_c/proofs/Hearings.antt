@@ -29,7 +29,8 @@ behind_past width x Cleared = refl
 behind_past width x Overlong = refl
 behind_past width x More = refl
 
-frame_first : (width : ℕ) (x : Course) (f : Frame) (fs : List Frame) → course width x (map one.Hear (filter_map line_in (f ∷ fs))) ≡ course width (past width x f) (map one.Hear (filter_map line_in fs))
+frame_first : (width : ℕ) (x : Course) (f : Frame) (fs : List Frame) → course width x (map one.Hear (filter_map line_in (f ∷ fs))) ≡ course width
+    (past width x f) (map one.Hear (filter_map line_in fs))
 frame_first width x (Line line) fs = refl
 frame_first width x Cleared fs = refl
 frame_first width x Overlong fs = refl
@@ -77,7 +78,8 @@ fed_some width x rest bytes state used at e n s =
     }
 
 -- what is fed further
-pub fed_on : (width : ℕ) (x : Course) (rest bytes left end : List ℕ) (state new : GeocomClient) (f : FedTo width x rest bytes state left) → FedTo width f.reached f.now left new end → FedTo width x rest bytes new end
+pub fed_on : (width : ℕ) (x : Course) (rest bytes left end : List ℕ) (state new : GeocomClient) (f : FedTo width x rest bytes state left)
+    → FedTo width f.reached f.now left new end → FedTo width x rest bytes new end
 fed_on width x rest bytes left end state new f g = record { reached = g.reached; now = g.now; stands = g.stands; same = g.same ∙ f.same; behind = g.behind ∙ f.behind }
 
 -- a line feed is there or not
@@ -92,11 +94,13 @@ nothing_left bytes used e = ap (λ n. drop n bytes) e ∙ none bytes where
   none (x ∷ xs) = none xs
 
 -- where all was fed
-pub fed_all : (width : ℕ) (x : Course) (rest bytes left : List ℕ) (state : GeocomClient) → FedTo width x rest bytes state left → left ≡ [] → StandsFor state (record { width = width; ids = (hearing width x rest bytes).client }) (rest_behind rest bytes)
+pub fed_all : (width : ℕ) (x : Course) (rest bytes left : List ℕ) (state : GeocomClient) → FedTo width x rest bytes state left → left ≡ []
+    → StandsFor state (record { width = width; ids = (hearing width x rest bytes).client }) (rest_behind rest bytes)
 fed_all width x rest bytes left state f none =
     let same : f.reached ≡ hearing width x rest bytes = sym (ap (hearing width f.reached f.now) none) ∙ f.same in
     let behind : f.now ≡ rest_behind rest bytes = sym (ap (rest_behind f.now) none) ∙ f.behind in
-    subst (λ (y : Course). StandsFor state (record { width = width; ids = y.client }) (rest_behind rest bytes)) same (subst (λ (r : List ℕ). StandsFor state (record { width = width; ids = f.reached.client }) r) behind f.stands)
+    subst (λ (y : Course). StandsFor state (record { width = width; ids = y.client }) (rest_behind rest bytes)) same
+    (subst (λ (r : List ℕ). StandsFor state (record { width = width; ids = f.reached.client }) r) behind f.stands)
 
 -- a send that the rule takes or refuses
 pub sent_course : (width : ℕ) (x : Course) (rest : List ℕ) (call : Call) (target : ℕ) (o : Option (Sending ById)) (sent : Sent)

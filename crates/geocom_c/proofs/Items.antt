@@ -51,7 +51,16 @@ params_fit line reply is = elim is.is_tail [
   | inr some ↦
       let n = ap length is.whole in
       let t = ap length some in
-      omega (arith, n, t, length-append reply_signature (is.number ++ (id_text reply.id ++ 58 ∷ (is.code ++ is.tail))), length-append is.number (id_text reply.id ++ 58 ∷ (is.code ++ is.tail)), length-append (id_text reply.id) (58 ∷ (is.code ++ is.tail)), length-append is.code is.tail)
+      omega (
+        arith,
+        n,
+        t,
+        length-append reply_signature (is.number ++ (id_text reply.id ++ 58 ∷ (is.code ++ is.tail))),
+        length-append is.number
+            (id_text reply.id ++ 58 ∷ (is.code ++ is.tail)),
+        length-append (id_text reply.id) (58 ∷ (is.code ++ is.tail)),
+        length-append is.code is.tail,
+      )
 ]
 
 -- as many items are read as values

@@ -72,12 +72,14 @@ module _ (bytes t p rest : List ℕ) (n f : ℕ) (is : n ≡ length t) (clean : 
       }
 
   -- a part of it was, and its last byte
-  pub cut_rest : (last : ℕ) → n ≤ 514 → f ≡ 514 - n → f < length p → take (n + f) bytes ≡ t ++ take f p → 513 < length bytes → last ≡ last_of p → IsRest (record { length = n + f; bytes = slice_set bytes 513 last }) (rest ++ p)
+  pub cut_rest : (last : ℕ) → n ≤ 514 → f ≡ 514 - n → f < length p → take (n + f) bytes ≡ t ++ take f p → 513 < length bytes → last ≡ last_of p
+      → IsRest (record { length = n + f; bytes = slice_set bytes 513 last }) (rest ++ p)
   cut_rest last short room more text within e =
       let sum : n + f ≡ 514 = omega (arith, short, room) in
       let long : 513 < length (t ++ p) = omega (arith, is, sum, more, length-append t p) in
       let front : take 513 bytes ≡ take 513 (t ++ p) =
-      sym (shorter 513 514 bytes (omega arith)) ∙ ap (λ k. take 513 (take k bytes)) (sym sum) ∙ ap (take 513) text ∙ filled t p f (omega (arith, is, short)) (omega (arith, is, room)) (omega (arith, more)) in
+      sym (shorter 513 514 bytes (omega arith)) ∙ ap (λ k. take 513 (take k bytes)) (sym sum) ∙ ap (take 513) text
+      ∙ filled t p f (omega (arith, is, short)) (omega (arith, is, room)) (omega (arith, more)) in
       let byte : last ≡ last_of (t ++ p) = e ∙ sym (last-append t p (omega (arith, more))) in
       let whole : take (n + f) (slice_set bytes 513 last) ≡ take 513 (t ++ p) ++ last_of (t ++ p) ∷ [] =
       ap (λ k. take k (slice_set bytes 513 last)) sum ∙ take_more_set bytes 513 last within ∙ ap₂ (λ u b. u ++ b ∷ []) front byte in
@@ -85,7 +87,8 @@ module _ (bytes t p rest : List ℕ) (n f : ℕ) (is : n ≡ length t) (clean : 
       record {
         cut = record {
           short = omega (arith, sum);
-          unended = subst (λ u. All (λ b. b ≢ 10) u) (sym whole) (All-append (λ b. b ≢ 10) (take 513 (t ++ p)) (last_of (t ++ p) ∷ []) (all_of_take (λ b. b ≢ 10) 513 (t ++ p) both) (all_one (λ b. b ≢ 10) (last_of (t ++ p)) (both (length (t ++ p) - 1) 0 (omega (arith, long)))));
+          unended = subst (λ u. All (λ b. b ≢ 10) u) (sym whole) (All-append (λ b. b ≢ 10) (take 513 (t ++ p)) (last_of (t ++ p) ∷ [])
+              (all_of_take (λ b. b ≢ 10) 513 (t ++ p) both) (all_one (λ b. b ≢ 10) (last_of (t ++ p)) (both (length (t ++ p) - 1) 0 (omega (arith, long)))));
         };
         same = λ next. ap (λ u. frame_of (u ++ next)) whole ∙ alike_cut t p rest long same next;
       }

@@ -28,7 +28,8 @@ clean_none xs clean = elim (ltb (prefix_len goes_on xs) (length xs)) as (λ v. l
 -- bytes in which none is found
 pub none_clean : (xs : List ℕ) → position is_line_feed xs ≡ None → All (λ b. b ≢ 10) xs
 none_clean xs e k d lt =
-    let past : length xs ≤ prefix_len goes_on xs = elim (ltb (prefix_len goes_on xs) (length xs)) as (λ v. ltb (prefix_len goes_on xs) (length xs) ≡ v → cond v (Some (prefix_len goes_on xs)) None ≡ None → length xs ≤ prefix_len goes_on xs) [
+    let past : length xs ≤ prefix_len goes_on xs = elim (ltb (prefix_len goes_on xs) (length xs)) as
+    (λ v. ltb (prefix_len goes_on xs) (length xs) ≡ v → cond v (Some (prefix_len goes_on xs)) None ≡ None → length xs ≤ prefix_len goes_on xs) [
       | true ↦ λ _ f. (cc)
       | false ↦ λ f _. ltb-false _ _ f
     ] refl e in

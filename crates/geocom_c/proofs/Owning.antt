@@ -44,7 +44,8 @@ same_asked r s t c = rw (t, c) refl
 
 module _ {State : Type 0} (width : ℕ) (ends : Ends State) (Good : State → Type 0) (kept : State → Option KeptReply) where
   -- what a run settled
-  here : (p : Part State) (ps : List (Part State)) → IsFaithful width ends (leaves (begun_at width ends p)) p.run.moves Good kept → (m : ℕ) (x : Settlement) → 8 ≤ m → slice_get (world width ends p).wire.settled m ≡ Some x → IsOwnAnswer width ends Good kept (p ∷ ps) x
+  here : (p : Part State) (ps : List (Part State)) → IsFaithful width ends (leaves (begun_at width ends p)) p.run.moves Good kept → (m : ℕ) (x : Settlement)
+      → 8 ≤ m → slice_get (world width ends p).wire.settled m ≡ Some x → IsOwnAnswer width ends Good kept (p ∷ ps) x
   here p ps f m x command e = λ line is.
       let o = f.one_for_one in
       let request = got (world width ends p).wire.sent m (omega (arith, within (world width ends p).wire.settled m x e, o.count)) in
@@ -65,7 +66,8 @@ module _ {State : Type 0} (width : ℕ) (ends : Ends State) (Good : State → Ty
         made_on = f.made_on m x line command e is;
       }
 
-  pub own_here : (p : Part State) (ps : List (Part State)) → IsFaithful width ends (leaves (begun_at width ends p)) p.run.moves Good kept → AllByRecursion (IsOwnAnswer width ends Good kept (p ∷ ps)) (drop 8 (world width ends p).wire.settled)
+  pub own_here : (p : Part State) (ps : List (Part State)) → IsFaithful width ends (leaves (begun_at width ends p)) p.run.moves Good kept
+      → AllByRecursion (IsOwnAnswer width ends Good kept (p ∷ ps)) (drop 8 (world width ends p).wire.settled)
   own_here p ps f = all_of_places (IsOwnAnswer width ends Good kept (p ∷ ps)) (drop 8 (world width ends p).wire.settled)
       (λ m x e. let at = behind_first 8 m (world width ends p).wire.settled x e in here p ps f at.0 x at.1 at.2)
 

@@ -10,7 +10,7 @@ use Rattle.gc_instrument.specs.State.{KeptReply}
 use Rattle.gc_world.specs.Clients.{by_ids}
 use Rattle.gc_world.specs.Order.{Each}
 use Rattle.gc_world.specs.World.{Ends, Request}
-use Rattle.gc_field.specs.Begin.{Aged, AreLines, AreTurns, Asks, Comes, Foreign, Reaches, Up_lose, Up_repeat, Down_lose, Down_repeat, Anew, Changes, Standing, Turn, UnderWay, asks, begins, comes, leaves, reaches, turned, turns}
+use Rattle.gc_field.specs.Begin.{Aged, AreLines, AreTurns, Asks, Comes, Foreign, Reaches, Up_lose, Up_repeat, Down_lose, Down_repeat, Anew, Changes, Model, Turn, UnderWay, asks, begins, comes, leaves, reaches, turned, turns}
 use Rattle.gc_field.specs.Beginnings.{IsOwnIf, Run, left_by_run, left_if, on_line, stood}
 use Rattle.gc_field.specs.Begun.{IsClean, behind, eighth, ids_begun}
 use Rattle.gc_field.specs.Field.{Move, Sends, Tells, OnLine, Joins, ArePossible, seen}
@@ -19,7 +19,7 @@ use Rattle.gc_field.specs.Instrument.{IsAnInstrument}
 use Rattle.gc_field.proofs.BeginJoin.{begins_cleanly, left_lines}
 use Rattle.gc_field.proofs.BegunFaithful.{faithful}
 use Rattle.gc_field.proofs.BegunRows.{rows_have_not, runs_leave_rows, runs_leave_good}
-use Rattle.geocom_c.specs.Following.{Follows, Stage, opened}
+use Rattle.geocom_c.specs.Following.{CallsReach, Stage, opened}
 use Rattle.geocom_c.specs.Laws.{AreOwn, IsOwnAnswer, MayBegin}
 use Rattle.geocom_c.specs.Runs.{Part, ArePossibleRuns, asked_of, begun_at, client_if, client_over, event_of, events_of, events_over, front_of, left_over, lost_if, parts, settled_if, settled_over, world}
 use Rattle.geocom_c.specs.Steps.{Event, Went, AreEvents, AreInTurn, left_among, steps_among}
@@ -102,12 +102,12 @@ went_left (Joins line ∷ ms) es = went_left ms es
 
 module _ {State : Type 0} (width : ℕ) (ends : Ends State) where
   -- The events of a beginning: they have no step, and leave what the turns leave.
-  record Turned (s after : Standing State) (front : List Event) : Type 0 where
+  record Turned (s after : Model State) (front : List Event) : Type 0 where
     turns : (es : List Event) → AreInTurn s.left (front ++ es) → AreInTurn after.left es
     left : (es : List Event) → left_among s.left (front ++ es) ≡ left_among after.left es
     steps : (es : List Event) → steps_among (front ++ es) ≡ steps_among es
 
-  turned_same : (s after : Standing State) → after.left ≡ s.left → Turned s after []
+  turned_same : (s after : Model State) → after.left ≡ s.left → Turned s after []
   turned_same s after e =
       record {
         turns = λ es h. subst (λ l. AreInTurn l es) (sym e) h;
@@ -115,19 +115,19 @@ module _ {State : Type 0} (width : ℕ) (ends : Ends State) where
         steps = λ es. refl;
       }
 
-  turned_asked : (s : Standing State) (left : List ℕ) → Turned s (asks s left) (asked_of left)
+  turned_asked : (s : Model State) (left : List ℕ) → Turned s (asks s left) (asked_of left)
   turned_asked s [] = turned_same s s refl
   turned_asked s (asked ∷ later) = record { turns = λ es h. h; left = λ es. refl; steps = λ es. refl }
 
-  turned_front : (s : Standing State) (down : List (Aged (List ℕ))) → Turned s (comes s down) (front_of down)
+  turned_front : (s : Model State) (down : List (Aged (List ℕ))) → Turned s (comes s down) (front_of down)
   turned_front s [] = turned_same s s refl
   turned_front s (x ∷ rest) = record { turns = λ es h. h; left = λ es. refl; steps = λ es. refl }
 
-  reached_left : (s : Standing State) (up : List (Aged Request)) → (reaches ends s up).left ≡ s.left
+  reached_left : (s : Model State) (up : List (Aged Request)) → (reaches ends s up).left ≡ s.left
   reached_left s [] = refl
   reached_left s (x ∷ rest) = refl
 
-  turned_one : (s : Standing State) (t : Turn State) → Turned s (turns ends s t) (event_of s t)
+  turned_one : (s : Model State) (t : Turn State) → Turned s (turns ends s t) (event_of s t)
   turned_one s Asks = turned_asked s s.left
   turned_one s Comes = turned_front s s.down
   turned_one s (Foreign line) = record { turns = λ es h. h; left = λ es. refl; steps = λ es. refl }
@@ -139,7 +139,7 @@ module _ {State : Type 0} (width : ℕ) (ends : Ends State) where
   turned_one s Anew = turned_same s _ refl
   turned_one s (Changes state) = turned_same s _ refl
 
-  turned_all : (ts : List (Turn State)) (s : Standing State) → Turned s (turned ends ts s) (events_of width ends s ts)
+  turned_all : (ts : List (Turn State)) (s : Model State) → Turned s (turned ends ts s) (events_of width ends s ts)
   turned_all [] s = turned_same s s refl
   turned_all (t ∷ ts) s =
       let one = turned_one s t in
@@ -242,7 +242,8 @@ module _ {State : Type 0} (width : ℕ) (ends : Ends State) where
       done : (begun_at width ends p).left ≡ []
       turns : AreInTurn the_word rest
 
-    passes : (p : Part State) (left : List ℕ) (rest : List Event) → (begun_at width ends p).left ≡ left → AreLines Good p.before → MayBegin p.before → AreTurns ends Good kept p.run.turns (begins p.before)
+    passes : (p : Part State) (left : List ℕ) (rest : List Event) → (begun_at width ends p).left ≡ left → AreLines Good p.before → MayBegin p.before
+        → AreTurns ends Good kept p.run.turns (begins p.before)
         → ArePossible ends Good kept (by_ids width ends) p.run.moves (ids_begun (leaves (begun_at width ends p)))
         → AreInTurn the_word (events_of width ends (begins p.before) p.run.turns ++ (map Went (seen p.run.moves) ++ Went Restart ∷ rest)) → Passes p rest
     passes p [] rest e lines may ts possible h =
@@ -294,11 +295,13 @@ module _ {State : Type 0} (width : ℕ) (ends : Ends State) where
               (all_joined (IsOwnAnswer width ends Good kept all) (drop 8 w.wire.settled ++ map lost w.client.waiting) (settled_over width ends (next ∷ others))
               (all_joined (IsOwnAnswer width ends Good kept all) (drop 8 w.wire.settled) (map lost w.client.waiting)
               (own_here width ends Good kept p (next ∷ others) f) (none_answered width ends Good kept all w.client.waiting))
-              (all_weaker (IsOwnAnswer width ends Good kept (next ∷ others)) (IsOwnAnswer width ends Good kept all) (later_own width ends Good kept p (next ∷ others)) (settled_over width ends (next ∷ others)) more.own));
+              (all_weaker (IsOwnAnswer width ends Good kept (next ∷ others)) (IsOwnAnswer width ends Good kept all)
+              (later_own width ends Good kept p (next ∷ others)) (settled_over width ends (next ∷ others)) more.own));
           each = (subst (λ l. IsOwnIf width ends Good kept l s p.run.moves) (sym e) pass.begins.own, more.each);
         }
 
-    all_hold : (rs : List (Run State)) (u : UnderWay State) → AreLines Good u → MayBegin u → ArePossibleRuns width ends Good kept u rs → AreInTurn the_word (events_over width ends u rs) → Holds (parts width ends u rs) (events_over width ends u rs)
+    all_hold : (rs : List (Run State)) (u : UnderWay State) → AreLines Good u → MayBegin u → ArePossibleRuns width ends Good kept u rs
+        → AreInTurn the_word (events_over width ends u rs) → Holds (parts width ends u rs) (events_over width ends u rs)
     all_hold [] u lines may possible h = record { settled = refl; client = refl; left = refl; own = tt; each = tt }
     all_hold (r ∷ []) u lines may possible h = last_holds (record { before = u; run = r }) _ refl lines may possible.0.0 possible.0.1 h
     all_hold (r ∷ next ∷ others) u lines may possible h =
@@ -311,7 +314,9 @@ module _ {State : Type 0} (width : ℕ) (ends : Ends State) where
         passed_holds p (record { before = after; run = next }) (parts width ends (left_by_run width ends after next) others) (events_over width ends after (next ∷ others)) pass
         (all_hold (next ∷ others) after now again possible.1 pass.turns)
 
-    pub owned : (calls : List call.Step) (t : Stage) → Follows width opened calls t → (u : UnderWay State) → AreLines Good u → MayBegin u → (rs : List (Run State)) → AreEvents the_word [] calls (events_over width ends u rs) → ArePossibleRuns width ends Good kept u rs → AreOwn width ends Good kept (parts width ends u rs) t
+    pub owned : (calls : List call.Step) (t : Stage) → CallsReach width opened calls t → (u : UnderWay State) → AreLines Good u → MayBegin u
+        → (rs : List (Run State)) → AreEvents the_word [] calls (events_over width ends u rs) → ArePossibleRuns width ends Good kept u rs
+        → AreOwn width ends Good kept (parts width ends u rs) t
     owned calls t follows u lines may rs are possible =
         let over = over_events width calls t follows in
         let events = events_over width ends u rs in

@@ -26,7 +26,8 @@ module _ {A B : Type 0} (Is : A → B → Type 0) where
   first_at (a ∷ xs) (b ∷ ys) (suc k) x y are e f = first_at xs ys k x y are.1 e f
 
   -- one more is written
-  pub first_written : (xs : List A) (ys : List B) (k : ℕ) (x : A) (y : B) → FirstAre Is xs (take k ys) → k < length xs → slice_get ys k ≡ Some y → Is x y → FirstAre Is (slice_set xs k x) (take (suc k) ys)
+  pub first_written : (xs : List A) (ys : List B) (k : ℕ) (x : A) (y : B) → FirstAre Is xs (take k ys) → k < length xs → slice_get ys k ≡ Some y → Is x y
+      → FirstAre Is (slice_set xs k x) (take (suc k) ys)
   first_written [] ys k x y are lt f is = absurd (omega (arith, lt))
   first_written (a ∷ xs) [] k x y are lt f is = cc
   first_written (a ∷ xs) (b ∷ ys) zero x y are lt f is = let t : y ≡ b = cc in (subst (λ z. Is x z) t is, tt)

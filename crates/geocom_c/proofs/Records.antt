@@ -49,8 +49,18 @@ has_reading r text line count call reply (Unreadable e) told is reads kind some 
 -- a record still says so as more stands behind the text
 more_reading : (r : GeocomSettlement) (text more params : List ℕ) (reading : Reading) → HasReading r text params reading → HasReading r (text ++ more) params reading
 more_reading r text more params (Value a) has =
-    let are = has.2 in
-    (has.0, has.1, record { items = are.items; split = are.split; read = are.read; counted = are.counted; stand = first_map (StandsAt text) (StandsAt (text ++ more)) (stands_more text more) r.places are.items are.stand })
+    let are = has.2 in (
+      has.0,
+      has.1,
+      record {
+        items = are.items;
+        split = are.split;
+        read = are.read;
+        counted = are.counted;
+        stand =
+            first_map (StandsAt text) (StandsAt (text ++ more)) (stands_more text more) r.places are.items are.stand;
+      },
+    )
 more_reading r text more params (Refused rc) has = has
 more_reading r text more params (ComFault rc) has = has
 more_reading r text more params (Unreadable e) has = has

@@ -21,7 +21,7 @@ use Rattle.gc_field.specs.Field as field
 use Rattle.gc_field.specs.Instrument.{IsAnInstrument, AnyState}
 use Rattle.gc_field.specs.Laws.{kept_of}
 use Rattle.gc_field.specs.Witness.{eight, replies}
-use Rattle.geocom_c.specs.Following.{Follows, Stage, opened}
+use Rattle.geocom_c.specs.Following.{CallsReach, Stage, opened}
 use Rattle.geocom_c.specs.Laws.{MayBegin}
 use Rattle.geocom_c.specs.Runs.{ArePossibleRuns, events_over}
 use Rattle.geocom_c.specs.Steps.{AreEvents, steps_among}
@@ -72,7 +72,7 @@ reached ends state one other = record { reached = course WINDOW begun (steps_amo
 pub record AreInField {State : Type 0} (ends : Ends State) (Good : State → Type 0) (kept : State → Option KeptReply) (state : State) (replies : List (List ℕ)) (one other : List ℕ) : Type 0 where
   pub is : IsAnInstrument ends Good kept
   pub width : IsWidth WINDOW
-  pub follows : Follows WINDOW opened (calls replies one other) (reached ends state one other)
+  pub follows : CallsReach WINDOW opened (calls replies one other) (reached ends state one other)
   pub lines : AreLines Good (before state)
   pub may : MayBegin (before state)
   pub are : AreEvents the_word [] (calls replies one other) (events_over WINDOW ends (before state) (runs one other))

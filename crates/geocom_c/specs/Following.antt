@@ -43,18 +43,18 @@ pub record IsAt (width : ℕ) (s : Stage) (state : GeocomClient) : Type 0 where
 
 -- over these calls, in order, the client comes from one stage to another. A send goes out only once it has begun; a begin hears lines, which
 -- are no lines of the client's; a restart of a client that has begun has it begin anew
-abbrev pub Follows : ℕ → Stage → List Step → Stage → Type 0
-Follows width s [] t = t ≡ s
-Follows width s (Send target deadline procedure params ∷ steps) t =
-    ((call : Call) × (s.left ≡ []) × IsCall procedure params.now call × Follows width (record s { reached = goes width s.reached (one.Send target call deadline) }) steps t)
-    ⊎ ((s.left ≡ [] → (call : Call) → IsCall procedure params.now call → ⊥) × Follows width s steps t)
-Follows width s (Begin bytes ∷ steps) t = Follows width (record s { rest = rest_behind s.rest bytes.now; left = left_behind s.left s.rest bytes.now }) steps t
-Follows width s (Feed bytes ∷ steps) t = Follows width (record s { reached = hearing width s.reached s.rest bytes.now; rest = rest_behind s.rest bytes.now }) steps t
-Follows width s (Expire now ∷ steps) t = Follows width (record s { reached = goes width s.reached (one.Expire now) }) steps t
-Follows width s (Restart ∷ steps) t = Follows width (record { reached = goes width s.reached one.Restart; rest = []; left = anew s.left }) steps t
+abbrev pub CallsReach : ℕ → Stage → List Step → Stage → Type 0
+CallsReach width s [] t = t ≡ s
+CallsReach width s (Send target deadline procedure params ∷ steps) t =
+    ((call : Call) × (s.left ≡ []) × IsCall procedure params.now call × CallsReach width (record s { reached = goes width s.reached (one.Send target call deadline) }) steps t)
+    ⊎ ((s.left ≡ [] → (call : Call) → IsCall procedure params.now call → ⊥) × CallsReach width s steps t)
+CallsReach width s (Begin bytes ∷ steps) t = CallsReach width (record s { rest = rest_behind s.rest bytes.now; left = left_behind s.left s.rest bytes.now }) steps t
+CallsReach width s (Feed bytes ∷ steps) t = CallsReach width (record s { reached = hearing width s.reached s.rest bytes.now; rest = rest_behind s.rest bytes.now }) steps t
+CallsReach width s (Expire now ∷ steps) t = CallsReach width (record s { reached = goes width s.reached (one.Expire now) }) steps t
+CallsReach width s (Restart ∷ steps) t = CallsReach width (record { reached = goes width s.reached one.Restart; rest = []; left = anew s.left }) steps t
 
 -- no part of a promise: the state is at a stage from which the calls that are left come to what all of them come to
 pub record Reached (width : ℕ) (s : Stage) (steps : List Step) (state : GeocomClient) (later : List Step) : Type 0 where
   pub stage : Stage
   pub at : IsAt width stage state
-  pub on : (t : Stage) → Follows width stage later t → Follows width s steps t
+  pub on : (t : Stage) → CallsReach width stage later t → CallsReach width s steps t

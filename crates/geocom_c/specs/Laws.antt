@@ -16,14 +16,14 @@ use Rattle.gc_field.specs.Beginnings.{AreFewKilled, AreRuns, IsOwnIf, IsRow, Run
 use Rattle.gc_field.specs.Begun.{WasMadeOn}
 use Rattle.gc_field.specs.Instrument.{IsAnInstrument, AnyState}
 use Rattle.gc_field.specs.Laws.{WasExecuted, asked, kept_of}
-use Rattle.geocom_c.specs.Following.{Follows, Stage, opened}
+use Rattle.geocom_c.specs.Following.{CallsReach, Stage, opened}
 use Rattle.geocom_c.specs.Runs.{Part, ArePossibleRuns, begun_at, client_over, events_over, left_by_runs, left_over, parts, settled_over, world}
 use Rattle.geocom_c.specs.Steps.{AreEvents, IsOverEvents}
 use Rattle.geocom_c.specs.declared.following.Step.{Step}
 
 -- for every width, all calls on a state, and what they come to
 abbrev pub CallsAreEvents : Type 0
-CallsAreEvents = (width : ℕ) (calls : List Step) (t : Stage) → Follows width opened calls t → IsOverEvents width calls t
+CallsAreEvents = (width : ℕ) (calls : List Step) (t : Stage) → CallsReach width opened calls t → IsOverEvents width calls t
 
 -- the word isn't under way: its ids aren't a subsequence of those of the replies and the requests that are
 abbrev pub MayBegin : {State : Type 0} → UnderWay State → Type 0
@@ -70,7 +70,7 @@ module _ {State : Type 0} (width : ℕ) (ends : Ends State) (Good : State → Ty
 abbrev pub AnswersAreTheirOwn : Type 0 → Type 0
 AnswersAreTheirOwn State =
     (ends : Ends State) (kept : State → Option KeptReply) → IsAnInstrument ends AnyState kept →
-    (width : ℕ) → IsWidth width → (calls : List Step) (t : Stage) → Follows width opened calls t →
+    (width : ℕ) → IsWidth width → (calls : List Step) (t : Stage) → CallsReach width opened calls t →
     (u : UnderWay State) → AreLines AnyState u → MayBegin u →
     (rs : List (Run State)) → AreEvents the_word [] calls (events_over width ends u rs) → ArePossibleRuns width ends AnyState kept u rs →
     AreOwn width ends AnyState kept (parts width ends u rs) t
@@ -78,7 +78,7 @@ AnswersAreTheirOwn State =
 -- the same for the simulated instrument, in any state that fits
 abbrev pub SimulatorsAnswersAreTheirOwn : Type 0
 SimulatorsAnswersAreTheirOwn =
-    (width : ℕ) → IsWidth width → (calls : List Step) (t : Stage) → Follows width opened calls t →
+    (width : ℕ) → IsWidth width → (calls : List Step) (t : Stage) → CallsReach width opened calls t →
     (u : UnderWay State) → AreLines IsFittingState u → MayBegin u →
     (rs : List (Run State)) → AreEvents the_word [] calls (events_over width ends u rs) → ArePossibleRuns width ends IsFittingState kept_of u rs →
     AreOwn width ends IsFittingState kept_of (parts width ends u rs) t

@@ -7,7 +7,7 @@ use Rattle.gc_client.specs.Rule.{ById, Settlement, fresh, lost}
 use Rattle.gc_instrument.specs.State.{KeptReply}
 use Rattle.gc_world.specs.Clients.{by_ids}
 use Rattle.gc_world.specs.World.{Ends, World}
-use Rattle.gc_field.specs.Begin.{Aged, AreTurns, Asks, Comes, Foreign, Reaches, Up_lose, Up_repeat, Down_lose, Down_repeat, Anew, Changes, Standing, Turn, UnderWay, begins, leaves, turns}
+use Rattle.gc_field.specs.Begin.{Aged, AreTurns, Asks, Comes, Foreign, Reaches, Up_lose, Up_repeat, Down_lose, Down_repeat, Anew, Changes, Model, Turn, UnderWay, begins, leaves, turns}
 use Rattle.gc_field.specs.Beginnings.{Run, left_by_run, stood}
 use Rattle.gc_field.specs.Begun.{behind, ids_begun}
 use Rattle.gc_field.specs.Field.{ArePossible, seen}
@@ -26,7 +26,7 @@ front_of [] = []
 front_of (x ∷ rest) = Came x.line ∷ []
 
 -- what a turn of a beginning is to it: those of the line and of the instrument are nothing
-abbrev pub event_of : {State : Type 0} → Standing State → Turn State → List Event
+abbrev pub event_of : {State : Type 0} → Model State → Turn State → List Event
 event_of s Asks = asked_of s.left
 event_of s Comes = front_of s.down
 event_of s (Foreign line) = Came line ∷ []
@@ -44,7 +44,7 @@ pub record Part (State : Type 0) : Type 0 where
   pub run : Run State
 
 module _ {State : Type 0} (width : ℕ) (ends : Ends State) where
-  abbrev pub events_of : Standing State → List (Turn State) → List Event
+  abbrev pub events_of : Model State → List (Turn State) → List Event
   events_of s [] = []
   events_of s (t ∷ ts) = event_of s t ++ events_of (turns ends s t) ts
 
@@ -57,7 +57,7 @@ module _ {State : Type 0} (width : ℕ) (ends : Ends State) where
   -- Runs, one after the other.
 
   -- where its beginning stood at the end, and the world behind the run
-  abbrev pub begun_at : Part State → Standing State
+  abbrev pub begun_at : Part State → Model State
   begun_at p = stood width ends p.before p.run
 
   abbrev pub world : Part State → World ById State

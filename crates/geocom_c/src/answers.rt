@@ -65,7 +65,7 @@ pub(crate) fn refused(fault: u32) -> GeocomCount
     GeocomCount { fault, count: 0 }
 }
 
-// So many bytes are to be written, where so many null procedures are answered.
+// No fault: `count` bytes of a line are to be written, and `answered` null procedures are answered so far.
 pub(crate) fn begun(count: u32, answered: u8) -> GeocomBeginning
     ensures fault { result.fault ≡ 0 }
     ensures count { result.count ≡ count }

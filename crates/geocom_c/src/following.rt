@@ -5,7 +5,7 @@ ghost use Rattle.gc_lines.specs.Frames.{rest_behind};
 ghost use Rattle.gc_client.specs.Rule.{IsWidth};
 ghost use Rattle.gc_client.specs.OneForOne.{Course, IsOneForOne};
 ghost use Rattle.geocom_c.specs.State.{StandsFor};
-ghost use Rattle.geocom_c.specs.Following.{hearing, FedTo, Follows, IsAt, Reached, Stage, opened};
+ghost use Rattle.geocom_c.specs.Following.{hearing, FedTo, CallsReach, IsAt, Reached, Stage, opened};
 
 use crate::beginning::geocom_client_begin;
 use crate::calls::{geocom_client_expire, geocom_client_init};
@@ -37,7 +37,7 @@ pub enum Step<'a> {
 }
 
 // What stands in a place that no settlement was written to.
-pub(crate) const VACANT: GeocomSettlement = GeocomSettlement {
+const VACANT: GeocomSettlement = GeocomSettlement {
     target: 0,
     procedure: 0,
     code: 0,
@@ -108,7 +108,7 @@ fn call(state: &mut GeocomClient, step: &Step<'_>)
     }
 }
 
-// The call at a place.
+// The call at place `k`, counted from 0.
 fn step_at<'a>(steps: &[Step<'a>], k: usize) -> Step<'a>
     requires { k < length steps.now }
     ensures { slice_get steps.now k ≡ Some result }
@@ -120,7 +120,7 @@ fn step_at<'a>(steps: &[Step<'a>], k: usize) -> Step<'a>
 /// client that the rule makes of them, for the bytes that came since the last line feed, and for how far its beginning came. What was settled, and behind it
 /// the requests that wait, are the sends that weren't refused, in order, each once.
 pub fn follow(state: &mut GeocomClient, width: u8, steps: &[Step<'_>])
-    ensures { IsWidth width → (t : Stage) × Follows width opened steps.now t × IsAt width t state.new × IsOneForOne t.reached }
+    ensures { IsWidth width → (t : Stage) × CallsReach width opened steps.now t × IsAt width t state.new × IsOneForOne t.reached }
 {
     let _ = geocom_client_init(state, width);
     for k in 0..steps.len() {

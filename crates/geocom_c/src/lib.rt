@@ -15,8 +15,6 @@ mod rest;
 mod sends;
 mod settled;
 mod state;
-#[cfg(test)]
-mod tests;
 
 pub use answers::{GeocomBeginning, GeocomCount, GeocomDeadline, GeocomHeard};
 pub use beginning::geocom_client_begin;

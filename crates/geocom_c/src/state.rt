@@ -212,7 +212,7 @@ pub(crate) fn load(state: &GeocomClient) -> Option<Client<Slots>>
     Some(Client::resume(window, state.width, state.next))
 }
 
-// Puts a client into a state. The bytes of a line under way stay, and so does its beginning.
+// Writes a client into a state. The bytes of a line under way stay, and so does the number of null procedures that are answered.
 pub(crate) fn store(state: &mut GeocomClient, client: Client<Slots>)
     ensures client { (rest : List ℕ) → IsRest state.old.rest rest → state.old.answered ≤ 8 → StandsFor state.new client rest }
     ensures rest { state.new.rest ≡ state.old.rest }

@@ -3,9 +3,9 @@
 //! input's pieces, the input comes whole and in single bytes, and with `cuts each` cut in two at every place, too.
 
 use crate::cases::outcome::Came;
-use crate::cases::setup::{Setup, sizes_of};
+use crate::cases::setup::Setup;
 use gc_cases::{Case, Player};
-use std::alloc::Global;
+use std::alloc::{AllocError, Global};
 use std::io;
 
 /// Plays `.engines`.
@@ -16,61 +16,47 @@ impl Player for Engines {
         ".engines"
     }
 
-    fn key(&self, place: usize) -> Option<&'static str> {
-        ["end", "output", "sent", "writes"].get(place).copied()
-    }
-
-    fn play(&self, rt: &HostRuntime, case: &Case<'_>) -> io::Result<Vec<Vec<u8>>> {
-        let alloc = rt.alloc();
-        let setup = Setup::of(alloc, case)?;
-        let sizes = sizes_of(alloc, case.value("sizes"))?;
-        let whole = setup.run(alloc, sizes.as_slice())?;
-        let mut end = whole.end_text(alloc)?;
-        if sizes.is_empty() {
-            let is_each = case.value("cuts") == "each";
-            end.push_str(differing(alloc, &setup, &whole, is_each)?)?;
-        }
-        let mut came = Vec::new(alloc);
-        came.push(end.into_bytes())?;
-        if case.value("writes") != "" {
-            let writes = whole.writes_text(alloc)?;
-            came.push(Vec::from_slice(alloc, whole.output.as_slice())?)?;
-            came.push(Vec::from_slice(alloc, whole.sent.as_slice())?)?;
-            came.push(writes.into_bytes())?;
-            return Ok(came);
-        }
-        came.push(Vec::from_slice(alloc, whole.output.as_slice())?)?;
-        came.push(Vec::from_slice(alloc, whole.sent.as_slice())?)?;
-        Ok(came)
+    fn play(&self, rt: &HostRuntime, case: &Case<'_>, wrong: &mut String) -> io::Result<()> {
+        let setup = Setup::of(rt.alloc(), case)?;
+        Ok(play_setup(rt.alloc(), case, &setup, wrong)?)
     }
 }
 
-/// The sizes of single bytes.
-pub fn single(alloc: Global, input: &[u8]) -> io::Result<Vec<usize>> {
-    let mut ones = Vec::new(alloc);
-    for _ in input {
-        ones.push(1)?;
-    }
-    Ok(ones)
+fn play_setup(
+    alloc: Global,
+    case: &Case<'_>,
+    setup: &Setup,
+    wrong: &mut String,
+) -> Result<(), AllocError> {
+    let whole = setup.run(alloc, setup.sizes.as_slice())?;
+    let otherwise = if setup.sizes.is_empty() {
+        differing(alloc, setup, &whole, case.value("cuts") == "each")?
+    } else {
+        ""
+    };
+    whole.tell(alloc, case, otherwise, wrong)
 }
 
-// What is said where the input in other pieces came to something else.
-fn differing(
+/// What is said where the input in other pieces came to something else: in single bytes, and cut in two at each place if it is asked.
+pub fn differing(
     alloc: Global,
     setup: &Setup,
     whole: &Came,
     is_each: bool,
-) -> io::Result<&'static str> {
-    let ones = single(alloc, setup.input.as_slice())?;
-    if !setup.run(alloc, ones.as_slice())?.is(whole) {
+) -> Result<&'static str, AllocError> {
+    if !setup.is_same_single(alloc, whole)? {
         return Ok(", and otherwise in single bytes");
     }
-    if is_each {
-        for place in 0..setup.input.len() {
-            if !setup.run(alloc, &[place])?.is(whole) {
-                return Ok(", and otherwise cut in two");
-            }
-        }
+    if is_each && !setup.is_same_cut(alloc, whole)? {
+        return Ok(", and otherwise cut in two");
     }
     Ok("")
+}
+
+/// Appends the size of a single byte for each byte of an input.
+pub fn push_single(sizes: &mut Vec<usize>, input: &[u8]) -> Result<(), AllocError> {
+    for _ in input {
+        sizes.push(1)?;
+    }
+    Ok(())
 }

@@ -1,12 +1,15 @@
 //! Records of the second cycle of a run, at its place 3, for target 7: a case has the form, the moments, the target's name, the
 //! procedure, and the reply or how else the command ended.
 
-use gc_cases::{Case, Player, bytes_of};
+ghost use Rattle.std.specs.Prelude.{◌≤◌, length};
+
+use gc_cases::{Case, Player, bytes_of, tell};
 use gc_catalogue::{Call, Reading, decode_answer};
 use gc_lines::{Line, ToWriter, read_reply};
-use gc_texts::{Command, Ending, Form, When, read_commands, write_head, write_record};
+use gc_rows::{Form, When, write_head, write_record};
+use gc_texts::{Command, Ending, Stamp, read_commands};
 use gc_values::ValueFault;
-use std::alloc::Global;
+use std::alloc::{AllocError, Global};
 use std::io;
 
 /// Plays `.records`.
@@ -17,18 +20,13 @@ impl Player for Records {
         ".records"
     }
 
-    fn key(&self, place: usize) -> Option<&'static str> {
-        ["is"].get(place).copied()
-    }
-
-    fn play(&self, rt: &HostRuntime, case: &Case<'_>) -> io::Result<Vec<Vec<u8>>> {
-        let alloc = rt.alloc();
-        let mut came = Vec::new(alloc);
-        came.push(match form_of(case.value("form")) {
-            Some(form) => written(alloc, case, form)?,
-            None => Vec::from_slice(alloc, b"no such form")?,
-        })?;
-        Ok(came)
+    fn play(&self, rt: &HostRuntime, case: &Case<'_>, wrong: &mut String) -> io::Result<()> {
+        let Some(form) = form_of(case.value("form")) else {
+            return Ok(tell(case, "is", b"no such form", wrong)?);
+        };
+        let mut written = Vec::new(rt.alloc());
+        write_case(rt.alloc(), case, form, &mut written)?;
+        Ok(tell(case, "is", written.as_slice(), wrong)?)
     }
 }
 
@@ -42,34 +40,79 @@ fn form_of(word: &str) -> Option<Form> {
     }
 }
 
-// What is written: the record, or what stands in front of all where there is no command.
-fn written(alloc: Global, case: &Case<'_>, form: Form) -> io::Result<Vec<u8>> {
-    let mut written = Vec::new(alloc);
-    let mut sink = ToWriter::new(&mut written);
+// Writes the record, or what stands in front of all where there is no command.
+fn write_case(
+    alloc: Global,
+    case: &Case<'_>,
+    form: Form,
+    written: &mut Vec<u8>,
+) -> Result<(), AllocError> {
     if case.value("command") == "" {
-        let _ = write_head(&mut sink, form);
-        return Ok(written);
+        let _ = write_head(&mut ToWriter::new(written), form);
+        return Ok(());
     }
     let name = bytes_of(alloc, case.value("name"))?;
-    let name = name.as_slice().get(..64).unwrap_or(name.as_slice());
+    let reply = bytes_of(alloc, case.value("reply"))?;
+    let command = command_of(alloc, case.value("command").as_bytes());
+    write_ending(
+        case,
+        form,
+        name.as_slice(),
+        &command,
+        reply.as_slice(),
+        written,
+    );
+    Ok(())
+}
+
+// Writes the record of a command with this reply, for a target of this name.
+fn write_ending(
+    case: &Case<'_>,
+    form: Form,
+    name: &[u8],
+    command: &Command,
+    reply: &[u8],
+    written: &mut Vec<u8>,
+) {
+    let name = name.get(..64).unwrap_or(name);
+    let line = line_of(reply);
+    let reading = reading_of(&command.call, &line);
+    let ending = ending_of(case.value("ending"), &reading, &line);
     if name.len() <= 64 {
-        let line = line_of(bytes_of(alloc, case.value("reply"))?.as_slice());
-        let command = command_of(alloc, case.value("command").as_bytes());
-        let reading = reading_of(&command.call, &line);
-        let ending = ending_of(case.value("ending"), &reading, &line);
-        let _ = write_record(&mut sink, form, &when_of(case), name, &command, ending);
+        put_record(form, &when_of(case), name, command, ending, written);
     }
-    Ok(written)
+}
+
+fn put_record(
+    form: Form,
+    when: &When,
+    name: &[u8],
+    command: &Command,
+    ending: Ending<'_>,
+    written: &mut Vec<u8>,
+)
+    requires { length name.now ≤ 64 }
+{
+    let _ = write_record(
+        &mut ToWriter::new(written),
+        form,
+        when,
+        name,
+        command,
+        ending,
+    );
 }
 
 // When it was sent, or None, and ended.
 fn when_of(case: &Case<'_>) -> When {
     When {
         run: 1795388880000,
-        sent: case.value("sent").parse::<u64>().ok(),
-        utc: case.value("utc").parse::<u64>().unwrap_or(1795388907123),
-        cycle: 2,
-        place: 3,
+        stamp: Stamp {
+            sent: case.value("sent").parse::<u64>().ok(),
+            utc: case.value("utc").parse::<u64>().unwrap_or(1795388907123),
+            cycle: 2,
+            place: 3,
+        },
     }
 }
 

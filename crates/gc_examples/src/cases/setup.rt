@@ -1,16 +1,18 @@
 //! What a case says of a run: the engine, what goes in, and how long each port goes well.
 
-use crate::cases::outcome::{Came, End, ran, served};
+ghost use Rattle.std.specs.Prelude.{◌≤◌};
+ghost use Rattle.gc_client.specs.declared.window.TheConstants.{WINDOW};
+
+use crate::cases::engines::push_single;
+use crate::cases::outcome::{Came, End, end_of, ran, served};
 use crate::cases::sink::Taking;
 use gc_ask::{Duplex, run_ask, run_loop_on};
-use gc_cases::{Case, bytes_of, input_of};
+use gc_cases::{Case, input_of, push_all};
 use gc_engines::{read_scene, run_check, run_check_log, run_drill_on, run_exec};
-use gc_instrument::{Instrument, serve};
-use gc_lines::Source;
+use gc_instrument::serve;
 use gc_probes::{PieceSource, Pipe};
 use gc_texts::RunFault;
-use std::alloc::Global;
-use std::io;
+use std::alloc::{AllocError, Global};
 
 /// Which engine a case goes through.
 #[derive(Clone, Copy, PartialEq, Eq)]
@@ -20,8 +22,6 @@ pub enum Engine {
     Check,
     CheckLog,
     Drill,
-    /// A drill over a window of one.
-    Narrow,
     Ask,
     Loop,
     Scene,
@@ -39,11 +39,13 @@ pub struct Answers {
     pub instrument_out: u64,
 }
 
-/// How a run is set up, but for its input's pieces.
+/// How a run is set up.
 #[derive(Drop)]
 pub struct Setup {
     pub engine: Engine,
     pub input: Vec<u8>,
+    /// In which pieces the input comes.
+    pub sizes: Vec<usize>,
     /// What the link gives of itself, and in which pieces.
     pub link: Vec<u8>,
     pub link_sizes: Vec<usize>,
@@ -55,24 +57,18 @@ pub struct Setup {
     /// The most bytes that one write of the output, and of the link, takes.
     pub most: usize,
     pub link_most: usize,
+    /// Whether a drill tells its totals, and how wide its window is.
     pub totals: bool,
+    pub width: u64,
 }
 
-// A drill over a window of this width: of one, or of seven.
-fn drill_of(width: &str) -> Engine {
-    if width == "1" {
-        return Engine::Narrow;
-    }
-    Engine::Drill
-}
-
-fn engine_of(case: &Case<'_>) -> Engine {
-    match case.value("engine") {
+fn engine_of(word: &str) -> Engine {
+    match word {
         "exec" => Engine::Exec,
         "serve" => Engine::Serve,
         "check" => Engine::Check,
         "check-log" => Engine::CheckLog,
-        "drill" | "totals" => drill_of(case.value("width")),
+        "drill" | "totals" => Engine::Drill,
         "ask" => Engine::Ask,
         "loop" => Engine::Loop,
         "scene" => Engine::Scene,
@@ -88,95 +84,203 @@ fn size(case: &Case<'_>, key: &str, or: usize) -> usize {
     case.value(key).parse::<usize>().unwrap_or(or)
 }
 
-/// The sizes of a case, with a space between. `N x M` stands for the size M so many times.
-pub fn sizes_of(alloc: Global, text: &str) -> io::Result<Vec<usize>> {
-    let mut sizes = Vec::new(alloc);
+// Appends the sizes of a text, with a space between. `N x M` stands for the size M so many times.
+fn push_sizes(sizes: &mut Vec<usize>, text: &str) -> Result<(), AllocError> {
     if let Some((times, size)) = text.split_once(" x ") {
-        let size = size.parse::<usize>().unwrap_or(0);
-        for _ in 0..times.parse::<u64>().unwrap_or(0) {
-            sizes.push(size)?;
-        }
-        return Ok(sizes);
+        return push_times(sizes, times, size);
     }
     for word in text.split(' ') {
         if let Ok(size) = word.parse::<usize>() {
             sizes.push(size)?;
         }
     }
-    Ok(sizes)
+    Ok(())
+}
+
+fn push_times(sizes: &mut Vec<usize>, times: &str, size: &str) -> Result<(), AllocError> {
+    let size = size.parse::<usize>().unwrap_or(0);
+    for _ in 0..times.parse::<u64>().unwrap_or(0) {
+        sizes.push(size)?;
+    }
+    Ok(())
 }
 
 impl Setup {
-    /// The set-up that a case says.
-    pub fn of(alloc: Global, case: &Case<'_>) -> io::Result<Setup> {
-        Ok(Setup {
-            engine: engine_of(case),
-            input: input_of(alloc, case)?,
-            link: bytes_of(alloc, case.value("link"))?,
-            link_sizes: sizes_of(alloc, case.value("link-sizes"))?,
-            scene: bytes_of(alloc, case.value("scene"))?,
-            allowed: small_number(case, "allowed", u32::MAX),
+    /// A run of an engine over an input, with ports that don't fail.
+    pub fn new(alloc: Global, engine: Engine, input: Vec<u8>) -> Setup {
+        Setup {
+            engine,
+            input,
+            sizes: Vec::new(alloc),
+            link: Vec::new(alloc),
+            link_sizes: Vec::new(alloc),
+            scene: Vec::new(alloc),
+            allowed: u32::MAX,
             answers: Answers {
-                input: case.number("reads", u64::MAX),
-                output: case.number("taken", u64::MAX),
-                link_in: case.number("link-reads", u64::MAX),
-                link_out: case.number("link-taken", u64::MAX),
+                input: u64::MAX,
+                output: u64::MAX,
+                link_in: u64::MAX,
+                link_out: u64::MAX,
                 instrument_in: u64::MAX,
                 instrument_out: u64::MAX,
             },
-            most: size(case, "most", 5),
-            link_most: size(case, "link-most", 1000),
-            totals: case.value("engine") == "totals",
-        })
+            most: 5,
+            link_most: 1000,
+            totals: true,
+            width: 7,
+        }
+    }
+
+    /// The set-up that a case says.
+    pub fn of(alloc: Global, case: &Case<'_>) -> Result<Setup, AllocError> {
+        let engine = engine_of(case.value("engine"));
+        let mut setup = Setup::new(alloc, engine, input_of(alloc, case)?);
+        setup.take_numbers(case);
+        setup.take_bytes(case)?;
+        Ok(setup)
+    }
+
+    fn take_bytes(&mut self, case: &Case<'_>) -> Result<(), AllocError> {
+        push_sizes(&mut self.sizes, case.value("sizes"))?;
+        push_all(&mut self.link, case.value("link"))?;
+        push_sizes(&mut self.link_sizes, case.value("link-sizes"))?;
+        push_all(&mut self.scene, case.value("scene"))
+    }
+
+    fn take_numbers(&mut self, case: &Case<'_>) {
+        self.allowed = small_number(case, "allowed", u32::MAX);
+        self.answers.input = case.number("reads", u64::MAX);
+        self.answers.output = case.number("taken", u64::MAX);
+        self.answers.link_in = case.number("link-reads", u64::MAX);
+        self.answers.link_out = case.number("link-taken", u64::MAX);
+        self.most = size(case, "most", 5);
+        self.link_most = size(case, "link-most", 1000);
+        self.totals = case.value("engine") == "totals";
+        self.width = case.number("width", 7);
+    }
+
+    /// Lets a port fail at its call k.
+    pub fn fail_at(&mut self, port: &str, k: u64) {
+        match port {
+            "input" => self.answers.input = k,
+            "output" => self.answers.output = k,
+            "link-in" => self.answers.link_in = k,
+            "link-out" => self.answers.link_out = k,
+            "instrument-in" => self.answers.instrument_in = k,
+            "instrument-out" => self.answers.instrument_out = k,
+            "allowed" => self.allowed = u32::try_from(k).unwrap_or(u32::MAX),
+            _ => self.answers.input = 0,
+        }
+    }
+
+    fn width(&self) -> u8
+        ensures least { 1 ≤ result }
+        ensures most { result ≤ WINDOW }
+    {
+        if self.width == 1 { 1 } else { 7 }
+    }
+
+    /// Whether the input comes to the same in single bytes.
+    pub fn is_same_single(&self, alloc: Global, whole: &Came) -> Result<bool, AllocError> {
+        let mut ones = Vec::new(alloc);
+        push_single(&mut ones, self.input.as_slice())?;
+        self.comes_to(alloc, ones.as_slice(), whole)
+    }
+
+    /// Whether it comes to the same cut in two at each place.
+    pub fn is_same_cut(&self, alloc: Global, whole: &Came) -> Result<bool, AllocError> {
+        for place in 0..self.input.len() {
+            if !self.comes_to(alloc, &[place], whole)? {
+                return Ok(false);
+            }
+        }
+        Ok(true)
+    }
+
+    fn comes_to(&self, alloc: Global, sizes: &[usize], whole: &Came) -> Result<bool, AllocError> {
+        Ok(self.run(alloc, sizes)?.is(whole))
     }
 
     /// Runs it over an input in pieces of these sizes.
-    pub fn run(&self, alloc: Global, sizes: &[usize]) -> io::Result<Came> {
-        let mut sink = Taking::new(alloc, self.most, self.answers.output);
+    pub fn run(&self, alloc: Global, sizes: &[usize]) -> Result<Came, AllocError> {
+        let mut output = Taking::new(alloc, self.most, self.answers.output);
         let mut link = Taking::new(alloc, self.link_most, self.answers.link_out);
-        let mut source = PieceSource::new(self.input.as_slice(), sizes, self.answers.input);
-        let end = match read_scene(alloc, self.scene.as_slice()) {
-            Ok(instrument) => self.run_on(alloc, instrument, &mut source, &mut link, &mut sink)?,
-            Err(fault) => ran(alloc, Err(fault))?,
-        };
-        Ok(Came {
-            end,
-            output: sink.bytes,
-            sent: link.bytes,
-            writes: sink.sizes,
-        })
+        let end = self.run_on(alloc, sizes, &mut output, &mut link)?;
+        Ok(Came { end, output, link })
     }
 
-    // Runs it on this instrument.
-    fn run_on<S: Source>(
+    fn run_on(
         &self,
         alloc: Global,
-        mut instrument: Instrument,
-        source: &mut S,
+        sizes: &[usize],
+        output: &mut Taking,
         link: &mut Taking,
-        sink: &mut Taking,
-    ) -> io::Result<End> {
+    ) -> Result<End, AllocError> {
+        let mut source = PieceSource::new(self.input.as_slice(), sizes, self.answers.input);
         match self.engine {
-            Engine::Exec => served(alloc, run_exec(source, sink, self.allowed)),
-            Engine::Serve => served(alloc, serve(&mut instrument, source, sink, self.allowed)),
-            Engine::Check => served(alloc, run_check(source, sink, self.allowed)),
-            Engine::CheckLog => served(alloc, run_check_log(source, sink, self.allowed)),
-            Engine::Drill => ran(
-                alloc,
-                run_drill_on(alloc, instrument, source, sink, self.totals, 7),
-            ),
-            Engine::Narrow => ran(
-                alloc,
-                run_drill_on(alloc, instrument, source, sink, self.totals, 1),
-            ),
-            Engine::Ask => ran(alloc, self.ask(alloc, source, link, sink)),
-            Engine::Loop => ran(alloc, self.loop_on(alloc, instrument, source, sink)),
+            Engine::Exec => self.exec(alloc, &mut source, output),
+            Engine::Serve => self.serve(alloc, &mut source, output),
+            Engine::Check => self.check(alloc, &mut source, output),
+            Engine::CheckLog => self.check_log(alloc, &mut source, output),
+            Engine::Drill => ran(alloc, self.drill(alloc, &mut source, output)),
+            Engine::Ask => ran(alloc, self.ask(alloc, &mut source, link, output)),
+            Engine::Loop => ran(alloc, self.ask_in_a_loop(alloc, &mut source, output)),
             Engine::Scene => ran(alloc, self.read(alloc)),
-            Engine::None => Ok(End {
-                text: String::from_str(alloc, "no such engine")?,
-                bytes: None,
-            }),
+            Engine::None => Ok(end_of(String::from_str(alloc, "no such engine")?)),
         }
+    }
+
+    fn exec(
+        &self,
+        alloc: Global,
+        source: &mut PieceSource<'_>,
+        output: &mut Taking,
+    ) -> Result<End, AllocError> {
+        served(alloc, run_exec(source, output, self.allowed))
+    }
+
+    fn check(
+        &self,
+        alloc: Global,
+        source: &mut PieceSource<'_>,
+        output: &mut Taking,
+    ) -> Result<End, AllocError> {
+        served(alloc, run_check(source, output, self.allowed))
+    }
+
+    fn check_log(
+        &self,
+        alloc: Global,
+        source: &mut PieceSource<'_>,
+        output: &mut Taking,
+    ) -> Result<End, AllocError> {
+        served(alloc, run_check_log(source, output, self.allowed))
+    }
+
+    // Serves with the scene's instrument.
+    fn serve(
+        &self,
+        alloc: Global,
+        source: &mut PieceSource<'_>,
+        output: &mut Taking,
+    ) -> Result<End, AllocError> {
+        match read_scene(alloc, self.scene.as_slice()) {
+            Ok(mut instrument) => {
+                served(alloc, serve(&mut instrument, source, output, self.allowed))
+            }
+            Err(fault) => ran(alloc, Err(fault)),
+        }
+    }
+
+    // Drills with the scene's instrument.
+    fn drill(
+        &self,
+        alloc: Global,
+        source: &mut PieceSource<'_>,
+        output: &mut Taking,
+    ) -> Result<(), RunFault> {
+        let instrument = read_scene(alloc, self.scene.as_slice())?;
+        run_drill_on(alloc, instrument, source, output, self.totals, self.width())
     }
 
     // Reads the input as a scene.
@@ -188,30 +292,41 @@ impl Setup {
     }
 
     // Asks the commands of the input.
-    fn ask<S: Source>(
+    fn ask(
         &self,
         alloc: Global,
-        source: &mut S,
+        source: &mut PieceSource<'_>,
         link: &mut Taking,
-        sink: &mut Taking,
+        output: &mut Taking,
     ) -> Result<(), RunFault> {
         let mut link_in = PieceSource::new(
             self.link.as_slice(),
             self.link_sizes.as_slice(),
             self.answers.link_in,
         );
-        run_ask(alloc, source, &mut link_in, link, sink, self.allowed)
+        run_ask(alloc, source, &mut link_in, link, output, self.allowed)
     }
 
     // Asks the commands of the input over two pipes.
-    fn loop_on<S: Source>(
+    fn ask_in_a_loop(
         &self,
         alloc: Global,
-        instrument: Instrument,
-        source: &mut S,
-        sink: &mut Taking,
+        source: &mut PieceSource<'_>,
+        output: &mut Taking,
     ) -> Result<(), RunFault> {
         let (up, down) = (Pipe::new(alloc), Pipe::new(alloc));
+        self.loop_over(alloc, &up, &down, source, output)
+    }
+
+    // Asks them of the scene's instrument over these pipes.
+    fn loop_over(
+        &self,
+        alloc: Global,
+        up: &Pipe,
+        down: &Pipe,
+        source: &mut PieceSource<'_>,
+        output: &mut Taking,
+    ) -> Result<(), RunFault> {
         let most = self.link_most.max(1);
         let mut client = Duplex {
             source: down.source(self.answers.link_in),
@@ -223,11 +338,11 @@ impl Setup {
         };
         run_loop_on(
             alloc,
-            instrument,
+            read_scene(alloc, self.scene.as_slice())?,
             source,
             &mut client,
             &mut instrument_end,
-            sink,
+            output,
             self.allowed,
         )
     }

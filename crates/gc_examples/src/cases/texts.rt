@@ -1,14 +1,15 @@
 //! The texts: one that is read, as what it gives; a line of a log or of a text at fault; a place; a fault as it is told.
 
-use gc_cases::{Case, Player, bytes_of, text_of};
+use gc_cases::{Case, Player, bytes_of, push_text, tell};
 use gc_engines::read_schedule;
 use gc_lines::{Sink, ToWriter};
 use gc_links::place_of;
 use gc_texts::{
-    LogBytes, LogMark, RunFault, Tasks, line_at, read_commands, read_log_line, read_tasks,
-    trouble_of, write_log_line,
+    Command, LogBytes, LogMark, RunFault, Task, Tasks, line_at, read_commands, read_log_line,
+    read_tasks, trouble_of, write_log_line,
 };
-use std::alloc::Global;
+use gc_world::Event;
+use std::alloc::{AllocError, Global};
 use std::io;
 
 /// Plays `.texts`.
@@ -19,35 +20,38 @@ impl Player for Texts {
         ".texts"
     }
 
-    fn key(&self, place: usize) -> Option<&'static str> {
-        ["is", "name"].get(place).copied()
-    }
-
-    fn play(&self, rt: &HostRuntime, case: &Case<'_>) -> io::Result<Vec<Vec<u8>>> {
-        let alloc = rt.alloc();
-        let mut came = Vec::new(alloc);
-        let text = bytes_of(alloc, case.value("text"))?;
-        came.push(read(alloc, case, text.as_slice())?)?;
-        if case.value("of") != "" {
-            came.push(name(alloc, case, text.as_slice())?)?;
-        }
-        Ok(came)
+    fn play(&self, rt: &HostRuntime, case: &Case<'_>, wrong: &mut String) -> io::Result<()> {
+        let text = bytes_of(rt.alloc(), case.value("text"))?;
+        let is = read(rt.alloc(), case, text.as_slice())?;
+        tell(case, "is", is.as_slice(), wrong)?;
+        Ok(tell_name(rt.alloc(), case, text.as_slice(), wrong)?)
     }
 }
 
 // What a text is, read as the case says.
 fn read(alloc: Global, case: &Case<'_>, text: &[u8]) -> io::Result<Vec<u8>> {
     match case.value("as") {
+        "line" => Ok(Vec::from_slice(alloc, line_at(text, count(case, "line")))?),
+        "trouble" => trouble(alloc, text),
+        "log" => Ok(log(alloc, text)?),
+        "fault" => fault(alloc, case),
+        word => Ok(read_text(alloc, word, case, text)?.into_bytes()),
+    }
+}
+
+fn read_text(
+    alloc: Global,
+    word: &str,
+    case: &Case<'_>,
+    text: &[u8],
+) -> Result<String, AllocError> {
+    match word {
         "commands" => commands(alloc, text),
         "schedule" => schedule(alloc, text),
         "tasks" => tasks(alloc, case, text),
-        "line" => Ok(Vec::from_slice(alloc, line_at(text, count(case, "line")))?),
-        "trouble" => trouble(alloc, text),
         "place" => place(alloc, text),
         "log line" => log_line(alloc, text),
-        "log" => log(alloc, text),
-        "fault" => fault(alloc, case),
-        _ => Ok(Vec::from_slice(alloc, b"no such text")?),
+        _ => String::from_str(alloc, "no such text"),
     }
 }
 
@@ -56,35 +60,36 @@ fn count(case: &Case<'_>, key: &str) -> u32 {
     case.value(key).parse::<u32>().unwrap_or(0)
 }
 
-fn refused(alloc: Global, fault: RunFault) -> io::Result<Vec<u8>> {
-    Ok(format!(in alloc; "{fault}")?.into_bytes())
+// Each command, with a line for each.
+fn commands(alloc: Global, text: &[u8]) -> Result<String, AllocError> {
+    match read_commands(alloc, text) {
+        Ok(commands) => commands_text(alloc, commands.as_slice()),
+        Err(fault) => format!(in alloc; "{fault}"),
+    }
 }
 
-// Each command, with a line for each.
-fn commands(alloc: Global, text: &[u8]) -> io::Result<Vec<u8>> {
-    let commands = match read_commands(alloc, text) {
-        Ok(commands) => commands,
-        Err(fault) => return refused(alloc, fault),
-    };
+fn commands_text(alloc: Global, commands: &[Command]) -> Result<String, AllocError> {
     let mut told = String::new(alloc);
-    for command in &commands {
-        let line = format!(in alloc; "{} {:?}\n", command.target, command.call)?;
-        told.push_str(line.as_str())?;
+    for command in commands {
+        write!(told, "{} {:?}\n", command.target, command.call)?;
     }
-    Ok(told.into_bytes())
+    Ok(told)
 }
 
 // Each event, with a line for each.
-fn schedule(alloc: Global, text: &[u8]) -> io::Result<Vec<u8>> {
-    let events = match read_schedule(alloc, text) {
-        Ok(events) => events,
-        Err(fault) => return refused(alloc, fault),
-    };
-    let mut told = String::new(alloc);
-    for event in &events {
-        told.push_str(format!(in alloc; "{event:?}\n")?.as_str())?;
+fn schedule(alloc: Global, text: &[u8]) -> Result<String, AllocError> {
+    match read_schedule(alloc, text) {
+        Ok(events) => events_text(alloc, events.as_slice()),
+        Err(fault) => format!(in alloc; "{fault}"),
     }
-    Ok(told.into_bytes())
+}
+
+fn events_text(alloc: Global, events: &[Event]) -> Result<String, AllocError> {
+    let mut told = String::new(alloc);
+    for event in events {
+        write!(told, "{event:?}\n")?;
+    }
+    Ok(told)
 }
 
 // Reads a station's text, in whose front the deadline and the mode of the case hold.
@@ -94,27 +99,46 @@ fn tasks_of(alloc: Global, case: &Case<'_>, text: &[u8]) -> Result<Tasks, RunFau
 }
 
 // Each task, with a line for each, and how many names there are.
-fn tasks(alloc: Global, case: &Case<'_>, text: &[u8]) -> io::Result<Vec<u8>> {
-    let all = match tasks_of(alloc, case, text) {
-        Ok(all) => all,
-        Err(fault) => return refused(alloc, fault),
-    };
-    let mut told = String::new(alloc);
-    for task in &all.tasks {
-        let mode = if task.chained { " chained" } else { "" };
-        let (target, call) = (task.command.target, task.command.call.number());
-        let line = format!(in alloc; "{target} {call} within {}{mode}\n", task.deadline)?;
-        told.push_str(line.as_str())?;
+fn tasks(alloc: Global, case: &Case<'_>, text: &[u8]) -> Result<String, AllocError> {
+    match tasks_of(alloc, case, text) {
+        Ok(all) => tasks_text(alloc, all.tasks.as_slice(), all.names.len()),
+        Err(fault) => format!(in alloc; "{fault}"),
     }
-    told.push_str(format!(in alloc; "{} names", all.names.len())?.as_str())?;
-    Ok(told.into_bytes())
 }
 
-// The name of a target.
-fn name(alloc: Global, case: &Case<'_>, text: &[u8]) -> io::Result<Vec<u8>> {
+fn tasks_text(alloc: Global, tasks: &[Task], names: usize) -> Result<String, AllocError> {
+    let mut told = String::new(alloc);
+    for task in tasks {
+        push_task(task, &mut told)?;
+    }
+    write!(told, "{names} names")?;
+    Ok(told)
+}
+
+fn push_task(task: &Task, told: &mut String) -> Result<(), AllocError> {
+    let mode = if task.chained { " chained" } else { "" };
+    let (target, call) = (task.command.target, task.command.call.number());
+    write!(told, "{target} {call} within {}{mode}\n", task.deadline)
+}
+
+// Tells the name of the target that the case asks for.
+fn tell_name(
+    alloc: Global,
+    case: &Case<'_>,
+    text: &[u8],
+    wrong: &mut String,
+) -> Result<(), AllocError> {
+    if case.value("of") == "" {
+        return Ok(());
+    }
     match tasks_of(alloc, case, text) {
-        Ok(all) => Ok(Vec::from_slice(alloc, all.name_of(count(case, "of")))?),
-        Err(fault) => refused(alloc, fault),
+        Ok(all) => tell(case, "name", all.name_of(count(case, "of")), wrong),
+        Err(fault) => tell(
+            case,
+            "name",
+            format!(in alloc; "{fault}")?.as_bytes(),
+            wrong,
+        ),
     }
 }
 
@@ -125,40 +149,45 @@ fn trouble(alloc: Global, line: &[u8]) -> io::Result<Vec<u8>> {
     Ok(told)
 }
 
-fn place(alloc: Global, word: &[u8]) -> io::Result<Vec<u8>> {
-    let place = match place_of(str::from_utf8(word).unwrap_or("no text")) {
-        Some(place) => format!(in alloc; "{place:?}")?,
-        None => String::from_str(alloc, "none")?,
-    };
-    Ok(place.into_bytes())
+fn place(alloc: Global, word: &[u8]) -> Result<String, AllocError> {
+    match place_of(str::from_utf8(word).unwrap_or("no text")) {
+        Some(place) => format!(in alloc; "{place:?}"),
+        None => String::from_str(alloc, "none"),
+    }
 }
 
 // A line of a log as its moment, its mark and its bytes.
-fn log_line(alloc: Global, line: &[u8]) -> io::Result<Vec<u8>> {
+fn log_line(alloc: Global, line: &[u8]) -> Result<String, AllocError> {
     let Some(line) = read_log_line(line) else {
-        return Ok(Vec::from_slice(alloc, b"no log line")?);
+        return String::from_str(alloc, "no log line");
     };
-    let moment = text_of(alloc, line.moment)?;
-    let mark = text_of(alloc, line.mark.text())?;
-    let bytes = text_of(alloc, line.bytes.as_slice())?;
-    let told = format!(in alloc; "{} {} {}", moment.as_str(), mark.as_str(), bytes.as_str())?;
-    Ok(told.into_bytes())
+    let mut told = String::new(alloc);
+    push_text(&mut told, line.moment)?;
+    told.push(' ')?;
+    push_text(&mut told, line.mark.text())?;
+    told.push(' ')?;
+    push_text(&mut told, line.bytes.as_slice())?;
+    Ok(told)
 }
 
 // A line that went, in a log, a second after the beginning of 1970.
-fn log(alloc: Global, text: &[u8]) -> io::Result<Vec<u8>> {
+fn log(alloc: Global, text: &[u8]) -> Result<Vec<u8>, AllocError> {
+    let mut written = Vec::new(alloc);
+    if put_log(text, &mut written) {
+        return Vec::from_slice(alloc, b"not written");
+    }
+    Ok(written)
+}
+
+// Writes it, and says whether that failed.
+fn put_log(text: &[u8], written: &mut Vec<u8>) -> bool {
     let mut bytes = LogBytes::new();
     for byte in text {
         let _ = bytes.try_push(*byte);
     }
-    let mut written = Vec::new(alloc);
-    let mut sink = ToWriter::new(&mut written);
+    let mut sink = ToWriter::new(written);
     let _ = write_log_line(&mut sink, 1000, LogMark::Went, &bytes);
-    let has_failed = sink.has_failed();
-    if has_failed {
-        return Ok(Vec::from_slice(alloc, b"not written")?);
-    }
-    Ok(written)
+    sink.has_failed()
 }
 
 // A fault: its number, what `Display` prints, and its line.

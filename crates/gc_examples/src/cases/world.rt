@@ -6,7 +6,7 @@ ghost use Rattle.gc_client.specs.declared.window.TheConstants.{WINDOW};
 use crate::cases::single_bytes::in_single_bytes;
 use gc_cases::{Case, Player, Rows, play_rows, push_bytes};
 use gc_catalogue::Call;
-use gc_client::{Client, Outcome, Ring, Slots, Window};
+use gc_client::{Client, Outcome, Ring, Settlement, Slots, Window};
 use gc_engines::read_schedule;
 use gc_instrument::Instrument;
 use gc_values::read_whole;
@@ -87,16 +87,31 @@ impl Worlds {
     ) -> Result<(), AllocError> {
         let told = self.told(alloc, Slots::new(), events)?;
         came.push_str(told.as_str())?;
+        self.tell_ring(alloc, events, told.as_str(), came)?;
+        self.tell_pieces(alloc, events, told.as_str(), came)
+    }
+
+    fn tell_ring(
+        &self,
+        alloc: Global,
+        events: &[Event],
+        told: &str,
+        came: &mut String,
+    ) -> Result<(), AllocError> {
         let other = self.told(alloc, Ring::new(alloc)?, events)?;
-        push_other(came, told.as_str(), ", and over a ring ", other.as_str())?;
+        push_other(came, told, ", and over a ring ", other.as_str())
+    }
+
+    fn tell_pieces(
+        &self,
+        alloc: Global,
+        events: &[Event],
+        told: &str,
+        came: &mut String,
+    ) -> Result<(), AllocError> {
         let pieces = in_single_bytes(alloc, self, events)?;
         let other = self.told(alloc, Slots::new(), pieces.as_slice())?;
-        push_other(
-            came,
-            told.as_str(),
-            ", and in single bytes ",
-            other.as_str(),
-        )
+        push_other(came, told, ", and in single bytes ", other.as_str())
     }
 
     // One of the lists that the events lead to, or another part of the report.
@@ -108,18 +123,31 @@ impl Worlds {
         came: &mut String,
     ) -> Result<(), AllocError> {
         let (report, _) = self.play(alloc, Slots::new(), events)?;
-        match word {
-            "executed" => write!(came, "{:?}", report.executed.as_slice()),
-            "starts" => write!(came, "{:?}", report.starts.as_slice()),
-            "kept" => write!(came, "{:?}", report.instrument.kept_id()),
-            _ => write!(
-                came,
-                "at start: up {}, down {}",
-                report.up.at_start(),
-                report.down.at_start()
-            ),
+        tell_part(&report, word, came)
+    }
+
+    // Tells what the events so far lead to.
+    fn tell_events(&self, alloc: Global, word: &str, came: &mut String) -> Result<(), AllocError> {
+        match read_schedule(alloc, self.text.as_bytes()) {
+            Ok(events) if word == "end" => self.tell_end(alloc, events.as_slice(), came),
+            Ok(events) => self.ask(alloc, word, events.as_slice(), came),
+            Err(_) => came.push_str("no schedule"),
         }
     }
+}
+
+fn tell_part(report: &Report, word: &str, came: &mut String) -> Result<(), AllocError> {
+    match word {
+        "executed" => write!(came, "{:?}", report.executed.as_slice()),
+        "starts" => write!(came, "{:?}", report.starts.as_slice()),
+        "kept" => write!(came, "{:?}", report.instrument.kept_id()),
+        _ => tell_starts(report, came),
+    }
+}
+
+fn tell_starts(report: &Report, came: &mut String) -> Result<(), AllocError> {
+    let (up, down) = (report.up.at_start(), report.down.at_start());
+    write!(came, "at start: up {up}, down {down}")
 }
 
 impl Rows for Worlds {
@@ -128,6 +156,7 @@ impl Rows for Worlds {
         alloc: Global,
         word: &str,
         what: &str,
+        _bytes: &[u8],
         came: &mut String,
     ) -> Result<(), AllocError> {
         match word {
@@ -140,16 +169,7 @@ impl Rows for Worlds {
                 self.precision = i16::try_from(number(what)).unwrap_or(15);
                 Ok(())
             }
-            "end" | "executed" | "starts" | "kept" | "lines" => {
-                let Ok(events) = read_schedule(alloc, self.text.as_bytes()) else {
-                    return came.push_str("no schedule");
-                };
-                if word == "end" {
-                    self.tell_end(alloc, events.as_slice(), came)
-                } else {
-                    self.ask(alloc, word, events.as_slice(), came)
-                }
-            }
+            "end" | "executed" | "starts" | "kept" | "lines" => self.tell_events(alloc, word, came),
             _ => came.push_str("an unknown word"),
         }
     }
@@ -174,38 +194,39 @@ fn tell<W: Window>(
     client: &Client<W>,
     came: &mut String,
 ) -> Result<(), AllocError> {
-    for (m, settlement) in report.settled.as_slice().iter().enumerate() {
+    tell_settled(report.settled.as_slice(), came)?;
+    tell_counts(report, came)?;
+    let (waiting, next) = (client.waiting(), client.next_id());
+    write!(came, "; {waiting} wait, next {next}")
+}
+
+fn tell_settled(settled: &[Settlement], came: &mut String) -> Result<(), AllocError> {
+    for (m, settlement) in settled.iter().enumerate() {
         write!(came, "{m} {} ", settlement.target)?;
-        match &settlement.outcome {
-            Outcome::Answered(_, line) => {
-                came.push_str("answered ")?;
-                push_bytes(came, line.as_slice())?;
-            }
-            Outcome::Late => came.push_str("late")?,
-            Outcome::Lost => came.push_str("lost")?,
-        }
+        tell_outcome(&settlement.outcome, came)?;
         came.push_str(" / ")?;
     }
-    tell_counts(report, came)?;
-    write!(
-        came,
-        "; {} wait, next {}",
-        client.waiting(),
-        client.next_id()
-    )
+    Ok(())
+}
+
+fn tell_outcome(outcome: &Outcome, came: &mut String) -> Result<(), AllocError> {
+    match outcome {
+        Outcome::Answered(_, line) => {
+            came.push_str("answered ")?;
+            push_bytes(came, line.as_slice())
+        }
+        Outcome::Late => came.push_str("late"),
+        Outcome::Lost => came.push_str("lost"),
+    }
 }
 
 fn tell_counts(report: &Report, came: &mut String) -> Result<(), AllocError> {
-    write!(
-        came,
-        "sent {} executed {} made {} settled {} refused {} idle {}",
-        report.sent.len(),
-        report.executed.len(),
-        report.made.len(),
-        report.settled.len(),
-        report.refused_sends,
-        report.idle_events
-    )
+    let (sent, executed) = (report.sent.len(), report.executed.len());
+    write!(came, "sent {sent} executed {executed} ")?;
+    let (made, settled) = (report.made.len(), report.settled.len());
+    write!(came, "made {made} settled {settled} ")?;
+    let (refused, idle) = (report.refused_sends, report.idle_events);
+    write!(came, "refused {refused} idle {idle}")
 }
 
 /// Rows of the world, behind the events of a schedule where the case names one.
@@ -216,13 +237,9 @@ impl Player for World {
         ".world"
     }
 
-    fn key(&self, _place: usize) -> Option<&'static str> {
-        Some("do")
-    }
-
-    fn play(&self, rt: &HostRuntime, case: &Case<'_>) -> io::Result<Vec<Vec<u8>>> {
-        let events = first_events(rt, case)?;
-        Ok(play_rows(rt.alloc(), case, &mut Worlds::new(events))?)
+    fn play(&self, rt: &HostRuntime, case: &Case<'_>, wrong: &mut String) -> io::Result<()> {
+        let mut world = Worlds::new(first_events(rt, case)?);
+        Ok(play_rows(rt.alloc(), case, &mut world, wrong)?)
     }
 }
 

@@ -77,7 +77,7 @@ impl Kept {
         }
     }
 
-    /// Keeps the id of a request and the line of its reply, where it carried an id.
+    /// Keeps a request's id and the line of its reply. Where the request carried no id, nothing changes.
     #[inline]
     pub fn keep(&mut self, id: Option<u8>, line: &[u8])
         requires { length line.now ≤ 512 }

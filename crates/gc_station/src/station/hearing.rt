@@ -5,10 +5,10 @@ ghost use Rattle.std.specs.Option.{option_to_list};
 ghost use Rattle.gc_lines.specs.Frames.{line_in};
 ghost use Rattle.gc_lines.specs.Lent.{lent_seen, IsLineWithin};
 ghost use Rattle.gc_lines.specs.Ports.{FailsWith};
-ghost use Rattle.gc_station.specs.Standing.{Standing, is_heard, with_progress, lines_came, piece_came, piece_asked, came, piece_at, moved};
+ghost use Rattle.gc_station.specs.Model.{Model, is_heard, with_progress, lines_came, piece_came, piece_asked, came, piece_at, moved};
 ghost use Rattle.gc_station.specs.Progressing.{lines_asked};
-ghost use Rattle.gc_station.specs.Stations.{Stands, Took, Made, Follows, seen};
-ghost use Rattle.gc_station.specs.declared.progress.Order.TheVariants.{Read};
+ghost use Rattle.gc_station.specs.Stations.{Refines, Took, Made, ComesTo, seen};
+ghost use Rattle.gc_station.specs.declared.progress.Action.TheVariants.{Read};
 ghost use Rattle.gc_texts.specs.declared.tasks.Task.{Task};
 
 use super::Station;
@@ -24,8 +24,8 @@ impl Station {
     // Takes the line of a frame, if it is one, and writes down what it settles.
     fn hear<B: Book>(&mut self, book: &mut B, frame: Lent<'_>) -> Result<(), PortFailed>
         requires { IsLineWithin frame }
-        ensures hears { (s : Standing) (start : Option (List ℕ)) → Stands self.old s → Took (B.text book.old) start (B.taken book.old) s
-            → Follows (B.text book.old) s.records self.new start (B.taken book.new) (lines_came s (option_to_list (line_in (lent_seen frame.entry)))) result }
+        ensures hears { (s : Model) (start : Option (List ℕ)) → Refines self.old s → Took (B.text book.old) start (B.taken book.old) s
+            → ComesTo (B.text book.old) s.records self.new start (B.taken book.new) (lines_came s (option_to_list (line_in (lent_seen frame.entry)))) result }
         ensures fails { FailsWith result (B.failed book.old) (B.failed book.new) }
         ensures form { B.text book.new ≡ B.text book.old }
     {
@@ -42,8 +42,8 @@ impl Station {
 
     // Takes the lines of a piece.
     fn listen<B: Book>(&mut self, book: &mut B, piece: &[u8]) -> Result<(), PortFailed>
-        ensures listens { (s : Standing) (start : Option (List ℕ)) → Stands self.old s → Took (B.text book.old) start (B.taken book.old) s
-            → Follows (B.text book.old) s.records self.new start (B.taken book.new) (piece_came piece.now s) result }
+        ensures listens { (s : Model) (start : Option (List ℕ)) → Refines self.old s → Took (B.text book.old) start (B.taken book.old) s
+            → ComesTo (B.text book.old) s.records self.new start (B.taken book.new) (piece_came piece.now s) result }
         ensures fails { FailsWith result (B.failed book.old) (B.failed book.new) }
         ensures form { B.text book.new ≡ B.text book.old }
     {
@@ -71,7 +71,7 @@ impl Station {
 
     // While it begins, takes the lines of a piece.
     fn listen_null(&mut self, piece: &[u8])
-        ensures { (s : Standing) → Stands self.old s → Stands self.new (piece_asked piece.now s) }
+        ensures { (s : Model) → Refines self.old s → Refines self.new (piece_asked piece.now s) }
     {
         let mut cut = Line::new();
         let mut at = 0;
@@ -84,8 +84,8 @@ impl Station {
 
     // Takes the lines of a piece where they are heard.
     fn take_lines<B: Book>(&mut self, book: &mut B, piece: &[u8]) -> Result<(), PortFailed>
-        ensures takes { (s : Standing) (start : Option (List ℕ)) → Stands self.old s → Took (B.text book.old) start (B.taken book.old) s
-            → Follows (B.text book.old) s.records self.new start (B.taken book.new) (came (is_heard s.progress.phase) s.progress.word piece.now s) result }
+        ensures takes { (s : Model) (start : Option (List ℕ)) → Refines self.old s → Took (B.text book.old) start (B.taken book.old) s
+            → ComesTo (B.text book.old) s.records self.new start (B.taken book.new) (came (is_heard s.progress.phase) s.progress.word piece.now s) result }
         ensures fails { FailsWith result (B.failed book.old) (B.failed book.new) }
         ensures form { B.text book.new ≡ B.text book.old }
     {
@@ -108,8 +108,8 @@ impl Station {
         piece: &[u8],
         now: Moment,
     ) -> Result<(), PortFailed>
-        ensures takes { (s : Standing) (start : Option (List ℕ)) → Stands self.old s → Took (B.text book.old) start (B.taken book.old) s
-            → Follows (B.text book.old) s.records self.new start (B.taken book.new) (piece_at plan.now until piece.now now s) result }
+        ensures takes { (s : Model) (start : Option (List ℕ)) → Refines self.old s → Took (B.text book.old) start (B.taken book.old) s
+            → ComesTo (B.text book.old) s.records self.new start (B.taken book.new) (piece_at plan.now until piece.now now s) result }
         ensures fails { FailsWith result (B.failed book.old) (B.failed book.new) }
         ensures form { B.text book.new ≡ B.text book.old }
     {

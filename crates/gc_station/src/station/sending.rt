@@ -7,9 +7,9 @@ ghost use Rattle.gc_catalogue.specs.declared.call.Call.TheVariants.{NullProc};
 ghost use Rattle.gc_links.specs.Acts.{Tells, put_as, IsPart};
 ghost use Rattle.gc_station.specs.Deciding.{later, has_begun};
 ghost use Rattle.gc_station.specs.Records.{Record};
-ghost use Rattle.gc_station.specs.Standing.{request_text, null_text, client_sent};
+ghost use Rattle.gc_station.specs.Model.{request_text, null_text, client_sent};
 ghost use Rattle.gc_station.specs.Stations.{IsPaired, Does, cut_progress, seen};
-ghost use Rattle.gc_station.specs.declared.progress.Order.TheVariants.{Clear, Ask, Send, Flush};
+ghost use Rattle.gc_station.specs.declared.progress.Action.TheVariants.{Clear, Ask, Send, Flush};
 
 use super::Station;
 use crate::cause::Cause;
@@ -129,9 +129,9 @@ impl Station {
         let requests = self.requests_out(plan, commands);
         let mark = self.mark(plan, commands);
         let task = &commands[self.place(commands)];
-        let bound = self.bound_next(commands);
+        let next_is_chained = self.is_chained_behind_next(commands);
         let put = self.ask(link, &task.command, task.deadline, Some(mark));
-        self.progress.send(bound);
+        self.progress.send(next_is_chained);
         self.cut(put, requests);
     }
 

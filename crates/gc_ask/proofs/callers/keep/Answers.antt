@@ -21,6 +21,7 @@ pub returns : goal.returns
 returns g c =
     let all : c.loop-at.at ≡ c.args.most = omega (arith, c.loop-at-test.false, c.loop-at.invariant.within) in
     record {
-      kept = subst (λ (n : ℕ). Kept n c.loop-at.told (g.C.Callers.served c.args.callers.now) (g.C.Callers.served c.loop-at.callers) (g.E.Write.contents c.args.messages.now) (g.E.Write.contents c.loop-at.messages))
+      kept = subst (λ (n : ℕ). Kept n c.loop-at.told (g.C.Callers.served c.args.callers.now) (g.C.Callers.served c.loop-at.callers)
+          (g.E.Write.contents c.args.messages.now) (g.E.Write.contents c.loop-at.messages))
           all c.loop-at.invariant.kept;
     }

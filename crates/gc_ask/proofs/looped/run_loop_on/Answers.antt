@@ -28,7 +28,8 @@ returns-clause-memory g c is =
     let link = c.run_over.new.link in
     let same = c.run_over.ensures.memory is in
     let all : (g.A.Source.remaining link.client_in.now ≡ g.A.Source.remaining c.args.client.now.source) × (g.A.Source.reads link.client_in.now ≡ g.A.Source.reads c.args.client.now.source)
-    × (g.C.Source.remaining link.instrument_in.now ≡ g.C.Source.remaining c.args.instrument_end.now.source) × (g.C.Source.reads link.instrument_in.now ≡ g.C.Source.reads c.args.instrument_end.now.source)
+    × (g.C.Source.remaining link.instrument_in.now ≡ g.C.Source.remaining c.args.instrument_end.now.source)
+    × (g.C.Source.reads link.instrument_in.now ≡ g.C.Source.reads c.args.instrument_end.now.source)
     × (g.B.Sink.taken link.client_out.now ≡ g.B.Sink.taken c.args.client.now.sink) × (g.D.Sink.taken link.instrument_out.now ≡ g.D.Sink.taken c.args.instrument_end.now.sink)
     × (g.K.Sink.taken c.run_over.new.sink ≡ g.K.Sink.taken c.args.sink.now) = (
       ap (λ (p : Ports). p.remaining) same.0,

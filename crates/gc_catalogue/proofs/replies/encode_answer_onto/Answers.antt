@@ -12,20 +12,24 @@ use Rattle.gc_catalogue.proofs.Table.{few_values_out, values-rounded}
 use Rattle.gc_catalogue.proofs.replies.encode_answer_onto.Goals as goal
 
 -- the values before commas, and that they lie in their ranges
-handed : (g : _) (c : goal.After-pop g) → (c.write_row.new.to.items ≡ c.push.new.self.items ++ before_commas (shown_values (Some c.args.places) (answer_fields c.args.answer.now).values)) × AreValues (shown_values (Some c.args.places) (answer_fields c.args.answer.now).values)
+handed : (g : _) (c : goal.After-pop g) → (c.write_row.new.to.items ≡ c.push.new.self.items ++ before_commas
+    (shown_values (Some c.args.places) (answer_fields c.args.answer.now).values))
+    × AreValues (shown_values (Some c.args.places) (answer_fields c.args.answer.now).values)
 handed g c = c.write_row.ensures c.write_row.new.to (sym (append-nil _), tt)
 
 -- the reply through its return code, and the values behind commas
 listed : (g : _) (c : goal.After-pop g) → c.pop.new.self.items ≡ c.push_reply.new.to.items ++ behind_commas (answer_fields (rounded_answer c.args.places c.args.answer.now)).values
 listed g c =
-    comma_list c.push_reply.new.to.items (shown_values (Some c.args.places) (answer_fields c.args.answer.now).values) c.push.new.self.items c.write_row.new.to.items c.pop.new.self.items c.push.ensures.items (handed g c).0 c.pop.ensures.rest
+    comma_list c.push_reply.new.to.items (shown_values (Some c.args.places) (answer_fields c.args.answer.now).values) c.push.new.self.items
+    c.write_row.new.to.items c.pop.new.self.items c.push.ensures.items (handed g c).0 c.pop.ensures.rest
     ∙ ap (λ vs. c.push_reply.new.to.items ++ behind_commas vs) (sym (values-rounded c.args.places c.args.answer.now))
 
 pub returns-clause-line : goal.returns-clause-line
 returns-clause-line g c =
     let vs : List Value = (answer_fields (rounded_answer c.args.places c.args.answer.now)).values in
     let head : List ℕ = reply_text (record { rc_com = 0; id = Some c.args.id; rc = c.args.rc; params = [] }) in
-    let whole : head ++ behind_commas vs ≡ reply_text (record { rc_com = 0; id = Some c.args.id; rc = c.args.rc; params = params_of vs }) = ap (λ bytes. head ++ bytes) (sym (params_text-params_of vs)) ∙ reply_text-params 0 (Some c.args.id) c.args.rc (params_of vs) in
+    let whole : head ++ behind_commas vs ≡ reply_text (record { rc_com = 0; id = Some c.args.id; rc = c.args.rc; params = params_of vs }) =
+    ap (λ bytes. head ++ bytes) (sym (params_text-params_of vs)) ∙ reply_text-params 0 (Some c.args.id) c.args.rc (params_of vs) in
     listed g c ∙ ap (λ bytes. bytes ++ behind_commas vs) c.push_reply.ensures.items ∙ append_assoc c.args.out.now.items head (behind_commas vs) ∙ ap (λ bytes. c.args.out.now.items ++ bytes) whole
 
 pub returns-clause-fitting : goal.returns-clause-fitting
@@ -46,4 +50,13 @@ returns-clause-refused g c = λ call refused.
 pub returns-clause-bound : goal.returns-clause-bound
 returns-clause-bound g c =
     let answer = rounded_answer c.args.places c.args.answer.now in
-    omega (arith, ap (λ (bytes : List ℕ). length bytes) (listed g c), length-append c.push_reply.new.to.items (behind_commas (answer_fields answer).values), behind_short (answer_fields answer).values (returns-clause-fitting g c), few_values_out answer, c.push_reply.ensures.len)
+    omega (
+      arith,
+      ap (λ (bytes : List ℕ). length bytes) (listed g c),
+      length-append c.push_reply.new.to.items
+          (behind_commas (answer_fields answer).values),
+      behind_short (answer_fields answer).values
+          (returns-clause-fitting g c),
+      few_values_out answer,
+      c.push_reply.ensures.len,
+    )

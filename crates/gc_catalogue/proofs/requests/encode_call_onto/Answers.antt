@@ -10,12 +10,15 @@ use Rattle.gc_catalogue.proofs.Table.{number_fits}
 use Rattle.gc_catalogue.proofs.requests.encode_call_onto.Goals as goal
 
 -- the head and the values before commas, and that the values lie in their ranges
-begun : (g : _) (c : goal.After-end_list g) → (c.write_row.new.to.items ≡ c.args.out.now.items ++ (request_text (record { rpc = (call_fields c.args.call.now).number; id = c.args.id; params = [] }) ++ before_commas (call_fields c.args.call.now).values)) × AreValues (call_fields c.args.call.now).values
+begun : (g : _) (c : goal.After-end_list g) → (c.write_row.new.to.items ≡ c.args.out.now.items ++
+    (request_text (record { rpc = (call_fields c.args.call.now).number; id = c.args.id; params = [] }) ++ before_commas (call_fields c.args.call.now).values))
+    × AreValues (call_fields c.args.call.now).values
 begun g c = c.write_row.ensures.takes c.write_row.new.to (sym (append-nil _), tt)
 
 pub returns-clause-line : goal.returns-clause-line
 returns-clause-line g c =
-    request_ends c.args.out.now.items (call_fields c.args.call.now).number c.args.id (call_fields c.args.call.now).values c.write_row.new.to.items c.end_list.new.out.items (begun g c).0 c.end_list.ensures.comma c.end_list.ensures.other
+    request_ends c.args.out.now.items (call_fields c.args.call.now).number c.args.id
+    (call_fields c.args.call.now).values c.write_row.new.to.items c.end_list.new.out.items (begun g c).0 c.end_list.ensures.comma c.end_list.ensures.other
 
 pub returns-clause-fitting : goal.returns-clause-fitting
 returns-clause-fitting g c = (begun g c).1

@@ -25,7 +25,8 @@ loop-k-preserved g c =
           let s = w.set_lost.new.settlement in
           let written = one_written old k (map lost (take k ws)) s (lost p) lt before.settled w.set_lost.ensures in
           record {
-            settled = subst (λ (x : ArrayVec Settlement). AreSettlements (take (k + 1) x.items) (map lost (take (k + 1) ws))) (sym w.settled-is) (subst (λ (rs : List Rule.Settlement). AreSettlements (take (k + 1) (set old k s)) rs) (sym next) written);
+            settled = subst (λ (x : ArrayVec Settlement). AreSettlements (take (k + 1) x.items) (map lost (take (k + 1) ws))) (sym w.settled-is)
+                (subst (λ (rs : List Rule.Settlement). AreSettlements (take (k + 1) (set old k s)) rs) (sym next) written);
             left = left;
             places = ap (λ (x : ArrayVec Settlement). length x.items) w.settled-is ∙ length-set old k s ∙ before.places;
           }

@@ -6,4 +6,5 @@ use Rattle.gc_console.proofs.exec.exec_scene.Goals as goal
 pub returns-in-Ok-clause-told : goal.returns-in-Ok-clause-told
 returns-in-Ok-clause-told g c =
     IfOk-weaker c.exec.result _ _
-    (λ status told. inr (c.in-Ok.instrument, (λ none. same_start c.instrument_of.result c.in-Ok.instrument _ c.in-Ok.is (c.instrument_of.ensures.simulator none)), told.0, told.1, told.2)) c.exec.ensures.told
+    (λ status told. inr (c.in-Ok.instrument, (λ none. same_start c.instrument_of.result c.in-Ok.instrument _ c.in-Ok.is (c.instrument_of.ensures.simulator none)), told))
+    c.exec.ensures.told

@@ -8,9 +8,8 @@ pub returns-clause-told : goal.returns-clause-told
 returns-clause-told g c =
     IfOk-weaker c.tell_loss-ended.result _ _
     (λ status loss.
-    let t = IfOk-at_ok _ loss.0 c.measure_over-streams.ensures.told in
     let lost = subst (λ lost. TellsLoss lost (g.E.Write.contents c.measure_over-streams.result.0.messages) (g.E.Write.contents c.tell_loss-ended.new.messages)) c.has_lost_its_log.ensures loss.1 in
-    (t.0, t.1, c.measure_over-streams.result.0.messages, t.2, t.3, t.4, lost))
+    (c.measure_over-streams.result.0.messages, IfOk-at_ok _ loss.0 c.measure_over-streams.ensures.told, lost))
     c.tell_loss-ended.ensures.told
 
 pub returns-clause-done : goal.returns-clause-done
@@ -18,5 +17,6 @@ returns-clause-done g c =
     IfOk-weaker c.tell_loss-ended.result _ _
     (λ status loss zero.
     let done : exit_status status ≡ 0 → _ = IfOk-at_ok _ loss.0 c.measure_over-streams.ensures.done in
-    done zero)
+    let all = done zero in
+    record { between = all.between; is = all.is })
     c.tell_loss-ended.ensures.told

@@ -9,7 +9,8 @@ returns-then-not-is_front g c known is =
     let few : c.min-size.result ≤ length c.behind-rest.result.now = search rules in
     let room : c.loop-at.at + c.min-size.result ≤ c.args.len = search rules in
     sym (c.loop-at.invariant.same known is
-    ∙ looked_not c.loop-at.at (length c.read_all.new.buf) c.args.sign.now (content known) c.behind-rest.result.now c.behind-rest.ensures (omega (arith, size, few)) (omega (arith, size, room, c.requires known is))
+    ∙ looked_not c.loop-at.at (length c.read_all.new.buf) c.args.sign.now (content known) c.behind-rest.result.now c.behind-rest.ensures
+    (omega (arith, size, few)) (omega (arith, size, room, c.requires known is))
     (λ same. c.if-not-is_front.ensures.differ refl (same ∙ sym (c.in-Ok.ensures known is))))
 
 pub loop-at-preserved : goal.loop-at-preserved

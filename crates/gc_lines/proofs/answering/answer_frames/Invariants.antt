@@ -4,7 +4,8 @@ use Rattle.gc_lines.proofs.answering.answer_frames.Given as goal
 
 abbrev pub invariant-loop : goal.invariant-loop
 invariant-loop g l = record {
-  so : Given g.A.Answers.answers (g.S.Source.remaining l.initial.source) (g.S.Source.remaining l.source) (g.K.Sink.taken l.initial.sink) (g.K.Sink.taken l.sink) l.session.assembler l.initial.answerer l.answerer l.counter l.session.replies;
+  so : Given g.A.Answers.answers (g.S.Source.remaining l.initial.source) (g.S.Source.remaining l.source) (g.K.Sink.taken l.initial.sink)
+      (g.K.Sink.taken l.sink) l.session.assembler l.initial.answerer l.answerer l.counter l.session.replies;
   reads : g.S.Source.reads l.source ≡ g.S.Source.reads l.initial.source + l.counter;
   going : 0 < l.counter → g.S.Source.ended l.source ≡ false;
   source : g.S.Source.failed l.source ≡ g.S.Source.failed l.initial.source;

@@ -19,7 +19,14 @@ overflow_mul-value c =
 pub overflow_add-value : goal.overflow_add-value
 overflow_add-value c =
     let i = c.loop-len.invariant in
-    let h : c.loop-len.value * 10 + c.from.result < 2 ^ 32 = omega (arith, i.value, c.from.ensures, digit_range (get_or c.args.bytes.now c.loop-len.len 0) (search rules), value_small c.args.bytes.now c.loop-len.len i.digits i.few) in search rules
+    let h : c.loop-len.value * 10 + c.from.result < 2 ^ 32 = omega (
+      arith,
+      i.value,
+      c.from.ensures,
+      digit_range (get_or c.args.bytes.now c.loop-len.len 0)
+          (search rules),
+      value_small c.args.bytes.now c.loop-len.len i.digits i.few,
+    ) in search rules
 
 pub loop-len-preserved : goal.loop-len-preserved
 loop-len-preserved c =

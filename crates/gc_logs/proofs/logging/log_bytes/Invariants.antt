@@ -4,6 +4,7 @@ use Rattle.gc_logs.proofs.logging.log_bytes.Given as goal
 
 abbrev pub invariant-loop-b : goal.invariant-loop-b
 invariant-loop-b g l = record {
-  took : Takes (g.K.Sink.taken l.initial.sink) (g.K.Sink.taken l.sink) (g.K.Sink.failed l.initial.sink) (g.K.Sink.failed l.sink) (log_text_of l.utc (entries l.way l.initial.pending (take l.b-index l.bytes)));
+  took : Takes (g.K.Sink.taken l.initial.sink) (g.K.Sink.taken l.sink) (g.K.Sink.failed l.initial.sink) (g.K.Sink.failed l.sink)
+      (log_text_of l.utc (entries l.way l.initial.pending (take l.b-index l.bytes)));
   pending : l.pending ≡ pending_behind l.initial.pending (take l.b-index l.bytes);
 }

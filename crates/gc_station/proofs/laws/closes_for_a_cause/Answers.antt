@@ -1,5 +1,5 @@
 use Rattle.gc_links.specs.Acts.{Closed}
-use Rattle.gc_station.specs.Standing.{opening}
+use Rattle.gc_station.specs.Model.{opening}
 use Rattle.gc_station.proofs.Closings.{runs_split, closed_for}
 use Rattle.gc_station.proofs.laws.closes_for_a_cause.Goals as goal
 

@@ -5,7 +5,7 @@ use Rattle.gc_catalogue.specs.declared.call.Call.{Call}
 use Rattle.gc_station.specs.declared.progress.Progress.{Progress}
 use Rattle.gc_station.specs.Runs.{stood}
 use Rattle.gc_station.specs.Scopes.{Scope}
-use Rattle.gc_station.specs.Standing.{opening}
+use Rattle.gc_station.specs.Model.{opening}
 use Rattle.gc_station.proofs.Readings.{stood_reads, are_same}
 use Rattle.gc_station.proofs.Going.{on_call, went_nothing, went_same, went_kept, went_left, went_on, went_wrong, went_nearer, somewhere_on}
 use Rattle.gc_station.proofs.run.run.Goals as goal
@@ -20,11 +20,13 @@ returns-in-Err g c =
     record {
       ran = λ reads are.
           let scope : Scope = record { turns = c.args.max_turns; reads = reads } in
-          let w = went_kept plan commands scope text told (g.L.Link.acts c.loop-unkept.link) taken (g.B.Book.taken c.loop-unkept.book) (g.B.Book.taken c.keep.new.self) c.loop-unkept.station c.keep.ensures.same (c.loop-unkept.invariant.went reads are) in
-          inr (went_left plan commands scope text told (g.L.Link.acts c.loop-unkept.link) (g.L.Link.acts c.close.new.self) taken (g.B.Book.taken c.keep.new.self) c.loop-unkept.station w c.close.ensures);
-      lasts = tt;
+          let w = went_kept plan commands scope text told (g.L.Link.acts c.loop-unsynced.link) taken (g.B.Book.taken c.loop-unsynced.book)
+          (g.B.Book.taken c.sync.new.self) c.loop-unsynced.station c.sync.ensures.same (c.loop-unsynced.invariant.went reads are) in
+          inr (went_left plan commands scope text told (g.L.Link.acts c.loop-unsynced.link) (g.L.Link.acts c.close.new.self) taken
+          (g.B.Book.taken c.sync.new.self) c.loop-unsynced.station w c.close.ensures);
+      is_durable = tt;
       fails = c.in-Err.ensures.fails;
-      form = c.keep.ensures.form ∙ c.loop-unkept.invariant.form;
+      form = c.sync.ensures.form ∙ c.loop-unsynced.invariant.form;
     }
 
 pub returns-in-Err-step : goal.returns-in-Err-step
@@ -36,55 +38,70 @@ returns-in-Err-step g c =
     record {
       ran = λ reads are.
           let scope : Scope = record { turns = c.args.max_turns; reads = reads } in
-          let kept = went_kept plan commands scope (g.B.Book.text c.args.book.now) told (g.L.Link.acts c.loop-unkept.link) taken (g.B.Book.taken c.loop-unkept.book) (g.B.Book.taken c.keep.new.self) c.loop-unkept.station c.keep.ensures.same (c.loop-unkept.invariant.went reads are) in
-          let w = went_same plan commands scope (g.B.Book.text c.args.book.now) told (g.L.Link.acts c.loop-unkept.link) taken (g.B.Book.taken c.keep.new.self) (g.B.Book.taken c.tell_overrun-told.new.book) c.loop-unkept.station c.tell_overrun-told.ensures.taken kept in
+          let kept = went_kept plan commands scope (g.B.Book.text c.args.book.now) told (g.L.Link.acts c.loop-unsynced.link) taken
+          (g.B.Book.taken c.loop-unsynced.book) (g.B.Book.taken c.sync.new.self) c.loop-unsynced.station c.sync.ensures.same
+          (c.loop-unsynced.invariant.went reads are) in
+          let w = went_same plan commands scope (g.B.Book.text c.args.book.now) told (g.L.Link.acts c.loop-unsynced.link) taken (g.B.Book.taken c.sync.new.self)
+          (g.B.Book.taken c.tell_overrun-told.new.book) c.loop-unsynced.station c.tell_overrun-told.ensures.taken kept in
           let s = stood plan commands scope w.acts in
           let same = are_same s.reads reads (stood_reads plan commands scope w.acts) are in
-          inl (went_wrong plan commands scope (g.B.Book.text c.args.book.now) told (g.L.Link.acts c.loop-unkept.link) (g.L.Link.acts c.step.new.link) (g.L.Link.acts c.close-in-Err-step.new.self) taken (g.B.Book.taken c.tell_overrun-told.new.book) (g.B.Book.taken c.step.new.book) c.loop-unkept.station c.order-order.result w
-          (c.order-order.ensures.order s w.stands same)
-          (on_call c.order-order.result _ c.in_default-order.not-Stop (rw (c.tell_overrun-told.ensures.form ∙ c.keep.ensures.form ∙ c.loop-unkept.invariant.form) at c.in-Err-step.ensures.does))
+          inl (went_wrong plan commands scope (g.B.Book.text c.args.book.now) told (g.L.Link.acts c.loop-unsynced.link) (g.L.Link.acts c.step.new.link)
+          (g.L.Link.acts c.close-in-Err-step.new.self) taken (g.B.Book.taken c.tell_overrun-told.new.book)
+          (g.B.Book.taken c.step.new.book) c.loop-unsynced.station c.action-action.result w
+          (c.action-action.ensures.action s w.stands same)
+          (on_call c.action-action.result _ c.in_default-action.not-Stop (rw (c.tell_overrun-told.ensures.form ∙ c.sync.ensures.form ∙ c.loop-unsynced.invariant.form) at c.in-Err-step.ensures.does))
           c.close-in-Err-step.ensures are);
-      lasts = tt;
+      is_durable = tt;
       fails = c.in-Err-step.ensures.fails;
-      form = c.in-Err-step.ensures.form ∙ c.tell_overrun-told.ensures.form ∙ c.keep.ensures.form ∙ c.loop-unkept.invariant.form;
+      form = c.in-Err-step.ensures.form ∙ c.tell_overrun-told.ensures.form ∙ c.sync.ensures.form ∙ c.loop-unsynced.invariant.form;
     }
 
-pub loop-unkept-smaller : goal.loop-unkept-smaller
-loop-unkept-smaller g c =
+pub loop-unsynced-smaller : goal.loop-unsynced-smaller
+loop-unsynced-smaller g c =
     let plan = c.args.plan.now in
     let commands = c.args.commands.now in
-    (went_nearer plan commands (g.B.Book.text c.args.book.now) (g.L.Link.acts c.loop-unkept.link) (g.L.Link.acts c.step.new.link) (g.B.Book.taken c.tell_overrun-told.new.book) (g.B.Book.taken c.step.new.book) c.loop-unkept.station c.step.new.self c.order-order.result
-    c.order-order.ensures.is c.loop-unkept.invariant.some
-    (on_call c.order-order.result _ c.in_default-order.not-Stop (rw (c.tell_overrun-told.ensures.form ∙ c.keep.ensures.form ∙ c.loop-unkept.invariant.form) at c.in_default-step.ensures.does))
-    c.loop-unkept.invariant.within).less
+    (went_nearer plan commands (g.B.Book.text c.args.book.now) (g.L.Link.acts c.loop-unsynced.link) (g.L.Link.acts c.step.new.link)
+    (g.B.Book.taken c.tell_overrun-told.new.book) (g.B.Book.taken c.step.new.book) c.loop-unsynced.station c.step.new.self c.action-action.result
+    c.action-action.ensures.is c.loop-unsynced.invariant.some
+    (on_call c.action-action.result _ c.in_default-action.not-Stop (rw (c.tell_overrun-told.ensures.form ∙ c.sync.ensures.form ∙ c.loop-unsynced.invariant.form) at c.in_default-step.ensures.does))
+    c.loop-unsynced.invariant.within).less
 
-pub loop-unkept-preserved : goal.loop-unkept-preserved
-loop-unkept-preserved g c =
+pub loop-unsynced-preserved : goal.loop-unsynced-preserved
+loop-unsynced-preserved g c =
     let plan = c.args.plan.now in
     let commands = c.args.commands.now in
     let told = g.L.Link.acts c.args.link.now in
     let taken = g.B.Book.taken c.args.book.now in
-    let makes = on_call c.order-order.result _ c.in_default-order.not-Stop (rw (c.tell_overrun-told.ensures.form ∙ c.keep.ensures.form ∙ c.loop-unkept.invariant.form) at c.in_default-step.ensures.does) in
+    let makes = on_call c.action-action.result _ c.in_default-action.not-Stop
+    (rw (c.tell_overrun-told.ensures.form ∙ c.sync.ensures.form ∙ c.loop-unsynced.invariant.form) at c.in_default-step.ensures.does) in
     record {
-      within = (went_nearer plan commands (g.B.Book.text c.args.book.now) (g.L.Link.acts c.loop-unkept.link) (g.L.Link.acts c.step.new.link) (g.B.Book.taken c.tell_overrun-told.new.book) (g.B.Book.taken c.step.new.book) c.loop-unkept.station c.step.new.self c.order-order.result
-          c.order-order.ensures.is c.loop-unkept.invariant.some
-          (on_call c.order-order.result _ c.in_default-order.not-Stop (rw (c.tell_overrun-told.ensures.form ∙ c.keep.ensures.form ∙ c.loop-unkept.invariant.form) at c.in_default-step.ensures.does))
-          c.loop-unkept.invariant.within).within;
-      some = somewhere_on plan commands (g.B.Book.text c.args.book.now) (g.L.Link.acts c.loop-unkept.link) (g.L.Link.acts c.step.new.link) (g.B.Book.taken c.tell_overrun-told.new.book) (g.B.Book.taken c.step.new.book) c.loop-unkept.station c.step.new.self c.order-order.result makes c.loop-unkept.invariant.some;
+      within = (went_nearer plan commands (g.B.Book.text c.args.book.now) (g.L.Link.acts c.loop-unsynced.link) (g.L.Link.acts c.step.new.link)
+          (g.B.Book.taken c.tell_overrun-told.new.book) (g.B.Book.taken c.step.new.book) c.loop-unsynced.station c.step.new.self c.action-action.result
+          c.action-action.ensures.is c.loop-unsynced.invariant.some
+          (on_call c.action-action.result _ c.in_default-action.not-Stop
+          (rw (c.tell_overrun-told.ensures.form ∙ c.sync.ensures.form ∙ c.loop-unsynced.invariant.form) at c.in_default-step.ensures.does))
+          c.loop-unsynced.invariant.within).within;
+      some = somewhere_on plan commands (g.B.Book.text c.args.book.now) (g.L.Link.acts c.loop-unsynced.link) (g.L.Link.acts c.step.new.link)
+          (g.B.Book.taken c.tell_overrun-told.new.book) (g.B.Book.taken c.step.new.book) c.loop-unsynced.station c.step.new.self c.action-action.result makes
+          c.loop-unsynced.invariant.some;
       went = λ reads are.
           let scope : Scope = record { turns = c.args.max_turns; reads = reads } in
-          let kept = went_kept plan commands scope (g.B.Book.text c.args.book.now) told (g.L.Link.acts c.loop-unkept.link) taken (g.B.Book.taken c.loop-unkept.book) (g.B.Book.taken c.keep.new.self) c.loop-unkept.station c.keep.ensures.same (c.loop-unkept.invariant.went reads are) in
-          let w = went_same plan commands scope (g.B.Book.text c.args.book.now) told (g.L.Link.acts c.loop-unkept.link) taken (g.B.Book.taken c.keep.new.self) (g.B.Book.taken c.tell_overrun-told.new.book) c.loop-unkept.station c.tell_overrun-told.ensures.taken kept in
+          let kept = went_kept plan commands scope (g.B.Book.text c.args.book.now) told (g.L.Link.acts c.loop-unsynced.link) taken
+          (g.B.Book.taken c.loop-unsynced.book) (g.B.Book.taken c.sync.new.self) c.loop-unsynced.station c.sync.ensures.same
+          (c.loop-unsynced.invariant.went reads are) in
+          let w = went_same plan commands scope (g.B.Book.text c.args.book.now) told (g.L.Link.acts c.loop-unsynced.link) taken (g.B.Book.taken c.sync.new.self)
+          (g.B.Book.taken c.tell_overrun-told.new.book) c.loop-unsynced.station c.tell_overrun-told.ensures.taken kept in
           let s = stood plan commands scope w.acts in
           let same = are_same s.reads reads (stood_reads plan commands scope w.acts) are in
-          went_on plan commands scope (g.B.Book.text c.args.book.now) told (g.L.Link.acts c.loop-unkept.link) (g.L.Link.acts c.step.new.link) taken (g.B.Book.taken c.tell_overrun-told.new.book) (g.B.Book.taken c.step.new.book) c.loop-unkept.station c.step.new.self c.order-order.result w
-          (c.order-order.ensures.order s w.stands same) makes are;
-      form = c.in_default-step.ensures.form ∙ c.tell_overrun-told.ensures.form ∙ c.keep.ensures.form ∙ c.loop-unkept.invariant.form;
-      failed = c.in_default-step.ensures.fails ∙ c.tell_overrun-told.ensures.failed ∙ c.in_default.ensures.fails ∙ c.loop-unkept.invariant.failed;
+          went_on plan commands scope (g.B.Book.text c.args.book.now) told (g.L.Link.acts c.loop-unsynced.link) (g.L.Link.acts c.step.new.link) taken
+          (g.B.Book.taken c.tell_overrun-told.new.book) (g.B.Book.taken c.step.new.book) c.loop-unsynced.station c.step.new.self c.action-action.result w
+          (c.action-action.ensures.action s w.stands same) makes are;
+      form = c.in_default-step.ensures.form ∙ c.tell_overrun-told.ensures.form ∙ c.sync.ensures.form ∙ c.loop-unsynced.invariant.form;
+      failed = c.in_default-step.ensures.fails ∙ c.tell_overrun-told.ensures.failed ∙ c.in_default.ensures.fails ∙ c.loop-unsynced.invariant.failed;
     }
 
-pub loop-unkept-init : goal.loop-unkept-init
-loop-unkept-init g c =
+pub loop-unsynced-init : goal.loop-unsynced-init
+loop-unsynced-init g c =
     let plan = c.args.plan.now in
     let commands = c.args.commands.now in
     let any : Call → List ℕ → Reading = λ call line. Refused 0 in
@@ -94,7 +111,8 @@ loop-unkept-init g c =
     record {
       within = omega (arith, none);
       some = (opening plan start, stands);
-      went = λ reads are. went_nothing plan commands (record { turns = c.args.max_turns; reads = reads }) (g.B.Book.text c.args.book.now) (g.L.Link.acts c.args.link.now) (g.B.Book.taken c.args.book.now) c.new-station.result (c.new-station.ensures reads);
+      went = λ reads are. went_nothing plan commands (record { turns = c.args.max_turns; reads = reads }) (g.B.Book.text c.args.book.now)
+          (g.L.Link.acts c.args.link.now) (g.B.Book.taken c.args.book.now) c.new-station.result (c.new-station.ensures reads);
       form = refl;
       failed = refl;
     }
@@ -104,14 +122,16 @@ returns-in-Stop-clause-ran g c reads are =
     let plan = c.args.plan.now in
     let commands = c.args.commands.now in
     let scope : Scope = record { turns = c.args.max_turns; reads = reads } in
-    let w = went_kept plan commands scope (g.B.Book.text c.args.book.now) (g.L.Link.acts c.args.link.now) (g.L.Link.acts c.loop-unkept.link) (g.B.Book.taken c.args.book.now) (g.B.Book.taken c.loop-unkept.book) (g.B.Book.taken c.keep.new.self) c.loop-unkept.station c.keep.ensures.same (c.loop-unkept.invariant.went reads are) in
+    let w = went_kept plan commands scope (g.B.Book.text c.args.book.now) (g.L.Link.acts c.args.link.now) (g.L.Link.acts c.loop-unsynced.link)
+    (g.B.Book.taken c.args.book.now) (g.B.Book.taken c.loop-unsynced.book) (g.B.Book.taken c.sync.new.self) c.loop-unsynced.station c.sync.ensures.same
+    (c.loop-unsynced.invariant.went reads are) in
     let s = stood plan commands scope w.acts in
     let same = are_same s.reads reads (stood_reads plan commands scope w.acts) are in
     record {
       acts = w.acts;
       tells = w.tells;
       runs = w.runs;
-      stops = sym (c.order-order.ensures.order s w.stands same) ∙ c.in-Stop.is;
+      stops = sym (c.action-action.ensures.action s w.stands same) ∙ c.in-Stop.is;
       took = w.took;
       counts = w.stands.tally same;
     }

@@ -6,15 +6,16 @@ use Rattle.gc_station.proofs.Going.{Went, Somewhere}
 use Rattle.gc_station.proofs.Turns.{left_to_do}
 use Rattle.gc_station.proofs.run.run.Given as goal
 
-abbrev pub invariant-loop-unkept : goal.invariant-loop-unkept
-invariant-loop-unkept g l = record {
+abbrev pub invariant-loop-unsynced : goal.invariant-loop-unsynced
+invariant-loop-unsynced g l = record {
   within : l.station.progress.unsent ≤ length l.commands;
   some : Somewhere l.station;
   went : (reads : Call → List ℕ → Reading) → AreReadings reads
-      → Went l.plan l.commands (record { turns = l.max_turns; reads = reads }) (g.B.Book.text l.initial.book) (g.L.Link.acts l.initial.link) (g.L.Link.acts l.link) (g.B.Book.taken l.initial.book) (g.B.Book.taken l.book) l.station;
+      → Went l.plan l.commands (record { turns = l.max_turns; reads = reads }) (g.B.Book.text l.initial.book) (g.L.Link.acts l.initial.link)
+      (g.L.Link.acts l.link) (g.B.Book.taken l.initial.book) (g.B.Book.taken l.book) l.station;
   form : g.B.Book.text l.book ≡ g.B.Book.text l.initial.book;
   failed : g.B.Book.failed l.book ≡ g.B.Book.failed l.initial.book;
 }
 
-abbrev pub decreases-loop-unkept : goal.decreases-loop-unkept
-decreases-loop-unkept g l = left_to_do l.station.progress
+abbrev pub decreases-loop-unsynced : goal.decreases-loop-unsynced
+decreases-loop-unsynced g l = left_to_do l.station.progress

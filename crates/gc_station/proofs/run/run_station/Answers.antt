@@ -9,5 +9,6 @@ pub returns-in-None-clause-ran : goal.returns-in-None-clause-ran
 returns-in-None-clause-ran g c reads are =
     let scope : Scope = record { turns = c.args.max_turns; reads = reads } in
     let done = none_done c.in-Ok.cause (sym c.fault.ensures ∙ c.in-None.is) in
-    subst (λ (why : Cause). RanTo c.args.plan.now c.args.commands.now scope (g.B.Book.text c.args.book.now) (g.L.Link.acts c.args.link.now) (g.L.Link.acts c.run.new.link) (g.B.Book.taken c.args.book.now) (g.B.Book.taken c.run.new.book) why c.in-Ok.tally) done
+    subst (λ (why : Cause). RanTo c.args.plan.now c.args.commands.now scope (g.B.Book.text c.args.book.now) (g.L.Link.acts c.args.link.now)
+    (g.L.Link.acts c.run.new.link) (g.B.Book.taken c.args.book.now) (g.B.Book.taken c.run.new.book) why c.in-Ok.tally) done
     (c.in-Ok.ensures.ran reads are)

@@ -12,7 +12,8 @@ loop-settlement-init g c =
     record {
       wrote = λ reads start before are so.
           let none = records-none reads c.args.utc c.args.marks.now.items in
-          Appends-is start (g.B.Book.taken c.args.book.now) _ _ (sym (ap (λ rs. texts_of (g.B.Book.text c.args.book.now) (before ++ rs)) none ∙ ap (texts_of (g.B.Book.text c.args.book.now)) (append-nil before))) so;
+          Appends-is start (g.B.Book.taken c.args.book.now) _ _ (sym (ap
+          (λ rs. texts_of (g.B.Book.text c.args.book.now) (before ++ rs)) none ∙ ap (texts_of (g.B.Book.text c.args.book.now)) (append-nil before))) so;
       tally = λ reads are. sym (ap (tallied c.args.tally.now) (records-none reads c.args.utc c.args.marks.now.items));
       well = λ reads are. sym (ap (last_well reads c.args.well.now) (records-none reads c.args.utc c.args.marks.now.items));
       marks = refl;
@@ -31,7 +32,8 @@ returns-in-Err-clause-wrote g c reads start before are so =
     let here = ap (λ ms. records_of reads utc ms (settlement_seen s ∷ [])) (sym b.marks) ∙ c.take_mark-mark.ensures.records reads utc (settlement_seen s) in
     let more = front_more reads utc marks ss i s c.take_mark-mark.result c.loop-settlement-test.true c.settlement-item.is here in
     let front = records_of reads utc marks (map settlement_seen (take i ss)) in
-    part_behind (g.B.Book.text c.args.book.now) before front _ _ _ _ start (g.B.Book.taken c.write_one.new.book) more (front_left reads utc marks ss (i + 1)) ((rw b.form at c.in-Err.ensures.wrote) reads start (before ++ front) are (b.wrote reads start before are so))
+    part_behind (g.B.Book.text c.args.book.now) before front _ _ _ _ start (g.B.Book.taken c.write_one.new.book) more (front_left reads utc marks ss (i + 1))
+    ((rw b.form at c.in-Err.ensures.wrote) reads start (before ++ front) are (b.wrote reads start before are so))
 
 pub loop-settlement-preserved : goal.loop-settlement-preserved
 loop-settlement-preserved g c =
@@ -46,7 +48,8 @@ loop-settlement-preserved g c =
           let here = ap (λ ms. records_of reads utc ms (settlement_seen s ∷ [])) (sym b.marks) ∙ c.take_mark-mark.ensures.records reads utc (settlement_seen s) in
           let more = front_more reads utc marks ss i s c.take_mark-mark.result c.loop-settlement-test.true c.settlement-item.is here in
           let front = records_of reads utc marks (map settlement_seen (take i ss)) in
-          Appends-is start (g.B.Book.taken c.write_one.new.book) _ _ (sym (texts_more (g.B.Book.text c.args.book.now) before front _ _ more)) ((rw b.form at c.in_default.ensures.wrote) reads start (before ++ front) are (b.wrote reads start before are so));
+          Appends-is start (g.B.Book.taken c.write_one.new.book) _ _ (sym (texts_more (g.B.Book.text c.args.book.now) before front _ _ more))
+          ((rw b.form at c.in_default.ensures.wrote) reads start (before ++ front) are (b.wrote reads start before are so));
       tally = λ reads are.
           let here = ap (λ ms. records_of reads utc ms (settlement_seen s ∷ [])) (sym b.marks) ∙ c.take_mark-mark.ensures.records reads utc (settlement_seen s) in
           let more = front_more reads utc marks ss i s c.take_mark-mark.result c.loop-settlement-test.true c.settlement-item.is here in

@@ -11,10 +11,14 @@ use Rattle.gc_station.proofs.writing.write_settlements.Given as goal
 
 abbrev pub invariant-loop-settlement : goal.invariant-loop-settlement
 invariant-loop-settlement g l = record {
-  wrote : (reads : Call → List ℕ → Reading) (start : Option (List ℕ)) (before : List Record) → AreReadings reads → Appends start (g.B.Book.taken l.initial.book) (texts_of (g.B.Book.text l.initial.book) before)
-      → Appends start (g.B.Book.taken l.book) (texts_of (g.B.Book.text l.initial.book) (before ++ records_of reads l.utc l.initial.marks.items (map settlement_seen (take l.settlement-index l.settlements))));
-  tally : (reads : Call → List ℕ → Reading) → AreReadings reads → l.tally ≡ tallied l.initial.tally (records_of reads l.utc l.initial.marks.items (map settlement_seen (take l.settlement-index l.settlements)));
-  well : (reads : Call → List ℕ → Reading) → AreReadings reads → l.well ≡ last_well reads l.initial.well (records_of reads l.utc l.initial.marks.items (map settlement_seen (take l.settlement-index l.settlements)));
+  wrote : (reads : Call → List ℕ → Reading) (start : Option (List ℕ)) (before : List Record) → AreReadings reads
+      → Appends start (g.B.Book.taken l.initial.book) (texts_of (g.B.Book.text l.initial.book) before)
+      → Appends start (g.B.Book.taken l.book) (texts_of (g.B.Book.text l.initial.book)
+      (before ++ records_of reads l.utc l.initial.marks.items (map settlement_seen (take l.settlement-index l.settlements))));
+  tally : (reads : Call → List ℕ → Reading) → AreReadings reads → l.tally ≡ tallied l.initial.tally
+      (records_of reads l.utc l.initial.marks.items (map settlement_seen (take l.settlement-index l.settlements)));
+  well : (reads : Call → List ℕ → Reading) → AreReadings reads → l.well ≡ last_well reads l.initial.well
+      (records_of reads l.utc l.initial.marks.items (map settlement_seen (take l.settlement-index l.settlements)));
   marks : l.marks.items ≡ drop l.settlement-index l.initial.marks.items;
   form : g.B.Book.text l.book ≡ g.B.Book.text l.initial.book;
   failed : g.B.Book.failed l.book ≡ g.B.Book.failed l.initial.book;

@@ -10,20 +10,23 @@ overflow_add-number g c =
 
 pub loop-left-preserved-then-is_skipped : goal.loop-left-preserved-then-is_skipped
 loop-left-preserved-then-is_skipped g c =
-    turn_skips g.F.LineForm.form c.args.text.now (option_copied c.loop-left.left) c.in-Some.text.now c.cut_at.result.0.now c.without_cr-line.result.now (option_copied c.cut_at.result.1) c.loop-left.number
+    turn_skips g.F.LineForm.form c.args.text.now (option_copied c.loop-left.left) c.in-Some.text.now c.cut_at.result.0.now c.without_cr-line.result.now
+    (option_copied c.cut_at.result.1) c.loop-left.number
     c.loop-left.items.items c.is_skipped.result c.loop-left.invariant (ap option_copied c.in-Some.is) c.cut_at.ensures c.without_cr-line.ensures c.is_skipped.ensures c.if-is_skipped.true
 
 pub loop-left-preserved : goal.loop-left-preserved
 loop-left-preserved g c =
     let grown : c.push_reserved.new.self.items ≡ c.loop-left.items.items ++ c.in-Some-read.item ∷ [] = search rules in
-    turn_reads g.F.LineForm.form c.args.text.now (option_copied c.loop-left.left) c.in-Some.text.now c.cut_at.result.0.now c.without_cr-line.result.now (option_copied c.cut_at.result.1) c.loop-left.number
+    turn_reads g.F.LineForm.form c.args.text.now (option_copied c.loop-left.left) c.in-Some.text.now c.cut_at.result.0.now c.without_cr-line.result.now
+    (option_copied c.cut_at.result.1) c.loop-left.number
     c.loop-left.items.items c.is_skipped.result c.loop-left.invariant (ap option_copied c.in-Some.is) c.cut_at.ensures c.without_cr-line.ensures c.is_skipped.ensures
     c.in-Some-read.item c.push_reserved.new.self.items c.if-is_skipped.false c.in-Some-read.ensures grown
 
 pub returns-in-None-clause-fault : goal.returns-in-None-clause-fault
 returns-in-None-clause-fault g c = (
   c.requires,
-  turn_fails g.F.LineForm.form c.args.text.now (option_copied c.loop-left.left) c.in-Some.text.now c.cut_at.result.0.now c.without_cr-line.result.now (option_copied c.cut_at.result.1) c.loop-left.number
+  turn_fails g.F.LineForm.form c.args.text.now (option_copied c.loop-left.left) c.in-Some.text.now c.cut_at.result.0.now c.without_cr-line.result.now
+      (option_copied c.cut_at.result.1) c.loop-left.number
       c.loop-left.items.items c.is_skipped.result c.loop-left.invariant (ap option_copied c.in-Some.is) c.cut_at.ensures c.without_cr-line.ensures c.is_skipped.ensures
       c.if-is_skipped.false c.in-None.ensures,
 )
@@ -31,7 +34,8 @@ returns-in-None-clause-fault g c = (
 pub returns-then-is_err-clause-fault : goal.returns-then-is_err-clause-fault
 returns-then-is_err-clause-fault g c = (
   c.requires,
-  turn_wants g.F.LineForm.form c.args.text.now (option_copied c.loop-left.left) c.in-Some.text.now c.cut_at.result.0.now c.without_cr-line.result.now (option_copied c.cut_at.result.1) c.loop-left.number
+  turn_wants g.F.LineForm.form c.args.text.now (option_copied c.loop-left.left) c.in-Some.text.now c.cut_at.result.0.now c.without_cr-line.result.now
+      (option_copied c.cut_at.result.1) c.loop-left.number
       c.loop-left.items.items c.is_skipped.result c.loop-left.invariant (ap option_copied c.in-Some.is) c.cut_at.ensures c.without_cr-line.ensures c.is_skipped.ensures
       c.in-Some-read.item c.if-is_skipped.false c.in-Some-read.ensures,
 )

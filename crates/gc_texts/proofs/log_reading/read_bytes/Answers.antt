@@ -10,4 +10,5 @@ returns-in_default c =
 pub returns-then-is_full : goal.returns-then-is_full
 returns-then-is_full c =
     let full : 514 ≤ length c.loop-left.bytes.items = are_many (length c.loop-left.bytes.items) c.if-is_full.ensures.value in
-    λ bytes room are so. reads_too_many c.args.text.now c.loop-left.bytes.items c.loop-left.left.now c.loop-left.invariant (is_left c.loop-left.left.now (c.loop-left-test.ensures)) full bytes room are so
+    λ bytes room are so. reads_too_many c.args.text.now c.loop-left.bytes.items c.loop-left.left.now c.loop-left.invariant
+    (is_left c.loop-left.left.now (c.loop-left-test.ensures)) full bytes room are so

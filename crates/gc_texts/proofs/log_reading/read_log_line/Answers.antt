@@ -5,7 +5,8 @@ use Rattle.gc_texts.proofs.Logs.{no_moment, not_printable, no_mark, another_mark
 use Rattle.gc_texts.proofs.log_reading.read_log_line.Goals as goal
 
 pub returns-in_default : goal.returns-in_default
-returns-in_default c = λ moment mark bytes room is. no_moment c.args.line.now c.cut_at.result.0.now (option_copied c.cut_at.result.1) c.cut_at.ensures moment mark bytes is (ap option_copied c.in_default.is)
+returns-in_default c = λ moment mark bytes room is. no_moment c.args.line.now c.cut_at.result.0.now
+    (option_copied c.cut_at.result.1) c.cut_at.ensures moment mark bytes is (ap option_copied c.in_default.is)
 
 pub returns-in_default-text : goal.returns-in_default-text
 returns-in_default-text c = λ moment mark bytes room is.

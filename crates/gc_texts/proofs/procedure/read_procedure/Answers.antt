@@ -14,7 +14,9 @@ returns-then-is_empty c =
 pub returns : goal.returns
 returns c =
     let some : 0 < length c.in-Some-params.params.now = search rules in
-    with_parameters c.args.text.now c.cut_at.result.0.now c.in-Some-params.params.now (option_copied c.cut_at.result.1) c.in-Some.rpc c.read_call-2.result c.cut_at.ensures (ap option_copied c.in-Some-params.is) some c.in-Some.ensures c.read_call-2.ensures
+    with_parameters c.args.text.now c.cut_at.result.0.now c.in-Some-params.params.now
+    (option_copied c.cut_at.result.1) c.in-Some.rpc c.read_call-2.result c.cut_at.ensures
+    (ap option_copied c.in-Some-params.is) some c.in-Some.ensures c.read_call-2.ensures
 
 pub returns-in_default-params : goal.returns-in_default-params
 returns-in_default-params c =

@@ -7,28 +7,34 @@ use Rattle.gc_texts.proofs.tasks.read_task_lines.Goals as goal
 pub overflow_add-number : goal.overflow_add-number
 overflow_add-number c =
     let few : c.loop-left.number ≤ 65537 =
-    tasks_few c.args.text.now c.args.opening (option_copied c.loop-left.left) c.loop-left.number c.loop-left.tasks.items c.loop-left.names.items c.loop-left.mode c.requires.short c.loop-left.invariant in
+    tasks_few c.args.text.now c.args.opening (option_copied c.loop-left.left) c.loop-left.number c.loop-left.tasks.items c.loop-left.names.items
+    c.loop-left.mode c.requires.short c.loop-left.invariant in
     omega (arith, few)
 
 pub loop-left-preserved-then-is_skipped : goal.loop-left-preserved-then-is_skipped
 loop-left-preserved-then-is_skipped c =
-    task_skips c.args.text.now c.args.opening (option_copied c.loop-left.left) c.in-Some.text.now c.cut_at.result.0.now c.without_cr-line.result.now (option_copied c.cut_at.result.1) c.loop-left.number
-    c.loop-left.tasks.items c.loop-left.names.items c.loop-left.mode c.is_skipped.result c.loop-left.invariant (ap option_copied c.in-Some.is) c.cut_at.ensures c.without_cr-line.ensures c.is_skipped.ensures
+    task_skips c.args.text.now c.args.opening (option_copied c.loop-left.left) c.in-Some.text.now c.cut_at.result.0.now c.without_cr-line.result.now
+    (option_copied c.cut_at.result.1) c.loop-left.number
+    c.loop-left.tasks.items c.loop-left.names.items c.loop-left.mode c.is_skipped.result c.loop-left.invariant
+    (ap option_copied c.in-Some.is) c.cut_at.ensures c.without_cr-line.ensures c.is_skipped.ensures
     c.if-is_skipped.true
 
 pub returns-in_default-read_task_line-clause-fault : goal.returns-in_default-read_task_line-clause-fault
 returns-in_default-read_task_line-clause-fault c = (
   c.requires.short,
   task_fails c.args.text.now c.args.opening (option_copied c.loop-left.left) c.in-Some.text.now c.cut_at.result.0.now c.without_cr-line.result.now (option_copied c.cut_at.result.1) c.loop-left.number
-      c.loop-left.tasks.items c.loop-left.names.items c.loop-left.mode c.is_skipped.result c.loop-left.invariant (ap option_copied c.in-Some.is) c.cut_at.ensures c.without_cr-line.ensures c.is_skipped.ensures
+      c.loop-left.tasks.items c.loop-left.names.items c.loop-left.mode c.is_skipped.result c.loop-left.invariant
+      (ap option_copied c.in-Some.is) c.cut_at.ensures c.without_cr-line.ensures c.is_skipped.ensures
       c.if-is_skipped.false c.in_default-read_task_line.ensures,
 )
 
 pub returns-then-not-may_stand-clause-fault : goal.returns-then-not-may_stand-clause-fault
 returns-then-not-may_stand-clause-fault c = (
   c.requires.short,
-  task_refused c.args.text.now c.args.opening (option_copied c.loop-left.left) c.in-Some.text.now c.cut_at.result.0.now c.without_cr-line.result.now (option_copied c.cut_at.result.1) c.loop-left.number
-      c.loop-left.tasks.items c.loop-left.names.items c.loop-left.mode c.is_skipped.result c.loop-left.invariant (ap option_copied c.in-Some.is) c.cut_at.ensures c.without_cr-line.ensures c.is_skipped.ensures
+  task_refused c.args.text.now c.args.opening (option_copied c.loop-left.left) c.in-Some.text.now c.cut_at.result.0.now c.without_cr-line.result.now
+      (option_copied c.cut_at.result.1) c.loop-left.number
+      c.loop-left.tasks.items c.loop-left.names.items c.loop-left.mode c.is_skipped.result c.loop-left.invariant
+      (ap option_copied c.in-Some.is) c.cut_at.ensures c.without_cr-line.ensures c.is_skipped.ensures
       c.in-Some-read_task_line.said c.may_stand.result c.if-is_skipped.false c.in-Some-read_task_line.ensures
       (c.may_stand.ensures ∙ ap (λ ns. may_stand ns c.in-Some-read_task_line.said) c.as_slice.ensures.value) c.if-not-may_stand.true,
 )
@@ -37,7 +43,8 @@ pub returns-then-is_err-clause-fault : goal.returns-then-is_err-clause-fault
 returns-then-is_err-clause-fault c = (
   c.requires.short,
   task_wants c.args.text.now c.args.opening (option_copied c.loop-left.left) c.in-Some.text.now c.cut_at.result.0.now c.without_cr-line.result.now (option_copied c.cut_at.result.1) c.loop-left.number
-      c.loop-left.tasks.items c.loop-left.names.items c.loop-left.mode c.is_skipped.result c.loop-left.invariant (ap option_copied c.in-Some.is) c.cut_at.ensures c.without_cr-line.ensures c.is_skipped.ensures
+      c.loop-left.tasks.items c.loop-left.names.items c.loop-left.mode c.is_skipped.result c.loop-left.invariant
+      (ap option_copied c.in-Some.is) c.cut_at.ensures c.without_cr-line.ensures c.is_skipped.ensures
       c.in-Some-read_task_line.said c.may_stand.result c.if-is_skipped.false c.in-Some-read_task_line.ensures
       (c.may_stand.ensures ∙ ap (λ ns. may_stand ns c.in-Some-read_task_line.said) c.as_slice.ensures.value) c.if-not-may_stand.false,
 )
@@ -46,7 +53,9 @@ pub loop-left-preserved : goal.loop-left-preserved
 loop-left-preserved c =
     let more_tasks : c.keep.new.tasks.items ≡ c.loop-left.tasks.items ++ task_at c.loop-left.mode c.in-Some-read_task_line.said = search rules in
     let more_names : c.keep.new.names.items ≡ c.loop-left.names.items ++ name_at c.in-Some-read_task_line.said = search rules in
-    task_reads c.args.text.now c.args.opening (option_copied c.loop-left.left) c.in-Some.text.now c.cut_at.result.0.now c.without_cr-line.result.now (option_copied c.cut_at.result.1) c.loop-left.number
-    c.loop-left.tasks.items c.loop-left.names.items c.loop-left.mode c.is_skipped.result c.loop-left.invariant (ap option_copied c.in-Some.is) c.cut_at.ensures c.without_cr-line.ensures c.is_skipped.ensures
+    task_reads c.args.text.now c.args.opening (option_copied c.loop-left.left) c.in-Some.text.now c.cut_at.result.0.now c.without_cr-line.result.now
+    (option_copied c.cut_at.result.1) c.loop-left.number
+    c.loop-left.tasks.items c.loop-left.names.items c.loop-left.mode c.is_skipped.result c.loop-left.invariant
+    (ap option_copied c.in-Some.is) c.cut_at.ensures c.without_cr-line.ensures c.is_skipped.ensures
     c.in-Some-read_task_line.said c.keep.new.tasks.items c.keep.new.names.items c.behind-next.result c.may_stand.result c.if-is_skipped.false c.in-Some-read_task_line.ensures
     (c.may_stand.ensures ∙ ap (λ ns. may_stand ns c.in-Some-read_task_line.said) c.as_slice.ensures.value) c.if-not-may_stand.false more_tasks more_names c.behind-next.ensures

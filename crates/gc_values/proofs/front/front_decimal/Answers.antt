@@ -20,4 +20,5 @@ returns c =
     let places = c.counted-value.result.1 in
     let point : get_or text at 0 ≡ 46 = search rules in
     let made = subst (λ v. MadeOf false v places c.from_parts-decimal.result.digits c.from_parts-decimal.result.scale) c.from.ensures c.from_parts-decimal.ensures in
-    front_found text _ _ at places _ _ _ c.from_parts-decimal.result c.counted-whole.ensures (omega arith) (omega arith) point (rest_of text (at + 1)) c.counted-value.ensures (rest_of _ places) c.in_ok-rest.ensures made
+    front_found text _ _ at places _ _ _ c.from_parts-decimal.result c.counted-whole.ensures (omega arith) (omega arith) point
+    (rest_of text (at + 1)) c.counted-value.ensures (rest_of _ places) c.in_ok-rest.ensures made

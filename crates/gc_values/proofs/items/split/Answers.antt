@@ -49,7 +49,8 @@ pub loop-preserved : goal.loop-preserved
 loop-preserved c =
     let text = c.args.params.now in
     let old = c.loop.slices.items in
-    let cut : CutsPiece c.loop.rest.now c.cut_piece.result.0.now (Some c.in-Some.next.now) = subst (λ o. CutsPiece c.loop.rest.now c.cut_piece.result.0.now (option_copied o)) c.in-Some.is c.cut_piece.ensures in
+    let cut : CutsPiece c.loop.rest.now c.cut_piece.result.0.now (Some c.in-Some.next.now) =
+    subst (λ o. CutsPiece c.loop.rest.now c.cut_piece.result.0.now (option_copied o)) c.in-Some.is c.cut_piece.ensures in
     let more = split_more text c.loop.rest.now c.cut_piece.result.0.now c.in-Some.next.now c.trim.result.now (map (λ r. r.now) old) c.loop.invariant.0 cut c.trim.ensures in
     let same = ap (map (λ (r : Bor (List ℕ)). r.now)) c.push.ensures.items ∙ nows_push old c.trim.result in (
       subst (λ items. SplitSoFar text items c.in-Some.next.now) (sym same) more,

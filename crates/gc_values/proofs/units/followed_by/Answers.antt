@@ -3,7 +3,8 @@ use Rattle.gc_values.proofs.Kept.{AreDigits-at, followed_more, followed_small}
 use Rattle.gc_values.proofs.units.followed_by.Goals as goal
 
 pub overflow_mul-value : goal.overflow_mul-value
-overflow_mul-value c = let small = followed_small c.args.front c.loop-digit.value c.args.digits.now c.loop-digit.digit-index c.requires.digits c.loop-digit-test.true c.loop-digit.invariant c.requires.small in omega (arith, small)
+overflow_mul-value c = let small = followed_small c.args.front c.loop-digit.value c.args.digits.now c.loop-digit.digit-index c.requires.digits
+    c.loop-digit-test.true c.loop-digit.invariant c.requires.small in omega (arith, small)
 
 pub overflow_sub-digit : goal.overflow_sub-digit
 overflow_sub-digit c = (AreDigits-at c.args.digits.now c.loop-digit.digit-index 0 c.requires.digits c.loop-digit-test.true).0

@@ -24,7 +24,8 @@ returns-then-zeros-from c =
     let w = c.args.whole.now in
     let f = c.args.fraction.now in
     let digits : AreDigits (w ++ f) = AreDigits-append w f c.requires.whole c.requires.fraction in
-    capped_zeros (w ++ f) (length w) (length f) c.args.up c.args.down CAP c.in-Some.count (length w + length f) (c.in-Some.count - (length w + length f)) c.kept_digits-kept.result _ digits (length-append w f) refl
+    capped_zeros (w ++ f) (length w) (length f) c.args.up c.args.down CAP c.in-Some.count (length w + length f)
+    (c.in-Some.count - (length w + length f)) c.kept_digits-kept.result _ digits (length-append w f) refl
     (omega (arith, c.in-Some.ensures)) (omega arith) (omega arith) c.kept_digits-kept.ensures
 
 pub returns-else-zeros-from : goal.returns-else-zeros-from
@@ -32,7 +33,8 @@ returns-else-zeros-from c =
     let w = c.args.whole.now in
     let f = c.args.fraction.now in
     let digits : AreDigits (w ++ f) = AreDigits-append w f c.requires.whole c.requires.fraction in
-    capped_many (w ++ f) (length w) (length f) c.args.up c.args.down CAP c.in-Some.count (length w + length f) (c.in-Some.count - (length w + length f) - c.from-else-zeros-from.result) c.kept_digits-kept.result c.with_zeros.result digits
+    capped_many (w ++ f) (length w) (length f) c.args.up c.args.down CAP c.in-Some.count (length w + length f)
+    (c.in-Some.count - (length w + length f) - c.from-else-zeros-from.result) c.kept_digits-kept.result c.with_zeros.result digits
     (length-append w f) refl (omega (arith, c.in-Some.ensures)) (omega arith) c.kept_digits-kept.ensures c.with_zeros.ensures
 
 pub returns-then-length-le-SHORT : goal.returns-then-length-le-SHORT
@@ -41,4 +43,5 @@ returns-then-length-le-SHORT c =
     let f = c.args.fraction.now in
     let digits : AreDigits (w ++ f) = AreDigits-append w f c.requires.whole c.requires.fraction in
     let size = length-append w f in
-    capped_short (w ++ f) (length f) c.args.up c.args.down CAP c.from.result digits (omega (arith, size)) (omega (arith, size, c.if-length-le-SHORT.true)) (omega arith) (omega arith) (lit≤ tt) (omega (arith, c.from.ensures, c.short_number.ensures))
+    capped_short (w ++ f) (length f) c.args.up c.args.down CAP c.from.result digits (omega (arith, size)) (omega (arith, size, c.if-length-le-SHORT.true))
+    (omega arith) (omega arith) (lit≤ tt) (omega (arith, c.from.ensures, c.short_number.ensures))

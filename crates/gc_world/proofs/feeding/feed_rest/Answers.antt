@@ -6,7 +6,8 @@ use Rattle.gc_world.proofs.feeding.feed_rest.Goals as goal
 pub returns-then-gone-line-clause-line : goal.returns-then-gone-line-clause-line
 returns-then-gone-line-clause-line c =
     let line = c.args.line.now in
-    (c.next-then-gone-line.ensures.frame 1 refl).1 line (fed_line c.args.assembler.now c.next.new.self line c.requires.plain c.args.gone (omega (arith, c.if-gone-line.true)) c.next.ensures.more c.requires.stands)
+    (c.next-then-gone-line.ensures.frame 1 refl).1 line (fed_line c.args.assembler.now c.next.new.self line c.requires.plain c.args.gone
+    (omega (arith, c.if-gone-line.true)) c.next.ensures.more c.requires.stands)
     ∙ fed_end line c.requires.within
 
 pub returns-else-gone-line-clause-line : goal.returns-else-gone-line-clause-line

@@ -12,4 +12,5 @@ use Rattle.gc_world.proofs.laws.kept_reply_is_recent.Goals as goal
 pub returns : goal.returns
 returns c = λ width narrow opening events.
     let at = level_at width narrow ends KeptFits reads (restarted opening) tt events in
-    subst (λ (w : World ById State). IsRecent width w.wire.state.kept w.wire.executed (numbers w.wire.up)) (sym at.ids) (recent_at width narrow ends KeptFits reads kept_of keeper refl at.steps opening tt)
+    subst (λ (w : World ById State). IsRecent width w.wire.state.kept w.wire.executed (numbers w.wire.up)) (sym at.ids)
+    (recent_at width narrow ends KeptFits reads kept_of keeper refl at.steps opening tt)

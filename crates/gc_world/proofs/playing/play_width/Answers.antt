@@ -38,18 +38,21 @@ returns-clause-faithful g c =
     let s = seen c.loop-event.stage in
     let events = c.args.events.now in
     let r = c.ended.result.0 in
-    faithful c.args.width c.requires.most c.args.instrument events r s.up.queue s.down.queue s.client c.new-stage.ensures.fits (at_end c.args.width c.args.instrument events s c.loop-event.event-index r c.loop-event-test.false c.loop-event.invariant.shows c.ended.ensures.report)
+    faithful c.args.width c.requires.most c.args.instrument events r s.up.queue s.down.queue s.client c.new-stage.ensures.fits
+    (at_end c.args.width c.args.instrument events s c.loop-event.event-index r c.loop-event-test.false c.loop-event.invariant.shows c.ended.ensures.report)
 
 pub returns-clause-once : goal.returns-clause-once
 returns-clause-once g c =
     let s = seen c.loop-event.stage in
     let events = c.args.events.now in
     let r = c.ended.result.0 in
-    once c.args.width c.requires.most c.args.instrument events r s.up.queue s.down.queue s.client c.new-stage.ensures.fits (at_end c.args.width c.args.instrument events s c.loop-event.event-index r c.loop-event-test.false c.loop-event.invariant.shows c.ended.ensures.report)
+    once c.args.width c.requires.most c.args.instrument events r s.up.queue s.down.queue s.client c.new-stage.ensures.fits
+    (at_end c.args.width c.args.instrument events s c.loop-event.event-index r c.loop-event-test.false c.loop-event.invariant.shows c.ended.ensures.report)
 
 pub returns-clause-few : goal.returns-clause-few
 returns-clause-few g c =
     let s = seen c.loop-event.stage in
     let events = c.args.events.now in
     let r = c.ended.result.0 in
-    no_longer_than c.args.width c.requires.most c.args.instrument events r s.up.queue s.down.queue s.client (at_end c.args.width c.args.instrument events s c.loop-event.event-index r c.loop-event-test.false c.loop-event.invariant.shows c.ended.ensures.report)
+    no_longer_than c.args.width c.requires.most c.args.instrument events r s.up.queue s.down.queue s.client
+    (at_end c.args.width c.args.instrument events s c.loop-event.event-index r c.loop-event-test.false c.loop-event.invariant.shows c.ended.ensures.report)

@@ -11,8 +11,11 @@ returns-in_default-clause-astray c = (λ _. c.load.ensures.none c.in_default.is,
 
 pub returns-in-Some-next_deadline-clause-earliest : goal.returns-in-Some-next_deadline-clause-earliest
 returns-in-Some-next_deadline-clause-earliest c = λ c' rest s.
-    let same = from_some c.in-Some.client c' (sym c.in-Some.is ∙ c.load.ensures.only c' rest s) in
-    (refl, subst (λ (d : Windowed). IsEarliest (deadlines d.ids.waiting) (Some c.in-Some-next_deadline.deadline)) same (subst (λ o. IsEarliest (deadlines c.in-Some.client.ids.waiting) o) c.in-Some-next_deadline.is c.next_deadline.ensures))
+    let same = from_some c.in-Some.client c' (sym c.in-Some.is ∙ c.load.ensures.only c' rest s) in (
+      refl,
+      subst (λ (d : Windowed). IsEarliest (deadlines d.ids.waiting) (Some c.in-Some-next_deadline.deadline)) same
+          (subst (λ o. IsEarliest (deadlines c.in-Some.client.ids.waiting) o) c.in-Some-next_deadline.is c.next_deadline.ensures),
+    )
 
 pub returns-in-None-clause-earliest : goal.returns-in-None-clause-earliest
 returns-in-None-clause-earliest c = λ c' rest s.

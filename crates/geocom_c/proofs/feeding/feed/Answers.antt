@@ -28,17 +28,23 @@ returns-in_default c =
           let f = c.frame-used.ensures.frame rest at s.under_way some in
           let client = c.args.client in
           let whole = frame_of (rest ++ take at c.args.bytes.now) in
-          let stands : StandsFor c.feed_frame.new.state (behind client c.frame-used.result.1) [] = c.feed_frame.ensures.state [] (with_rest c.args.state.now c.new-state.result client rest [] s c.new-state.ensures) in (
+          let stands : StandsFor c.feed_frame.new.state (behind client c.frame-used.result.1) [] =
+          c.feed_frame.ensures.state [] (with_rest c.args.state.now c.new-state.result client rest [] s c.new-state.ensures) in (
             ap (λ (x : GeocomHeard). x.used) c.using-in_default.ensures ∙ f.0,
             fed_used client c.frame-used.result.1 whole c.feed_frame.result c.using-in_default.result _ _ c.frame-used.result.0 f.1 c.using-in_default.ensures c.feed_frame.ensures.fed,
             subst (λ (g : Frame). StandsFor c.feed_frame.new.state (behind client g) []) f.1 stands,
           );
       fault = ap (λ (x : GeocomHeard). x.fault) c.using-in_default.ensures ∙ c.feed_frame.ensures.fed.fault;
-      used = (omega (arith, ap (λ (x : GeocomHeard). x.used) c.using-in_default.ensures, c.frame-used.ensures.used.0), λ some. omega (arith, ap (λ (x : GeocomHeard). x.used) c.using-in_default.ensures, c.frame-used.ensures.used.1 some));
+      used = (
+        omega (arith, ap (λ (x : GeocomHeard). x.used) c.using-in_default.ensures, c.frame-used.ensures.used.0),
+        λ some. omega
+            (arith, ap (λ (x : GeocomHeard). x.used) c.using-in_default.ensures, c.frame-used.ensures.used.1 some),
+      );
       answered = c.feed_frame.ensures.answered;
       records = c.feed_frame.ensures.records;
       text = c.feed_frame.ensures.text;
       few = omega (arith, ap (λ (x : GeocomHeard). x.count) c.using-in_default.ensures, c.feed_frame.ensures.few);
-      untouched = subst (λ (n : ℕ). drop n c.feed_frame.new.settlements ≡ drop n c.args.settlements.now) (sym (ap (λ (x : GeocomHeard). x.count) c.using-in_default.ensures)) c.feed_frame.ensures.untouched;
+      untouched = subst (λ (n : ℕ). drop n c.feed_frame.new.settlements ≡ drop n c.args.settlements.now)
+          (sym (ap (λ (x : GeocomHeard). x.count) c.using-in_default.ensures)) c.feed_frame.ensures.untouched;
       silent = λ none. c.feed_frame.ensures.silent (sym (ap (λ (x : GeocomHeard). x.count) c.using-in_default.ensures) ∙ none);
     }

@@ -39,7 +39,8 @@ returns-in-Settled-clause-fed c =
       kind = ap (λ (x : GeocomHeard). x.kind) h ∙ kinds.0;
       line_fault = ap (λ (x : GeocomHeard). x.line_fault) h ∙ kinds.1;
       count = let number = ap (λ (x : GeocomHeard). x.count) h in omega (arith, number, c.len.ensures.value, ap length are, length-map c.in-Settled.settled.items settlement_seen);
-      front = λ some. ap (take (length line)) whole ∙ take-append-le (length line) t (drop n new) (omega (arith, ap length c.tell-answer.ensures.front, length-take (length line) t)) ∙ c.tell-answer.ensures.front;
+      front = λ some. ap (take (length line)) whole ∙ take-append-le (length line) t (drop n new)
+          (omega (arith, ap length c.tell-answer.ensures.front, length-take (length line) t)) ∙ c.tell-answer.ensures.front;
       told = subst (λ (ss : List Settlement). FirstAre (IsRecord new) c.put_records.new.records ss) seen
           (subst (λ (x : List ℕ). FirstAre (IsRecord x) c.put_records.new.records (map settlement_seen c.as_slice-in-Settled.result.now)) (sym whole) behind);
     }

@@ -9,7 +9,7 @@ use Rattle.gc_client.specs.OneForOne.{goes}
 use Rattle.gc_client.specs.OneForOne as one
 use Rattle.geocom_c.specs.Beginning.{anew, left_behind}
 use Rattle.geocom_c.specs.State.{StandsFor, left_of}
-use Rattle.geocom_c.specs.Following.{hearing, Follows, Reached}
+use Rattle.geocom_c.specs.Following.{hearing, CallsReach, Reached}
 use Rattle.geocom_c.specs.declared.following.Step.{Step}
 use Rattle.geocom_c.specs.declared.header.TheConstants.{WINDOW_FULL, NOT_BEGUN}
 use Rattle.geocom_c.specs.declared.state.GeocomClient.{GeocomClient}
@@ -22,14 +22,14 @@ returns-in-Begin c = λ width s steps at.
     record {
       stage = record s { rest = rest_behind s.rest c.in-Begin.bytes.now; left = left_behind s.left s.rest c.in-Begin.bytes.now };
       at = record { stands = b.1; left = b.2 ∙ ap (λ l. left_behind l s.rest c.in-Begin.bytes.now) at.left };
-      on = λ t f. subst (λ (e : Step). Follows width s (e ∷ steps) t) (sym c.in-Begin.is) f;
+      on = λ t f. subst (λ (e : Step). CallsReach width s (e ∷ steps) t) (sym c.in-Begin.is) f;
     }
 
 pub returns-in-Feed : goal.returns-in-Feed
 returns-in-Feed c = λ width s steps at. record {
   stage = record s { reached = hearing width s.reached s.rest c.in-Feed.bytes.now; rest = rest_behind s.rest c.in-Feed.bytes.now };
   at = record { stands = c.feed_all.ensures.fed width s.reached s.rest at.stands; left = ap (λ n. drop n the_word) c.feed_all.ensures.answered ∙ at.left };
-  on = λ t f. subst (λ (e : Step). Follows width s (e ∷ steps) t) (sym c.in-Feed.is) f;
+  on = λ t f. subst (λ (e : Step). CallsReach width s (e ∷ steps) t) (sym c.in-Feed.is) f;
 }
 
 pub returns-in-Expire : goal.returns-in-Expire
@@ -39,7 +39,7 @@ returns-in-Expire c = λ width s steps at. record {
     stands = (c.geocom_client_expire.ensures.expired (search rules) (record { width = width; ids = s.reached.client }) s.rest at.stands).1;
     left = ap (λ n. drop n the_word) c.geocom_client_expire.ensures.answered ∙ at.left;
   };
-  on = λ t f. subst (λ (e : Step). Follows width s (e ∷ steps) t) (sym c.in-Expire.is) f;
+  on = λ t f. subst (λ (e : Step). CallsReach width s (e ∷ steps) t) (sym c.in-Expire.is) f;
 }
 
 pub returns-in-Restart : goal.returns-in-Restart
@@ -48,7 +48,7 @@ returns-in-Restart c = λ width s steps at.
     record {
       stage = record { reached = goes width s.reached one.Restart; rest = []; left = anew s.left };
       at = record { stands = r.1; left = c.geocom_client_restart.ensures.begins r.0 ∙ ap anew at.left };
-      on = λ t f. subst (λ (e : Step). Follows width s (e ∷ steps) t) (sym c.in-Restart.is) f;
+      on = λ t f. subst (λ (e : Step). CallsReach width s (e ∷ steps) t) (sym c.in-Restart.is) f;
     }
 
 pub returns-in-Send : goal.returns-in-Send
@@ -57,18 +57,21 @@ returns-in-Send c = λ width s steps at.
     let sent = c.geocom_client_send in
     let n = sent.result.fault in
     let answered = ap (λ n. drop n the_word) sent.ensures.answered in
-    let by : (call : Call) → left_of c.args.state.now ≡ [] → IsCall c.in-Send.procedure c.in-Send.params.now call → Reached width s (c.args.step.now ∷ steps) sent.new.state steps = λ call begun is. record {
+    let by : (call : Call) → left_of c.args.state.now ≡ [] → IsCall c.in-Send.procedure c.in-Send.params.now call
+    → Reached width s (c.args.step.now ∷ steps) sent.new.state steps = λ call begun is. record {
       stage = record s { reached = goes width s.reached (one.Send c.in-Send.target call c.in-Send.deadline) };
       at = record {
-        stands = sent_course width s.reached s.rest call c.in-Send.target (sends width s.reached.client c.in-Send.target call c.in-Send.deadline) (record { old = c.args.state.now; new = sent.new.state; before = _; after = sent.new.line; told = sent.result }) at.stands (sent.ensures.sent (search rules) client s.rest call at.stands begun is);
+        stands = sent_course width s.reached s.rest call c.in-Send.target (sends width s.reached.client c.in-Send.target call c.in-Send.deadline)
+            (record { old = c.args.state.now; new = sent.new.state; before = _; after = sent.new.line; told = sent.result }) at.stands
+            (sent.ensures.sent (search rules) client s.rest call at.stands begun is);
         left = answered ∙ at.left;
       };
-      on = λ t f. subst (λ (e : Step). Follows width s (e ∷ steps) t) (sym c.in-Send.is) (inl (call, sym at.left ∙ begun, is, f));
+      on = λ t f. subst (λ (e : Step). CallsReach width s (e ∷ steps) t) (sym c.in-Send.is) (inl (call, sym at.left ∙ begun, is, f));
     } in
     let none : n ≢ 0 → (s.left ≡ [] → (call : Call) → IsCall c.in-Send.procedure c.in-Send.params.now call → ⊥) → Reached width s (c.args.step.now ∷ steps) sent.new.state steps = λ no never. record {
       stage = s;
       at = record { stands = subst (λ (t : GeocomClient). StandsFor t client s.rest) (sym (sent.ensures.refused no).1) at.stands; left = answered ∙ at.left };
-      on = λ t f. subst (λ (e : Step). Follows width s (e ∷ steps) t) (sym c.in-Send.is) (inr (never, f));
+      on = λ t f. subst (λ (e : Step). CallsReach width s (e ∷ steps) t) (sym c.in-Send.is) (inr (never, f));
     } in
     decided n 0 (λ e. let d = sent.ensures.done e in by d.2 d.4 d.5)
     (λ no. decided n WINDOW_FULL (λ e. let d = sent.ensures.full e in by d.2 d.4 d.5)

@@ -58,4 +58,5 @@ pub returns-clause-front : goal.returns-clause-front
 returns-clause-front c = c.loop-k.invariant.front
 
 pub returns-clause-places : goal.returns-clause-places
-returns-clause-places c = subst (λ (xs : List (List ℕ)). FirstAre (StandsAt c.loop-k.text.items) c.loop-k.places xs) (take_all c.loop-k.k c.args.items.now (omega (arith, c.loop-k-test.false, c.len-k-end.ensures.value))) c.loop-k.invariant.places
+returns-clause-places c = subst (λ (xs : List (List ℕ)). FirstAre (StandsAt c.loop-k.text.items) c.loop-k.places xs)
+    (take_all c.loop-k.k c.args.items.now (omega (arith, c.loop-k-test.false, c.len-k-end.ensures.value))) c.loop-k.invariant.places

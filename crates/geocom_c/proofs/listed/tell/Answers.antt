@@ -15,7 +15,8 @@ returns-in-Ok c =
       front = front_of line c.append.new.to.items c.list.new.told.text.items c.list.ensures.front.0 first c.list.ensures.front.1;
       listed = λ reply values is few params.
           let same = reply_one line (reply_seen c.in-Ok.reply) reply (search (rules, c.in-Ok.ensures.found)) is in
-          subst (λ (r : ReplyFields). AreParams r.params values → AreListed c.list.new.told.items c.list.new.told.places c.list.new.told.text.items r.params values) same (c.list.ensures.listed values few) params;
+          subst (λ (r : ReplyFields). AreParams r.params values → AreListed c.list.new.told.items c.list.new.told.places c.list.new.told.text.items r.params
+          values) same (c.list.ensures.listed values few) params;
     }
 
 pub returns-in-Err : goal.returns-in-Err

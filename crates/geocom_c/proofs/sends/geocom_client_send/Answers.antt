@@ -28,7 +28,11 @@ pub returns-in_default-clause-astray : goal.returns-in_default-clause-astray
 returns-in_default-clause-astray c = (λ _. (c.if-line-lt-LINE_ROOM.false, c.load.ensures.none c.in_default.is), λ _. c.refused-in_default.ensures.fault)
 
 pub returns-in-Err-clause-astray : goal.returns-in-Err-clause-astray
-returns-in-Err-clause-astray c = (λ e. absurd (no_refusal_astray c.in-Err.fault (sym c.refusal_number.ensures ∙ sym c.from.ensures ∙ sym c.refused-in-Err.ensures.fault ∙ e)), λ both. absurd (both.1 _ _ c.in-Some.ensures.found))
+returns-in-Err-clause-astray c = (
+  λ e. absurd (no_refusal_astray c.in-Err.fault
+      (sym c.refusal_number.ensures ∙ sym c.from.ensures ∙ sym c.refused-in-Err.ensures.fault ∙ e)),
+  λ both. absurd (both.1 _ _ c.in-Some.ensures.found),
+)
 
 pub returns-in_default-clause-begins : goal.returns-in_default-clause-begins
 returns-in_default-clause-begins c = λ room c' rest s unbegun. absurd (c.in_default.not-Some c' (c.load.ensures.only c' rest s))

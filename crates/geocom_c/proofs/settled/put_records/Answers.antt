@@ -34,7 +34,8 @@ loop-k-preserved c =
     let is = c.record_of.ensures (subst (λ (x : Settlement). IsWellRead x.call x.outcome) (sym c.index-settled-k.is) (c.requires.read k s c.loop-k-test.true)) in
     record {
       records = subst (λ m. FirstAre (IsRecord text) (slice_set c.loop-k.records k r) (take m seen)) next
-          (first_written (IsRecord text) c.loop-k.records seen k r (settlement_seen s) c.loop-k.invariant.records (omega (arith, c.loop-k-test.true, c.requires.room, c.loop-k.invariant.size)) here is);
+          (first_written (IsRecord text) c.loop-k.records seen k r (settlement_seen s) c.loop-k.invariant.records
+          (omega (arith, c.loop-k-test.true, c.requires.room, c.loop-k.invariant.size)) here is);
       size = length-set c.loop-k.records k r ∙ c.loop-k.invariant.size;
       untouched = drop-set-lt (length settled) c.loop-k.records k r c.loop-k-test.true ∙ c.loop-k.invariant.untouched;
     }

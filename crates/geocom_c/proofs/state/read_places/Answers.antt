@@ -28,7 +28,8 @@ loop-k-preserved c =
     let here = slice_get-get_or places k _ within in
     record {
       count = omega (arith, ap length e, length-append c.loop-k.window (c.in-Some.p ∷ []), before.count);
-      found = subst (λ (w : List Pending). FirstAre IsPlace places w) (sym e) (first_more IsPlace places c.loop-k.window _ c.in-Some.p before.found (ap (slice_get places) before.count ∙ here) c.in-Some.ensures.found);
+      found = subst (λ (w : List Pending). FirstAre IsPlace places w) (sym e)
+          (first_more IsPlace places c.loop-k.window _ c.in-Some.p before.found (ap (slice_get places) before.count ∙ here) c.in-Some.ensures.found);
       only = λ ps n are.
           let it = got ps k (omega (arith, n, c.loop-k-test.true)) in
           let both : Some c.in-Some.p ≡ Some it.0 = sym c.in-Some.is ∙ c.read_place.ensures.only it.0 (first_at IsPlace places ps k _ it.0 are here it.1) in

@@ -12,6 +12,7 @@ loop-k-preserved c =
     let before = c.loop-k.invariant in
     record {
       places = subst (λ m. FirstAre IsPlace (slice_set c.loop-k.places k c.write_place.result) (take m c.args.window.now)) next
-          (first_written IsPlace c.loop-k.places c.args.window.now k c.write_place.result c.get.result before.places (omega (arith, c.loop-k-test.true, c.len-k-end.ensures.len, c.requires, before.length)) c.get.ensures c.write_place.ensures);
+          (first_written IsPlace c.loop-k.places c.args.window.now k c.write_place.result c.get.result before.places
+          (omega (arith, c.loop-k-test.true, c.len-k-end.ensures.len, c.requires, before.length)) c.get.ensures c.write_place.ensures);
       length = length-set c.loop-k.places k c.write_place.result ∙ before.length;
     }

@@ -22,7 +22,8 @@ write_settlements-requires-in-Err g c =
     let asking = c.exchange.new.self in
     let end = asking.end in
     let heard : Heard = record { rest = stands.0; bytes = c.args.self.now.ahead ++ ex.0; left = asking.ahead; kept = end.assembler; client = end.client.ids; settled = end.settled.items } in
-    let waits = still_waits g.L.Link.alone c.args.place c.args.command.now heard (g.L.Link.client c.args.link.now).taken (g.L.Link.client c.exchange.new.link).taken c.in-Err.fault (ex.3 stands.0 stands.1) in
+    let waits = still_waits g.L.Link.alone c.args.place c.args.command.now heard (g.L.Link.client c.args.link.now).taken
+    (g.L.Link.client c.exchange.new.link).taken c.in-Err.fault (ex.3 stands.0 stands.1) in
     let one = lost_alone c.args.place c.args.command.now end.client.ids c.restart-lost.result.items c.as_slice-in-Err.result.now waits c.restart-lost.ensures.settled c.as_slice-in-Err.ensures.value in
     omega (arith, c.ranges.place.fits, sym (length-map c.as_slice-in-Err.result.now settlement_seen), ap length one)
 

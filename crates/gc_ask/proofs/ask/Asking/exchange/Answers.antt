@@ -47,7 +47,16 @@ returns-clause-exchanges g c =
       omega (arith, heard.2, ap (λ (s : Input). s.reads) c.in_default.ensures.unread),
       λ rest s.
           let same = subst (λ (k : Kept). StandsFor k rest) (sym c.request-line.ensures.same.0) s in
-          subst (λ (xs : List ℕ). Exchanges g.L.Link.alone c.args.place c.args.command.now (record { rest = rest; bytes = xs ++ heard.0; left = c.hear_reply.new.ahead; kept = end.assembler; client = end.client.ids; settled = end.settled.items }) old.taken new.taken c.hear_reply.result)
+          subst (λ (xs : List ℕ). Exchanges g.L.Link.alone c.args.place c.args.command.now
+          (record {
+            rest = rest;
+            bytes = xs ++ heard.0;
+            left = c.hear_reply.new.ahead;
+            kept = end.assembler;
+            client = end.client.ids;
+            settled =
+                end.settled.items;
+          }) old.taken new.taken c.hear_reply.result)
           c.request-line.ensures.same.1
           (exchanged g.L.Link.alone c.args.place c.args.command.now asking.end.client.ids
           (record { rest = rest; bytes = asking.ahead ++ heard.0; left = c.hear_reply.new.ahead; kept = end.assembler; client = end.client.ids; settled = end.settled.items })

@@ -41,7 +41,8 @@ pub returns-then-not-more-clause-hears : goal.returns-then-not-more-clause-hears
 returns-then-not-more-clause-hears g c =
     let h = c.loop-used.invariant.heard in
     let ended : c.read.new.ahead ≡ [] = c.in-Ok.ensures.end (ap Ok c.if-not-more.true) in
-    let gave = subst (λ (xs : List ℕ). Consumes (g.L.Link.client c.args.link.now).remaining (g.L.Link.client c.read.new.self).remaining xs) (append-nil h.0) (Consumes-append _ _ _ h.0 [] h.1 (rw ended at c.in-Ok.ensures.bytes.0)) in (
+    let gave = subst (λ (xs : List ℕ). Consumes (g.L.Link.client c.args.link.now).remaining (g.L.Link.client c.read.new.self).remaining xs) (append-nil h.0)
+    (Consumes-append _ _ _ h.0 [] h.1 (rw ended at c.in-Ok.ensures.bytes.0)) in (
       h.0,
       gave,
       omega (arith, h.2, c.in-Ok.ensures.bytes.1),

@@ -10,7 +10,9 @@ not_alone : false ≡ true → ⊥
 not_alone e = cc
 
 pub returns-in-Err-clause-takes : goal.returns-in-Err-clause-takes
-returns-in-Err-clause-takes g c = takes_sent false c.args.place (with_end c.args.request.now.items) (g.B.Sink.taken c.args.self.now.client_out.now) (g.B.Sink.taken c.send_line.new.sink) (g.B.Sink.failed c.args.self.now.client_out.now) (g.B.Sink.failed c.send_line.new.sink) (Err c.in-Err.fault) c.in-Err.ensures
+returns-in-Err-clause-takes g c = takes_sent false c.args.place (with_end c.args.request.now.items) (g.B.Sink.taken c.args.self.now.client_out.now)
+    (g.B.Sink.taken c.send_line.new.sink) (g.B.Sink.failed c.args.self.now.client_out.now) (g.B.Sink.failed c.send_line.new.sink)
+    (Err c.in-Err.fault) c.in-Err.ensures
 
 pub returns-in-Err-clause-ends : goal.returns-in-Err-clause-ends
 returns-in-Err-clause-ends g c =
@@ -24,10 +26,12 @@ returns-in-Err-clause-ends g c =
     )
 
 pub returns-in-Err-clause-too_many : goal.returns-in-Err-clause-too_many
-returns-in-Err-clause-too_many g c is = absurd (sends_no c.args.place (with_end c.args.request.now.items) (taken_by g.B.Sink c.args.self.now.client_out.now) (taken_by g.B.Sink c.send_line.new.sink) (Err c.in-Err.fault) c.in-Err.ensures is)
+returns-in-Err-clause-too_many g c is = absurd (sends_no c.args.place (with_end c.args.request.now.items) (taken_by g.B.Sink c.args.self.now.client_out.now)
+    (taken_by g.B.Sink c.send_line.new.sink) (Err c.in-Err.fault) c.in-Err.ensures is)
 
 pub returns-clause-takes : goal.returns-clause-takes
-returns-clause-takes g c = takes_answered false c.args.place (with_end c.args.request.now.items) (g.B.Sink.taken c.args.self.now.client_out.now) (g.B.Sink.taken c.send_line.new.sink) c.answer_line.result not_alone c.in_default.ensures.0 c.answer_line.ensures.count
+returns-clause-takes g c = takes_answered false c.args.place (with_end c.args.request.now.items) (g.B.Sink.taken c.args.self.now.client_out.now)
+    (g.B.Sink.taken c.send_line.new.sink) c.answer_line.result not_alone c.in_default.ensures.0 c.answer_line.ensures.count
 
 pub returns-clause-ends : goal.returns-clause-ends
 returns-clause-ends g c =

@@ -33,7 +33,9 @@ returns-clause-settled g c =
           let s = w.meet.new.settlement in
           let all = take_all (k + 1) (set old k s) (omega (arith, places, length-set old k s)) in
           let are = subst (λ (ss : List Settlement). AreSettlements ss ruled) all (one_written old k (map lost (take k ws)) s (met p line) lt c.lose.ensures.settled w.meet.ensures) in
-          let by_rule = subst (λ (rs : List Rule.Settlement). AreSettlements (set old k s) rs) (sym (settle_is k line ws p _ (sym c.lose.ensures.left ∙ c.take_first-p.ensures)) ∙ ap (λ (d : Windowed). settle k line d.ids.waiting) c.self.view_is) are in
+          let by_rule = subst (λ (rs : List Rule.Settlement). AreSettlements (set old k s) rs)
+          (sym (settle_is k line ws p _ (sym c.lose.ensures.left ∙ c.take_first-p.ensures))
+          ∙ ap (λ (d : Windowed). settle k line d.ids.waiting) c.self.view_is) are in
           subst (λ (x : ArrayVec Settlement). AreSettlements x.items (settle k line c.args.self.now.ids.waiting)) (sym w.settled-is) by_rule
       | in_default w ↦ absurd (none_there c.get_mut.result w.in_default.is (c.get_mut.ensures.variant.1 lt))
     ]

@@ -5,7 +5,8 @@ use Rattle.gc_instrument.proofs.Answering.{refused_reply, request_call}
 use Rattle.gc_instrument.proofs.instrument.Instrument.reply_to.Goals as goal
 
 pub returns-in-Ok-clause-replies : goal.returns-in-Ok-clause-replies
-returns-in-Ok-clause-replies g c = request_call c.args.self.now c.answer_call.new.self (request_seen c.args.request.now) c.decode_call_into.new.call _ _ c.in-Ok.ensures.found c.answer_call.ensures.replies
+returns-in-Ok-clause-replies g c = request_call c.args.self.now c.answer_call.new.self
+    (request_seen c.args.request.now) c.decode_call_into.new.call _ _ c.in-Ok.ensures.found c.answer_call.ensures.replies
 
 pub returns-in-Err-clause-replies : goal.returns-in-Err-clause-replies
 returns-in-Err-clause-replies g c = record {

@@ -19,8 +19,11 @@ returns-then-bytes-room-clause-more c rest s =
 pub invariant_of-self-else-bytes-room : goal.invariant_of-self-else-bytes-room
 invariant_of-self-else-bytes-room c =
     let t = c.self.invariant in
-    let room : c.remaining_capacity-room.result ≡ 513 - length c.self.inside.front.items = omega arith in
-    (t.0 ++ c.args.bytes.now, keeps_part _ t.0 c.args.bytes.now _ _ t.1 (omega arith) (c.append-else-bytes-room.ensures ∙ ap (λ n. c.self.inside.front.items ++ take n c.args.bytes.now) room) (search rules))
+    let room : c.remaining_capacity-room.result ≡ 513 - length c.self.inside.front.items = omega arith in (
+      t.0 ++ c.args.bytes.now,
+      keeps_part _ t.0 c.args.bytes.now _ _ t.1 (omega arith)
+          (c.append-else-bytes-room.ensures ∙ ap (λ n. c.self.inside.front.items ++ take n c.args.bytes.now) room) (search rules),
+    )
 
 pub returns-else-bytes-room-clause-more : goal.returns-else-bytes-room-clause-more
 returns-else-bytes-room-clause-more c rest s =

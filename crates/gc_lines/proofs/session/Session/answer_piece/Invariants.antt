@@ -10,7 +10,9 @@ invariant-loop-left g l = record {
   room : HasRoom l.self.text.items l.self.lengths l.self.gathers;
   gathers : l.self.gathers ≡ l.initial.self.gathers;
   failed : g.K.Sink.failed l.sink ≡ g.K.Sink.failed l.initial.sink;
-  going : (rest : List ℕ) → StandsFor l.initial.self.assembler rest → Going g.A.Answers.answers rest l.fn.piece l.left l.self.assembler (record { state = l.initial.answerer; taken = g.K.Sink.taken l.initial.sink; whole = l.initial.self.replies }) (record { state = l.answerer; taken = g.K.Sink.taken l.sink; whole = l.self.replies }) l.self.text.items l.self.lengths;
+  going : (rest : List ℕ) → StandsFor l.initial.self.assembler rest → Going g.A.Answers.answers rest l.fn.piece l.left l.self.assembler
+      (record { state = l.initial.answerer; taken = g.K.Sink.taken l.initial.sink; whole = l.initial.self.replies })
+      (record { state = l.answerer; taken = g.K.Sink.taken l.sink; whole = l.self.replies }) l.self.text.items l.self.lengths;
 }
 
 abbrev pub decreases-loop-left : goal.decreases-loop-left

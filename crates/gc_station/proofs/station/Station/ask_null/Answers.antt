@@ -2,7 +2,7 @@ use Rattle.std.proofs.Common.{ap, ◌∙◌}
 use Rattle.gc_station.specs.declared.progress.Progress.{Progress}
 use Rattle.gc_links.specs.Acts.{put_as}
 use Rattle.gc_station.specs.Progressing.{null_sent}
-use Rattle.gc_station.specs.Standing.{requests_out, null_text, with_progress}
+use Rattle.gc_station.specs.Model.{requests_out, null_text, with_progress}
 use Rattle.gc_station.proofs.Making.{stands_with, put_puts, put_stands, put_took}
 use Rattle.gc_station.proofs.station.Station.ask_null.Goals as goal
 

@@ -1,7 +1,7 @@
 use Rattle.std.proofs.Common.{[], ◌∷◌, refl, ap, ◌∙◌}
 use Rattle.gc_links.specs.Acts.{put_as}
 use Rattle.gc_station.specs.Progressing.{cleared}
-use Rattle.gc_station.specs.Standing.{requests_out, with_progress}
+use Rattle.gc_station.specs.Model.{requests_out, with_progress}
 use Rattle.gc_station.proofs.Making.{stands_with, put_puts, put_stands, put_took}
 use Rattle.gc_station.proofs.station.Station.clear.Goals as goal
 
@@ -17,7 +17,8 @@ returns g c text known =
       tells = c.put-put.ensures.tells;
       goes = λ s start stands so. (
         put_puts put feed feed refl c.put-put.ensures.part,
-        put_stands put feed c.requests_out-requests.result (requests_out plan commands s.progress) (with_progress cleared) s (record old { progress = c.clear.new.self }) c.cut.new.self (stands_with old c.clear.new.self cleared s stands c.clear.ensures) c.cut.ensures
+        put_stands put feed c.requests_out-requests.result (requests_out plan commands s.progress) (with_progress cleared) s
+            (record old { progress = c.clear.new.self }) c.cut.new.self (stands_with old c.clear.new.self cleared s stands c.clear.ensures) c.cut.ensures
             (c.requests_out-requests.ensures ∙ ap (requests_out plan commands) stands.progress),
         put_took text start known put feed (requests_out plan commands s.progress) (with_progress cleared) s so,
       );

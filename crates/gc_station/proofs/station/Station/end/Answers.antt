@@ -3,8 +3,8 @@ use Rattle.std.proofs.lemmas.List.{length-map}
 use Rattle.gc_client.specs.Rule.{restarts}
 use Rattle.gc_client.specs.Settlements.{settlement_seen}
 use Rattle.gc_station.specs.Progressing.{loses_all}
-use Rattle.gc_station.specs.Standing.{losing}
-use Rattle.gc_station.specs.Stations.{Stands, Took, Follows}
+use Rattle.gc_station.specs.Model.{losing}
+use Rattle.gc_station.specs.Stations.{Refines, Took, ComesTo}
 use Rattle.gc_station.proofs.Hearing.{restarts_paired, settles_either}
 use Rattle.gc_station.proofs.station.Station.end.Goals as goal
 
@@ -23,11 +23,11 @@ returns-clause-ends g c s start stands so =
     (sym (length-map items settlement_seen) ∙ ap length same)
     (restarts_paired s.marks s.client stands.paired)
     (λ are. c.write.ensures.wrote s.reads start s.records are (so are)) c.write.ensures.after c.write.ensures.tally c.write.ensures.well in
-    subst (λ b. Follows (g.B.Book.text c.args.book.now) s.records c.write.new.self start (g.B.Book.taken c.write.new.book) (losing b s) c.write.result) loses t
+    subst (λ b. ComesTo (g.B.Book.text c.args.book.now) s.records c.write.new.self start (g.B.Book.taken c.write.new.book) (losing b s) c.write.result) loses t
 
 pub returns-then-not-loses_all-clause-ends : goal.returns-then-not-loses_all-clause-ends
 returns-then-not-loses_all-clause-ends g c s start stands so =
     let self = c.args.self.now in
     let taken = g.B.Book.taken c.args.book.now in
     let loses = sym c.if-not-loses_all.true ∙ c.loses_all.ensures ∙ ap loses_all stands.progress in
-    subst (λ b. Stands self (losing b s) × Took (g.B.Book.text c.args.book.now) start taken (losing b s)) loses (stands, so)
+    subst (λ b. Refines self (losing b s) × Took (g.B.Book.text c.args.book.now) start taken (losing b s)) loses (stands, so)

@@ -4,7 +4,7 @@ use Rattle.gc_client.specs.Rule.{ById}
 use Rattle.gc_texts.specs.declared.commands.Command.{Command}
 use Rattle.gc_links.specs.Acts.{put_as}
 use Rattle.gc_station.specs.Progressing.{asking}
-use Rattle.gc_station.specs.Standing.{Standing, requests_out, request_text, asks_null, with_progress}
+use Rattle.gc_station.specs.Model.{Model, requests_out, request_text, asks_null, with_progress}
 use Rattle.gc_station.proofs.Making.{stands_with, asks_stands, put_puts, put_stands, put_took}
 use Rattle.gc_station.proofs.station.Station.flush.Goals as goal
 
@@ -21,10 +21,14 @@ returns g c text known =
       act = put_as put line;
       tells = c.ask-put.ensures.tells;
       goes = λ s start stands so. (
-        put_puts put line (request_text s.client NullProc) (ap (λ (k : Command). request_text old.client.ids k.call) c.null_command.ensures ∙ ap (λ (ids : ById). request_text ids NullProc) stands.ids) c.ask-put.ensures.part,
-        put_stands put line c.requests_out-requests.result (requests_out plan commands s.progress) (λ (x : Standing). with_progress asking (asks_null plan x)) s (record c.ask-put.new.self { progress = c.ask.new.self }) c.cut.new.self
-            (stands_with c.ask-put.new.self c.ask.new.self asking (asks_null plan s) (asks_stands old c.ask-put.new.self s plan.deadline one other None stands c.requires.room c.null_command.ensures c.ask-put.ensures.asks) c.ask.ensures) c.cut.ensures
+        put_puts put line (request_text s.client NullProc) (ap (λ (k : Command). request_text old.client.ids k.call) c.null_command.ensures
+            ∙ ap (λ (ids : ById). request_text ids NullProc) stands.ids) c.ask-put.ensures.part,
+        put_stands put line c.requests_out-requests.result (requests_out plan commands s.progress)
+            (λ (x : Model). with_progress asking (asks_null plan x)) s (record c.ask-put.new.self { progress = c.ask.new.self }) c.cut.new.self
+            (stands_with c.ask-put.new.self c.ask.new.self asking (asks_null plan s)
+            (asks_stands old c.ask-put.new.self s plan.deadline one other None stands c.requires.room c.null_command.ensures c.ask-put.ensures.asks)
+            c.ask.ensures) c.cut.ensures
             (c.requests_out-requests.ensures ∙ ap (requests_out plan commands) stands.progress),
-        put_took text start known put line (requests_out plan commands s.progress) (λ (x : Standing). with_progress asking (asks_null plan x)) s so,
+        put_took text start known put line (requests_out plan commands s.progress) (λ (x : Model). with_progress asking (asks_null plan x)) s so,
       );
     }

@@ -2,8 +2,8 @@ use Rattle.std.proofs.Common.{◌≤◌, ℕ, List, subst, length, map, ap, sym,
 use Rattle.std.proofs.lemmas.List.{length-map}
 use Rattle.gc_client.specs.Rule.{hears, heard}
 use Rattle.gc_client.specs.Settlements.{settlement_seen}
-use Rattle.gc_station.specs.Standing.{is_reply, settles, lines_came}
-use Rattle.gc_station.specs.Stations.{Stands, Took}
+use Rattle.gc_station.specs.Model.{is_reply, settles, lines_came}
+use Rattle.gc_station.specs.Stations.{Refines, Took}
 use Rattle.std.specs.Option.{option_to_list}
 use Rattle.gc_station.proofs.Hearing.{hears_paired, settles_ok, settles_part, with_noted, no_line}
 use Rattle.gc_station.proofs.station.Station.hear.Goals as goal
@@ -36,7 +36,9 @@ returns-in-Err-clause-hears g c s start stands so =
     let client = c.hear-hearing.ensures.client short in
     let items = c.hear-hearing.new.settled.items in
     let same = (c.hear-hearing.ensures.settled short).seen ∙ ap (λ y. y.settlements) seen in
-    let t = settles_part (g.B.Book.text c.args.book.now) c.args.self.now (record c.args.self.now { client = c.hear-hearing.new.self; settled = c.hear-hearing.new.settled }) s x (map settlement_seen items) start (g.B.Book.taken c.write.new.book)
+    let t = settles_part (g.B.Book.text c.args.book.now) c.args.self.now
+    (record c.args.self.now { client = c.hear-hearing.new.self; settled = c.hear-hearing.new.settled }) s x (map settlement_seen items) start
+    (g.B.Book.taken c.write.new.book)
     stands
     (record { ids_are = ap (λ w. w.ids) client ∙ ap (λ y. y.client) seen; width = ap (λ w. w.width) client; marks = refl; assembler = refl; progress = refl; tally = refl; well = refl })
     same
@@ -47,7 +49,8 @@ pub returns-in_default : goal.returns-in_default
 returns-in_default g c = record {
   hears = λ s start stands so.
       let none = no_line c.args.frame c.in_default.not-Line in
-      subst (λ (lines : List (List ℕ)). Stands c.args.self.now (lines_came s lines) × Took (g.B.Book.text c.args.book.now) start (g.B.Book.taken c.args.book.now) (lines_came s lines)) (sym (ap option_to_list none)) (stands, so);
+      subst (λ (lines : List (List ℕ)). Refines c.args.self.now (lines_came s lines)
+      × Took (g.B.Book.text c.args.book.now) start (g.B.Book.taken c.args.book.now) (lines_came s lines)) (sym (ap option_to_list none)) (stands, so);
   fails = refl;
   form = refl;
 }

@@ -3,8 +3,8 @@ use Rattle.std.proofs.Math.ListN.{drop_of_length-le}
 use Rattle.std.proofs.lemmas.List.{take_rest}
 use Rattle.gc_lines.specs.Lent.{lent_seen}
 use Rattle.gc_lines.proofs.Passing.{Takes, takes}
-use Rattle.gc_station.specs.Standing.{Standing}
-use Rattle.gc_station.specs.Stations.{Stands}
+use Rattle.gc_station.specs.Model.{Model}
+use Rattle.gc_station.specs.Stations.{Refines}
 use Rattle.gc_station.proofs.Hearing.{Asking, asking_on}
 use Rattle.gc_station.proofs.station.Station.listen_null.Goals as goal
 
@@ -33,4 +33,4 @@ returns c s stands =
     let at = c.loop-at.at in
     let past : length piece ≤ at = omega (arith, c.loop-at-test.false) in
     let h = subst (λ left. Asking c.loop-at.self s piece left) (drop_of_length-le piece past) (c.loop-at.invariant.asking s stands) in
-    subst (λ (x : Standing). Stands c.loop-at.self x) h.goes h.stands
+    subst (λ (x : Model). Refines c.loop-at.self x) h.goes h.stands

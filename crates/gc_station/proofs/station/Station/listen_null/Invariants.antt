@@ -1,13 +1,13 @@
 use Rattle.std.proofs.Common.{◌≤◌, ◌-◌, length, drop}
-use Rattle.gc_station.specs.Standing.{Standing}
-use Rattle.gc_station.specs.Stations.{Stands}
+use Rattle.gc_station.specs.Model.{Model}
+use Rattle.gc_station.specs.Stations.{Refines}
 use Rattle.gc_station.proofs.Hearing.{Asking}
 use Rattle.gc_station.proofs.station.Station.listen_null.Given as goal
 
 abbrev pub invariant-loop-at : goal.invariant-loop-at
 invariant-loop-at l = record {
   within : l.at ≤ length l.piece;
-  asking : (s : Standing) → Stands l.initial.self s → Asking l.self s l.piece (drop l.at l.piece);
+  asking : (s : Model) → Refines l.initial.self s → Asking l.self s l.piece (drop l.at l.piece);
 }
 
 abbrev pub decreases-loop-at : goal.decreases-loop-at

@@ -7,8 +7,8 @@ use Rattle.gc_links.specs.Acts.{Told, Untold}
 use Rattle.gc_station.specs.Marks.{commands_in}
 use Rattle.gc_station.specs.Progressing.{failing, skipped, reckoned_early}
 use Rattle.gc_station.specs.Records.{Record, texts_of}
-use Rattle.gc_station.specs.Standing.{Standing, place_next, mark_next, bound_next, skips, with_progress, with_records}
-use Rattle.gc_station.specs.Stations.{Stands, Took}
+use Rattle.gc_station.specs.Model.{Model, place_next, mark_next, is_chained_behind_next, skips, with_progress, with_records}
+use Rattle.gc_station.specs.Stations.{Refines, Took}
 use Rattle.gc_station.proofs.Hearing.{stands_expired}
 use Rattle.gc_station.proofs.Making.{stands_with, drop_some, skips_unwell, skipped_stands, none_skipped}
 use Rattle.gc_station.proofs.station.Station.skip.Goals as goal
@@ -29,19 +29,25 @@ returns-in_default-clause-does g c =
       tells = c.in-Ok.ensures;
       goes = λ s start stands so.
           let q = s.progress in
-          let bound = bound_next commands q in
+          let next_is_chained = is_chained_behind_next commands q in
           let is = stands.progress in
           let same = ap (λ (x : Station). x.progress) c.in_default.ensures.after ∙ is in
-          let here_stands : Stands mid (with_records rs s) = skipped_stands old mid s rs stands (λ reads b. skips_unwell reads b p m (mark_next plan commands p) (drop (place_next commands p) commands) here.0 here.1 here.2) c.in_default.ensures.after in
+          let here_stands : Refines mid (with_records rs s) = skipped_stands old mid s rs stands
+          (λ reads b. skips_unwell reads b p m (mark_next plan commands p) (drop (place_next commands p) commands) here.0 here.1 here.2)
+          c.in_default.ensures.after in
           let rs' = ap (λ (x : Progress). skips plan commands x (Told m)) is in
-          let there : Stands mid (with_records (skips plan commands q (Told m)) s) = subst (λ (xs : List Record). Stands mid (with_records xs s)) rs' here_stands in
+          let there : Refines mid (with_records (skips plan commands q (Told m)) s) = subst (λ (xs : List Record). Refines mid (with_records xs s)) rs' here_stands in
           let waiting = c.commands-waiting.ensures ∙ ap commands_in there.marks in
           let progress =
           c.reckon_early.ensures ∙ ap (λ n. reckoned_early plan n c.skip.new.self) waiting
-          ∙ ap (reckoned_early plan (commands_in s.marks)) (c.skip.ensures ∙ ap (λ b. skipped b m mid.progress) (c.bound_next-bound.ensures ∙ ap (bound_next commands) same) ∙ ap (skipped bound m) same) in (
+          ∙ ap (reckoned_early plan (commands_in s.marks)) (c.skip.ensures
+          ∙ ap (λ b. skipped b m mid.progress) (c.is_chained_behind_next-next_is_chained.ensures ∙ ap (is_chained_behind_next commands) same)
+          ∙ ap (skipped next_is_chained m) same) in (
             tt,
-            stands_expired mid c.reckon_early.new.self (reckoned_early plan (commands_in s.marks) (skipped bound m q)) c.expire.new.self m (with_records (skips plan commands q (Told m)) s) there progress c.expire.ensures.client,
-            λ are. subst (λ (xs : List Record). Appends start (g.B.Book.taken c.write_skipped.new.book) (texts_of (g.B.Book.text c.args.book.now) (s.records ++ xs))) rs' (c.in_default.ensures.wrote start s.records (so are)),
+            stands_expired mid c.reckon_early.new.self (reckoned_early plan (commands_in s.marks) (skipped next_is_chained m q)) c.expire.new.self m
+                (with_records (skips plan commands q (Told m)) s) there progress c.expire.ensures.client,
+            λ are. subst (λ (xs : List Record). Appends start (g.B.Book.taken c.write_skipped.new.book)
+                (texts_of (g.B.Book.text c.args.book.now) (s.records ++ xs))) rs' (c.in_default.ensures.wrote start s.records (so are)),
           );
     }
 
@@ -54,7 +60,7 @@ returns-in-Err-clause-does g c =
       goes = λ s start stands so.
           let none = sym (none_skipped s) in (
             tt,
-            subst (λ (x : Standing). Stands (record old { progress = c.fail.new.self }) (with_progress (failing Clock) x)) none (stands_with old c.fail.new.self (failing Clock) s stands c.fail.ensures),
-            subst (λ (x : Standing). Took (g.B.Book.text c.args.book.now) start (g.B.Book.taken c.args.book.now) x) none so,
+            subst (λ (x : Model). Refines (record old { progress = c.fail.new.self }) (with_progress (failing Clock) x)) none (stands_with old c.fail.new.self (failing Clock) s stands c.fail.ensures),
+            subst (λ (x : Model). Took (g.B.Book.text c.args.book.now) start (g.B.Book.taken c.args.book.now) x) none so,
           );
     }

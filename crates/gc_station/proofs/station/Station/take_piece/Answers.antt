@@ -2,7 +2,7 @@ use Rattle.std.proofs.Common.{ap, ◌∙◌}
 use Rattle.gc_station.specs.declared.progress.Waiting.{Waiting}
 use Rattle.gc_station.specs.Marks.{commands_in}
 use Rattle.gc_station.specs.Progressing.{told, reckoned_early}
-use Rattle.gc_station.specs.Standing.{Standing, with_moment, with_progress, waiting_of, came, is_heard}
+use Rattle.gc_station.specs.Model.{Model, with_moment, with_progress, waiting_of, came, is_heard}
 use Rattle.gc_station.proofs.Hearing.{stands_expired, all_same, commands_same, reckoned_same}
 use Rattle.gc_station.proofs.station.Station.take_piece.Goals as goal
 
@@ -20,13 +20,14 @@ returns-clause-takes g c s start stands so =
     let t =
     c.in_default.ensures.takes (with_moment m (with_progress (told m) s)) start
     (stands_expired c.args.self.now c.tell.new.self (told m s.progress) c.expire.new.self m s stands (c.tell.ensures ∙ ap (told m) stands.progress) c.expire.ensures.client) so in
-    let heard : Standing = came (is_heard s.progress.phase) s.progress.word c.args.piece.now (with_moment m (with_progress (told m) s)) in
+    let heard : Model = came (is_heard s.progress.phase) s.progress.word c.args.piece.now (with_moment m (with_progress (told m) s)) in
     let before = c.commands-before.ensures ∙ ap commands_in stands.marks in
     let all = ap (λ (w : Waiting). w.all) c.waiting-after.ensures ∙ all_same c.take_lines.new.self heard t.0 in
     let commands = ap (λ (w : Waiting). w.commands) c.waiting-after.ensures ∙ commands_same c.take_lines.new.self heard t.0 in (
       record {
         progress = c.reckon_early.ensures ∙ ap (reckoned_early plan c.waiting-after.result.commands) c.give.ensures
-            ∙ reckoned_same plan until c.commands-before.result (commands_in s.marks) c.waiting-after.result (waiting_of heard) c.take_lines.new.self.progress heard.progress before all commands t.0.progress;
+            ∙ reckoned_same plan until c.commands-before.result (commands_in s.marks) c.waiting-after.result
+            (waiting_of heard) c.take_lines.new.self.progress heard.progress before all commands t.0.progress;
         ids = t.0.ids;
         width = t.0.width;
         marks = t.0.marks;

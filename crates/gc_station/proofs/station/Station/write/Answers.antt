@@ -8,5 +8,7 @@ use Rattle.gc_station.proofs.station.Station.write.Goals as goal
 pub returns-clause-wrote : goal.returns-clause-wrote
 returns-clause-wrote g c reads start before are so =
     let old = c.args.self.now in
-    subst (λ (xs : List Settlement). WritesAll (g.B.Book.text c.args.book.now) before (before ++ records_of reads old.progress.moment.utc old.marks.items (map settlement_seen xs)) start (g.B.Book.taken c.write_settlements.new.book) c.write_settlements.result) c.as_slice.ensures.value
+    subst (λ (xs : List Settlement). WritesAll (g.B.Book.text c.args.book.now) before
+    (before ++ records_of reads old.progress.moment.utc old.marks.items (map settlement_seen xs)) start
+    (g.B.Book.taken c.write_settlements.new.book) c.write_settlements.result) c.as_slice.ensures.value
     (c.write_settlements.ensures.wrote reads start before are so)

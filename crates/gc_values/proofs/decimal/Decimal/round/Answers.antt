@@ -32,7 +32,8 @@ returns-clause-rounding c =
     let unit : c.power_of_ten-unit.result ≡ 10 ^ (d.scale - c.args.places) = c.power_of_ten-unit.ensures in
     let near = subst (λ u. RoundsHalfUp c.parts-negative.result.1 u c.nearest.result) unit c.nearest.ensures.rounds in
     let made = c.from_parts.ensures in
-    let r = rounded_from neg c.parts-negative.result.1 d.scale c.args.places c.nearest.result made.n c.from_parts.result.scale (rounds_places c.parts-negative.result.1 d.scale c.args.places c.nearest.result (omega arith) near) made.zeros in
+    let r = rounded_from neg c.parts-negative.result.1 d.scale c.args.places c.nearest.result made.n c.from_parts.result.scale
+    (rounds_places c.parts-negative.result.1 d.scale c.args.places c.nearest.result (omega arith) near) made.zeros in
     subst (λ z. IsRounded (record { n = z; k = d.scale }) c.args.places c.from_parts.result.digits c.from_parts.result.scale) (sym c.parts-negative.ensures.value)
     (subst (λ z. IsRounded (record { n = signed neg c.parts-negative.result.1; k = d.scale }) c.args.places z c.from_parts.result.scale) (sym made.m_is) r)
 

@@ -25,11 +25,13 @@ difference_is u v x a b e f hu hv is =
 pub returns-clause-fact : goal.returns-clause-fact
 returns-clause-fact c =
     compared c.args.self.now c.args.other.now c.args.area.now _ _
-    (difference_is c.units.result c.units-2.result c.abs.result c.args.self.now c.args.other.now c.units.ensures.value c.units-2.ensures.value c.units.ensures.bound c.units-2.ensures.bound c.abs.ensures.value)
+    (difference_is c.units.result c.units-2.result c.abs.result c.args.self.now c.args.other.now c.units.ensures.value c.units-2.ensures.value
+    c.units.ensures.bound c.units-2.ensures.bound c.abs.ensures.value)
     (passed c.units-3.result (omega (arith, c.units-3.ensures.bound)) ∙ c.units-3.ensures.value)
 
 pub returns-clause-exact : goal.returns-clause-exact
 returns-clause-exact c =
     compared_exact c.args.self.now c.args.other.now c.args.area.now _ _
-    (difference_is c.units.result c.units-2.result c.abs.result c.args.self.now c.args.other.now c.units.ensures.value c.units-2.ensures.value c.units.ensures.bound c.units-2.ensures.bound c.abs.ensures.value)
+    (difference_is c.units.result c.units-2.result c.abs.result c.args.self.now c.args.other.now c.units.ensures.value c.units-2.ensures.value
+    c.units.ensures.bound c.units-2.ensures.bound c.abs.ensures.value)
     (passed c.units-3.result (omega (arith, c.units-3.ensures.bound)) ∙ c.units-3.ensures.value)

@@ -9,5 +9,6 @@ returns-in-Some-front_number-clause-reads c = λ v vs reads left.
     let made = c.in-Some-front_number.ensures in
     record {
       well = left.well;
-      left = subst (λ r. LeftPlain (option_copied r) (v ∷ vs)) (sym c.in-Some.is) (plain_next c.in-Some.text.now made.item (option_copied c.in-Some-front_number.rest) v vs made.cut (reads made.item made.names) left.left);
+      left = subst (λ r. LeftPlain (option_copied r) (v ∷ vs)) (sym c.in-Some.is)
+          (plain_next c.in-Some.text.now made.item (option_copied c.in-Some-front_number.rest) v vs made.cut (reads made.item made.names) left.left);
     }

@@ -8,20 +8,24 @@ line-requires c = front_written c.args.direction c.args.report.now c.args.self.n
 
 pub feed_some-requires-clause-plain : goal.feed_some-requires-clause-plain
 feed_some-requires-clause-plain c =
-    (front_line c.args.direction c.args.report.now c.args.self.now c.requires.0 c.requires.1 c.in-Some.place c.in-Some.ensures.0 c.as_slice-line.result.now c.in-Some.ensures.1 (c.line.ensures ∙ ap Some (sym c.as_slice-line.ensures.value))).plain
+    (front_line c.args.direction c.args.report.now c.args.self.now c.requires.0 c.requires.1 c.in-Some.place c.in-Some.ensures.0 c.as_slice-line.result.now
+    c.in-Some.ensures.1 (c.line.ensures ∙ ap Some (sym c.as_slice-line.ensures.value))).plain
 
 pub feed_some-requires-clause-some : goal.feed_some-requires-clause-some
 feed_some-requires-clause-some c =
-    let left = left_of c.args.direction c.args.report.now c.args.self.now c.requires.0 c.requires.1 c.in-Some.place c.in-Some.ensures.0 c.as_slice-line.result.now c.in-Some.ensures.1 (c.line.ensures ∙ ap Some (sym c.as_slice-line.ensures.value)) in
+    let left = left_of c.args.direction c.args.report.now c.args.self.now c.requires.0 c.requires.1 c.in-Some.place c.in-Some.ensures.0
+    c.as_slice-line.result.now c.in-Some.ensures.1 (c.line.ensures ∙ ap Some (sym c.as_slice-line.ensures.value)) in
     omega (arith, left, c.requires.2)
 
 pub feed_some-requires-clause-stands : goal.feed_some-requires-clause-stands
 feed_some-requires-clause-stands c =
-    (front_line c.args.direction c.args.report.now c.args.self.now c.requires.0 c.requires.1 c.in-Some.place c.in-Some.ensures.0 c.as_slice-line.result.now c.in-Some.ensures.1 (c.line.ensures ∙ ap Some (sym c.as_slice-line.ensures.value))).stands
+    (front_line c.args.direction c.args.report.now c.args.self.now c.requires.0 c.requires.1 c.in-Some.place c.in-Some.ensures.0 c.as_slice-line.result.now
+    c.in-Some.ensures.1 (c.line.ensures ∙ ap Some (sym c.as_slice-line.ensures.value))).stands
 
 pub overflow_add-self : goal.overflow_add-self
 overflow_add-self c =
-    let left = left_of c.args.direction c.args.report.now c.args.self.now c.requires.0 c.requires.1 c.in-Some.place c.in-Some.ensures.0 c.as_slice-line.result.now c.in-Some.ensures.1 (c.line.ensures ∙ ap Some (sym c.as_slice-line.ensures.value)) in
+    let left = left_of c.args.direction c.args.report.now c.args.self.now c.requires.0 c.requires.1 c.in-Some.place c.in-Some.ensures.0
+    c.as_slice-line.result.now c.in-Some.ensures.1 (c.line.ensures ∙ ap Some (sym c.as_slice-line.ensures.value)) in
     omega (arith, left, c.requires.2, c.as_slice-line.ensures.fits)
 
 pub returns-clause-flow : goal.returns-clause-flow

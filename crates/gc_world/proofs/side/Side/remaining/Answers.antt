@@ -7,7 +7,8 @@ line-requires c = front_written c.args.direction c.args.report.now c.args.self.n
 
 pub overflow_sub-result : goal.overflow_sub-result
 overflow_sub-result c =
-    let front = front_line c.args.direction c.args.report.now c.args.self.now c.requires.0 c.requires.1 c.in-Some.place c.in-Some.ensures.0 c.line.result.now.items c.in-Some.ensures.1 c.line.ensures in
+    let front = front_line c.args.direction c.args.report.now c.args.self.now c.requires.0 c.requires.1 c.in-Some.place c.in-Some.ensures.0
+    c.line.result.now.items c.in-Some.ensures.1 c.line.ensures in
     omega (arith, front.some, c.len.ensures)
 
 pub returns-in-Some : goal.returns-in-Some

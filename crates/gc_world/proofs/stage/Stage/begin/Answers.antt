@@ -10,14 +10,22 @@ use Rattle.gc_world.proofs.stage.Stage.begin.Goals as goal
 pub begin-requires : goal.begin-requires
 begin-requires g c =
     let s = seen c.args.self.now in
-    let (width, v, h) = c.requires.shown in
-    (texts Up v.world.wire, carries width s v h Up, more_left width s v h Up c.args.n (subst (λ (d : Direction). c.args.n < remaining (gone d v) (lines d v.world.wire)) c.in-Up.is (c.requires.some width v h)))
+    let (width, v, h) = c.requires.shown in (
+      texts Up v.world.wire,
+      carries width s v h Up,
+      more_left width s v h Up c.args.n
+          (subst (λ (d : Direction). c.args.n < remaining (gone d v) (lines d v.world.wire)) c.in-Up.is (c.requires.some width v h)),
+    )
 
 pub begin-requires-in-Down : goal.begin-requires-in-Down
 begin-requires-in-Down g c =
     let s = seen c.args.self.now in
-    let (width, v, h) = c.requires.shown in
-    (texts Down v.world.wire, carries width s v h Down, more_left width s v h Down c.args.n (subst (λ (d : Direction). c.args.n < remaining (gone d v) (lines d v.world.wire)) c.in-Down.is (c.requires.some width v h)))
+    let (width, v, h) = c.requires.shown in (
+      texts Down v.world.wire,
+      carries width s v h Down,
+      more_left width s v h Down c.args.n
+          (subst (λ (d : Direction). c.args.n < remaining (gone d v) (lines d v.world.wire)) c.in-Down.is (c.requires.some width v h)),
+    )
 
 pub returns-in-Up : goal.returns-in-Up
 returns-in-Up g c =

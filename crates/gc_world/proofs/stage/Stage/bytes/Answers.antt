@@ -42,7 +42,9 @@ returns-in_err-deliver-clause-spare g c =
     let done = c.completes.ensures.0 c.loop-left-test.true in
     λ width v h none.
     let at = c.loop-left.invariant.follows width v h in
-    absurd (not_both (c.in_err-deliver.ensures.spare width at.now at.shows (next_spares width c.args.direction t v c.args.n c.loop-left.left at c.loop-left.remaining (c.loop-left.invariant.remaining width at.now at.shows) done.0 done.1 none)))
+    absurd (not_both (c.in_err-deliver.ensures.spare width at.now at.shows
+    (next_spares width c.args.direction t v c.args.n c.loop-left.left at c.loop-left.remaining
+    (c.loop-left.invariant.remaining width at.now at.shows) done.0 done.1 none)))
 
 pub remaining-remaining-requires-in-loop-left : goal.remaining-remaining-requires-in-loop-left
 remaining-remaining-requires-in-loop-left g c =
@@ -92,4 +94,5 @@ returns-else-left-remaining-clause-follows g c =
     let at = c.loop-left.invariant.follows width v h in
     subst (λ (x : Streams ById State). AreStreamsOf width t x) (sym (under_way width c.args.direction v c.args.n first.result (first.ensures width v h) c.if-n-eq0.false c.if-remaining-eq0.false))
     (runs_dry width c.args.direction t v c.args.n c.loop-left.left at
-    (sym (c.loop-left.invariant.remaining width at.now at.shows) ∙ runs_out c.completes.result c.loop-left.remaining c.loop-left.left c.completes.ensures c.loop-left-test.false (λ lt. omega (arith, lt, c.if-left-remaining.false))))
+    (sym (c.loop-left.invariant.remaining width at.now at.shows) ∙ runs_out c.completes.result c.loop-left.remaining c.loop-left.left c.completes.ensures
+    c.loop-left-test.false (λ lt. omega (arith, lt, c.if-left-remaining.false))))

@@ -1,5 +1,6 @@
-use Rattle.std.proofs.Common.{◌≡◌, ◌≤◌, ◌∷◌, length, sym, ◌∙◌, ap, subst}
+use Rattle.std.proofs.Common.{◌≡◌, ◌≤◌, ◌∷◌, ◌++◌, length, Some, sym, ◌∙◌, ap, subst}
 use Rattle.std.specs.Option.{option_map}
+use Rattle.std.specs.Prelude.{slice_get}
 use Rattle.gc_world.specs.declared.direction.Direction.TheVariants.{Down}
 use Rattle.gc_world.specs.declared.report.Made.{Made}
 use Rattle.gc_world.specs.Stages.{seen}
@@ -7,57 +8,68 @@ use Rattle.gc_world.specs.Streams.{down_texts}
 use Rattle.gc_world.proofs.Pieces.{came_out, none_else}
 use Rattle.gc_world.proofs.Showing.{none_settled}
 use Rattle.gc_world.proofs.Shown.{carries, front_reply, streams_down_deliver}
-use Rattle.gc_world.proofs.Sides.{taken}
+use Rattle.gc_world.proofs.Places.{below}
+use Rattle.gc_world.proofs.Sides.{front_flow}
 use Rattle.gc_world.proofs.Sparing.{not_both, stray}
 use Rattle.gc_world.proofs.stage.Stage.down_deliver.Goals as goal
 
-pub finish-frame-requires : goal.finish-frame-requires
-finish-frame-requires g c =
+pub at-requires : goal.at-requires
+at-requires g c =
+    let s = seen c.args.self.now in
+    let shown = c.requires.shown in
+    let front = front_reply shown.0 s shown.1 shown.2 c.in-Some.place c.take_front.new.self c.in-Some.ensures in
+    below s.report.made c.in-Some.place front.0 front.1
+
+pub finish-frame-requires-clause-flow : goal.finish-frame-requires-clause-flow
+finish-frame-requires-clause-flow g c =
     let s = seen c.args.self.now in
     let shown = c.requires.shown in
     let texts = down_texts shown.1.world.wire in
-    (texts, taken Down s.report s.down texts c.in-Some.place c.take_front.new.self c.in-Some.ensures (carries shown.0 s shown.1 shown.2 Down))
+    let text : option_map (λ (m : Made). m.line.items) (slice_get s.report.made c.in-Some.place) ≡ Some c.as_slice-line.result.now =
+    ap (option_map (λ (m : Made). m.line.items)) c.at.ensures ∙ ap Some (sym c.as_slice-line.ensures.value) in
+    front_flow Down s.report s.down texts (carries shown.0 s shown.1 shown.2 Down) c.in-Some.place c.take_front.new.self c.as_slice-line.result.now c.in-Some.ensures text
 
 -- the line came out
 pub returns-in_default-frame : goal.returns-in_default-frame
 returns-in_default-frame g c =
-    let s = seen c.args.self.now in
-    let shown = c.requires.shown in
-    let front = front_reply shown.0 s shown.1 shown.2 c.in-Some.place c.take_front.new.self c.in-Some.ensures in
-    absurd (none_else c.finish-frame.result front.0.line.items (c.finish-frame.ensures.line front.0.line.items (ap (option_map (λ (m : Made). m.line.items)) front.1)) c.in_default-frame.not-Line)
+    absurd (none_else c.finish-frame.result c.as_slice-line.result.now c.finish-frame.ensures.line c.in_default-frame.not-Line)
 
-pub returns-in_err-append_from-clause-spare : goal.returns-in_err-append_from-clause-spare
-returns-in_err-append_from-clause-spare g c =
+pub returns-in_err-append_all-clause-spare : goal.returns-in_err-append_all-clause-spare
+returns-in_err-append_all-clause-spare g c =
     let s = seen c.args.self.now in
     let shown = c.requires.shown in
-    let front = front_reply shown.0 s shown.1 shown.2 c.in-Some.place c.take_front.new.self c.in-Some.ensures in
-    let line = front.0.line in
+    let line = c.at.result.now.line in
     let reply = c.in-Line.reply.now in
-    let out : reply ≡ line.items = came_out c.finish-frame.result c.in-Line.reply line.items c.in-Line.is (c.finish-frame.ensures.line line.items (ap (option_map (λ (m : Made). m.line.items)) front.1)) in
-    let fits : length reply ≤ 512 = subst (λ l. length l ≤ 512) (sym out) (c.finish-frame.ensures.within line.items (ap (option_map (λ (m : Made). m.line.items)) front.1)) in
-    λ width v h t. absurd (not_both (sym (stray width s.report s.up.queue s.down.queue s.client v.world h.lines c.in-Some.place c.take_front.new.self front.0 reply c.in-Some.ensures front.1 out t) ∙ c.in-Settled.ensures.heard fits))
+    let came : reply ≡ c.as_slice-line.result.now = came_out c.finish-frame.result c.in-Line.reply c.as_slice-line.result.now c.in-Line.is c.finish-frame.ensures.line in
+    let out : reply ≡ line.items = came ∙ c.as_slice-line.ensures.value in
+    let fits : length reply ≤ 512 = subst (λ l. length l ≤ 512) (sym came) c.as_slice-line.ensures.fits in
+    λ width v h t. absurd (not_both (sym (stray width s.report s.up.queue s.down.queue s.client v.world h.lines c.in-Some.place c.take_front.new.self
+    c.at.result.now reply c.in-Some.ensures c.at.ensures out t) ∙ c.in-Settled.ensures.heard fits))
 
-pub returns-in_ok-append_from-clause-follows : goal.returns-in_ok-append_from-clause-follows
-returns-in_ok-append_from-clause-follows g c =
+pub returns-in_ok-append_all-clause-follows : goal.returns-in_ok-append_all-clause-follows
+returns-in_ok-append_all-clause-follows g c =
     let s = seen c.args.self.now in
     let shown = c.requires.shown in
-    let front = front_reply shown.0 s shown.1 shown.2 c.in-Some.place c.take_front.new.self c.in-Some.ensures in
-    let line = front.0.line in
+    let line = c.at.result.now.line in
     let reply = c.in-Line.reply.now in
-    let out : reply ≡ line.items = came_out c.finish-frame.result c.in-Line.reply line.items c.in-Line.is (c.finish-frame.ensures.line line.items (ap (option_map (λ (m : Made). m.line.items)) front.1)) in
-    let fits : length reply ≤ 512 = subst (λ l. length l ≤ 512) (sym out) (c.finish-frame.ensures.within line.items (ap (option_map (λ (m : Made). m.line.items)) front.1)) in
-    λ width v h. streams_down_deliver width s v h c.in-Some.place c.finish-frame.new.self front.0 reply c.hear.new.settled.items c.append_from.new.self c.hear.new.self
-    (c.in-Some.ensures ∙ ap (λ q. c.in-Some.place ∷ q) (sym c.finish-frame.ensures.queue)) front.1 out (c.hear.ensures.settled fits) (c.hear.ensures.client fits) c.in_ok-append_from.ensures.appended c.finish-frame.ensures.start c.finish-frame.ensures.gone
+    let came : reply ≡ c.as_slice-line.result.now = came_out c.finish-frame.result c.in-Line.reply c.as_slice-line.result.now c.in-Line.is c.finish-frame.ensures.line in
+    let out : reply ≡ line.items = came ∙ c.as_slice-line.ensures.value in
+    let fits : length reply ≤ 512 = subst (λ l. length l ≤ 512) (sym came) c.as_slice-line.ensures.fits in
+    λ width v h. streams_down_deliver width s v h c.in-Some.place c.finish-frame.new.self c.at.result.now reply c.hear.new.settled.items c.append_all.new.self c.hear.new.self
+    (c.in-Some.ensures ∙ ap (λ q. c.in-Some.place ∷ q) (sym c.finish-frame.ensures.queue)) c.at.ensures out (c.hear.ensures.settled fits)
+    (c.hear.ensures.client fits) (c.in_ok-append_all.ensures ∙ ap (λ l. s.report.settled ++ l) c.as_slice.ensures.value) c.finish-frame.ensures.start
+    c.finish-frame.ensures.gone
 
 pub returns-in_default-hear-clause-follows : goal.returns-in_default-hear-clause-follows
 returns-in_default-hear-clause-follows g c =
     let s = seen c.args.self.now in
     let shown = c.requires.shown in
-    let front = front_reply shown.0 s shown.1 shown.2 c.in-Some.place c.take_front.new.self c.in-Some.ensures in
-    let line = front.0.line in
+    let line = c.at.result.now.line in
     let reply = c.in-Line.reply.now in
-    let out : reply ≡ line.items = came_out c.finish-frame.result c.in-Line.reply line.items c.in-Line.is (c.finish-frame.ensures.line line.items (ap (option_map (λ (m : Made). m.line.items)) front.1)) in
-    let fits : length reply ≤ 512 = subst (λ l. length l ≤ 512) (sym out) (c.finish-frame.ensures.within line.items (ap (option_map (λ (m : Made). m.line.items)) front.1)) in
-    λ width v h. streams_down_deliver width s v h c.in-Some.place c.finish-frame.new.self front.0 reply c.hear.new.settled.items s.report.settled c.hear.new.self
-    (c.in-Some.ensures ∙ ap (λ q. c.in-Some.place ∷ q) (sym c.finish-frame.ensures.queue)) front.1 out (c.hear.ensures.settled fits) (c.hear.ensures.client fits)
-    (none_settled s.client.ids c.hear.new.self.ids reply c.hear.result c.hear.new.settled.items s.report.settled (c.hear.ensures.heard fits) c.in_default-hear.not-Settled) c.finish-frame.ensures.start c.finish-frame.ensures.gone
+    let came : reply ≡ c.as_slice-line.result.now = came_out c.finish-frame.result c.in-Line.reply c.as_slice-line.result.now c.in-Line.is c.finish-frame.ensures.line in
+    let out : reply ≡ line.items = came ∙ c.as_slice-line.ensures.value in
+    let fits : length reply ≤ 512 = subst (λ l. length l ≤ 512) (sym came) c.as_slice-line.ensures.fits in
+    λ width v h. streams_down_deliver width s v h c.in-Some.place c.finish-frame.new.self c.at.result.now reply c.hear.new.settled.items s.report.settled c.hear.new.self
+    (c.in-Some.ensures ∙ ap (λ q. c.in-Some.place ∷ q) (sym c.finish-frame.ensures.queue)) c.at.ensures out (c.hear.ensures.settled fits) (c.hear.ensures.client fits)
+    (none_settled s.client.ids c.hear.new.self.ids reply c.hear.result c.hear.new.settled.items s.report.settled
+    (c.hear.ensures.heard fits) c.in_default-hear.not-Settled) c.finish-frame.ensures.start c.finish-frame.ensures.gone

@@ -68,12 +68,14 @@ returns-in_ok-repeat-in-DownRepeat-clause-follows g c =
 pub returns-in_err-send-in-Send-clause-spare : goal.returns-in_err-send-in-Send-clause-spare
 returns-in_err-send-in-Send-clause-spare g c =
     let s = c.args.self.now in
-    λ width v h none. absurd (not_both (c.in_err-send-in-Send.ensures.spare (full width s.report s.up.queue s.down.queue s.client v.world h.lines (subst (λ event. TakesNone width v event) c.in-Send.is none))))
+    λ width v h none. absurd (not_both (c.in_err-send-in-Send.ensures.spare
+    (full width s.report s.up.queue s.down.queue s.client v.world h.lines (subst (λ event. TakesNone width v event) c.in-Send.is none))))
 
 pub returns-in_err-up_deliver-in-UpDeliver-clause-spare : goal.returns-in_err-up_deliver-in-UpDeliver-clause-spare
 returns-in_err-up_deliver-in-UpDeliver-clause-spare g c =
     let s = c.args.self.now in
-    λ width v h none. absurd (not_both (c.in_err-up_deliver-in-UpDeliver.ensures.spare (none_up width s.report s.up.queue s.down.queue s.client v.world h.lines (subst (λ event. TakesNone width v event) c.in-UpDeliver.is none))))
+    λ width v h none. absurd (not_both (c.in_err-up_deliver-in-UpDeliver.ensures.spare
+    (none_up width s.report s.up.queue s.down.queue s.client v.world h.lines (subst (λ event. TakesNone width v event) c.in-UpDeliver.is none))))
 
 pub returns-in_err-bytes-in-UpBytes-clause-spare : goal.returns-in_err-bytes-in-UpBytes-clause-spare
 returns-in_err-bytes-in-UpBytes-clause-spare g c =
@@ -82,7 +84,9 @@ returns-in_err-bytes-in-UpBytes-clause-spare g c =
 pub returns-in_err-repeat-in-UpRepeat-clause-spare : goal.returns-in_err-repeat-in-UpRepeat-clause-spare
 returns-in_err-repeat-in-UpRepeat-clause-spare g c =
     let s = c.args.self.now in
-    λ width v h none. absurd (not_both (c.in_err-repeat-in-UpRepeat.ensures.spare (no_repeat_up width s.report s.up.queue s.down.queue s.client v.world h.lines c.in-UpRepeat.k s.up.gone v.up_gone h.up_is (subst (λ event. TakesNone width v event) c.in-UpRepeat.is none))))
+    λ width v h none. absurd (not_both (c.in_err-repeat-in-UpRepeat.ensures.spare
+    (no_repeat_up width s.report s.up.queue s.down.queue s.client v.world h.lines c.in-UpRepeat.k s.up.gone v.up_gone h.up_is
+    (subst (λ event. TakesNone width v event) c.in-UpRepeat.is none))))
 
 pub returns-in_err-down_deliver-in-DownDeliver-clause-spare : goal.returns-in_err-down_deliver-in-DownDeliver-clause-spare
 returns-in_err-down_deliver-in-DownDeliver-clause-spare g c =
@@ -95,14 +99,18 @@ returns-in_err-bytes-in-DownBytes-clause-spare g c =
 pub returns-in_err-repeat-in-DownRepeat-clause-spare : goal.returns-in_err-repeat-in-DownRepeat-clause-spare
 returns-in_err-repeat-in-DownRepeat-clause-spare g c =
     let s = c.args.self.now in
-    λ width v h none. absurd (not_both (c.in_err-repeat-in-DownRepeat.ensures.spare (no_repeat_down width s.report s.up.queue s.down.queue s.client v.world h.lines c.in-DownRepeat.k s.down.gone v.down_gone h.down_is (subst (λ event. TakesNone width v event) c.in-DownRepeat.is none))))
+    λ width v h none. absurd (not_both (c.in_err-repeat-in-DownRepeat.ensures.spare
+    (no_repeat_down width s.report s.up.queue s.down.queue s.client v.world h.lines c.in-DownRepeat.k s.down.gone v.down_gone h.down_is
+    (subst (λ event. TakesNone width v event) c.in-DownRepeat.is none))))
 
 pub returns-in_err-restart_client-in-RestartClient-clause-spare : goal.returns-in_err-restart_client-in-RestartClient-clause-spare
 returns-in_err-restart_client-in-RestartClient-clause-spare g c =
     let s = c.args.self.now in
-    λ width v h none. absurd (not_both (c.in_err-restart_client-in-RestartClient.ensures.spare (busy width s.report s.up.queue s.down.queue s.client v.world h.lines (subst (λ event. TakesNone width v event) c.in-RestartClient.is none))))
+    λ width v h none. absurd (not_both (c.in_err-restart_client-in-RestartClient.ensures.spare
+    (busy width s.report s.up.queue s.down.queue s.client v.world h.lines (subst (λ event. TakesNone width v event) c.in-RestartClient.is none))))
 
 pub returns-in_err-restart_instrument-in-RestartInstrument-clause-spare : goal.returns-in_err-restart_instrument-in-RestartInstrument-clause-spare
 returns-in_err-restart_instrument-in-RestartInstrument-clause-spare g c =
     let s = c.args.self.now in
-    λ width v h none. absurd (not_both (c.in_err-restart_instrument-in-RestartInstrument.ensures.spare (busy width s.report s.up.queue s.down.queue s.client v.world h.lines (subst (λ event. TakesNone width v event) c.in-RestartInstrument.is none))))
+    λ width v h none. absurd (not_both (c.in_err-restart_instrument-in-RestartInstrument.ensures.spare
+    (busy width s.report s.up.queue s.down.queue s.client v.world h.lines (subst (λ event. TakesNone width v event) c.in-RestartInstrument.is none))))

@@ -9,7 +9,7 @@ pub returns-clause-follows : goal.returns-clause-follows
 returns-clause-follows g c =
     let s = c.args.self.now in
     let entry : Sent = record { target = c.args.target; call = c.args.call.now; line = c.send_into.new.line } in
-    on_ok_weaker c.push-2.result
-    (λ pushed width v h. streams_send width (seen s) v h entry c.args.deadline c.send_into.new.self c.push-2.new.self c.push.new.self
+    on_ok_weaker c.push_sent.result
+    (λ pushed width v h. streams_send width (seen s) v h entry c.args.deadline c.send_into.new.self c.push_sent.new.self c.push.new.self
     c.in-Ok.ensures.rule.0 c.in-Ok.ensures.width c.in-Ok.ensures.rule.1 c.in-Ok.ensures.plain c.in-Ok.ensures.fitting pushed (c.in_ok-push.ensures ∙ ap (λ n. s.up.queue ++ n ∷ []) c.len.ensures))
-    c.push-2.ensures
+    c.push_sent.ensures

@@ -1,0 +1,23 @@
+-- The instrument that a subcommand begins with, and what is told where its scene is refused: this project's own.
+use Rattle.std.specs.Prelude.{◌≡◌, ℕ, List, Option, None}
+use Rattle.std.specs.Io.KnownBytes.{Appends}
+use Rattle.gc_instrument.specs.State.{State, simulator_opening}
+use Rattle.gc_lines.specs.Answering.{Ports}
+use Rattle.gc_texts.specs.Faults.{run_fault_text, fault_line}
+use Rattle.gc_texts.specs.declared.fault.RunFault.{RunFault}
+
+-- nothing was read, and nothing written
+abbrev pub AreUnused : Ports → Ports → Type 0
+AreUnused old new = (new.remaining ≡ old.remaining) × (new.taken ≡ old.taken)
+
+-- the scene that was named was refused, which is told with status 1, and nothing was read or written
+pub record RefusesScene {Name : Type 0} (scene : Option Name) (old new : Ports) (status : ℕ) (told told' : Option (List ℕ)) : Type 0 where
+  pub fault : RunFault
+  pub is : status ≡ 1
+  pub tells : Appends told told' (fault_line (run_fault_text fault))
+  pub unused : AreUnused old new
+  pub named : scene ≡ None → ⊥
+
+-- where no scene is named the instrument is the simulator
+abbrev pub IsOfScene : {Name : Type 0} → Option Name → State → Type 0
+IsOfScene scene start = scene ≡ None → start ≡ simulator_opening

@@ -1,0 +1,21 @@
+//! Cases of real connections, played: no part of the product. What a link tells of a socket and of a device, and how callers are served.
+#![tactic(auto)]
+
+mod callers;
+mod devices;
+mod ends;
+mod links;
+mod rig;
+mod streams;
+
+use callers::Callers;
+use gc_cases::play_folder;
+use links::Links;
+use std::io;
+use std::process::ExitCode;
+
+fn main(rt: HostRuntime) -> io::Result<ExitCode> {
+    let mut are_right = play_folder(&rt, ".", &Links)?;
+    are_right &= play_folder(&rt, ".", &Callers)?;
+    Ok(ExitCode::from(u8::from(!are_right)))
+}

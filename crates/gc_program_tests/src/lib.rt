@@ -1,5 +1,0 @@
-//! The tests of the program, in a crate of their own: a crate with tests is proved twice.
-#![tactic(auto)]
-
-#[cfg(test)]
-mod program;

@@ -1,0 +1,66 @@
+-- The columns of a record: what stands before a mark and behind it, and what that is in the lines of requests and replies.
+use Rattle.std.proofs.Common.{◌≡◌, ◌≢◌, ℕ, ◌+◌, ◌<◌, ◌==◌, List, [], ◌∷◌, ◌++◌, Option, Some, None, false, inl, inr, ◌⊎◌, IfSome, refl, sym, ap, subst, ◌∙◌, arith, append_assoc, append-nil}
+use Rattle.std.specs.Str.Parse.{AllDigits}
+use Rattle.std.proofs.lemmas.Bool.{cond-true, cond-false, eq-eqb}
+use Rattle.std.proofs.lemmas.Bool.Decides.{eqb_tells}
+use Rattle.std.specs.Int.{IsInRange}
+use Rattle.std.proofs.lemmas.Str.Parse.{digit_from_value}
+use Rattle.gc_texts.specs.Cuts.{Lacks, Cuts}
+use Rattle.gc_lines.specs.Headers.{id_text}
+use Rattle.gc_lines.specs.Numbers.{IsNumber}
+use Rattle.gc_lines.specs.Replies.{EndsCode}
+use Rattle.gc_texts.proofs.Fronts.{before_mark, behind_mark, before_none, behind_none}
+use Rattle.gc_rows.specs.Laws.{ColumnsAreFields}
+use Rattle.gc_texts.specs.Cuts.{before, behind}
+use Rattle.gc_rows.specs.Rows.{com_of}
+
+-- no digit is such a mark
+no_digit : (d mark : ℕ) → d ≡ mark → IsInRange 48 57 d → mark < 48 ⊎ 57 < mark → ⊥
+no_digit d mark e range (inl low) = omega (arith, e, range.0, low)
+no_digit d mark e range (inr high) = omega (arith, e, range.1, high)
+
+-- digits are neither commas nor colons
+pub digits_lack : (mark : ℕ) (ds : List ℕ) → AllDigits 10 ds → mark < 48 ⊎ 57 < mark → Lacks mark ds
+digits_lack mark [] digits other = tt
+digits_lack mark (d ∷ ds) digits other = ((λ e. no_digit d mark e (digit_from_value d digits.0) other), digits_lack mark ds digits.1 other)
+
+-- a text lacks a mark that both its parts lack
+lacks_both : (mark : ℕ) (xs ys : List ℕ) → Lacks mark xs → Lacks mark ys → Lacks mark (xs ++ ys)
+lacks_both mark [] ys lx ly = ly
+lacks_both mark (x ∷ xs) ys lx ly = (lx.0, lacks_both mark xs ys lx.1 ly)
+
+-- an id lacks a colon
+id_lacks : (id : Option ℕ) → IfSome id (λ i. i < 8) → Lacks 58 (id_text id)
+id_lacks None small = tt
+id_lacks (Some i) small = ((λ e. absurd (omega (arith, e))), ((λ e. absurd (omega (arith, e, small))), tt))
+
+-- a number before an id
+number_first : (ds : List ℕ) (id : Option ℕ) → Lacks 44 ds → before 44 (ds ++ id_text id) ≡ ds
+number_first ds None lacks = ap (before 44) (append-nil ds) ∙ before_none 44 ds lacks
+number_first ds (Some i) lacks = before_mark 44 ds ((48 + i) ∷ []) lacks
+
+-- a code, and the parameters behind it
+code_first : (ds tail params : List ℕ) → Lacks 44 ds → EndsCode tail params → (before 44 (ds ++ tail) ≡ ds) × (behind 44 (ds ++ tail) ≡ params)
+code_first ds tail params lacks (inl none) =
+    let whole : ds ++ tail ≡ ds = ap (λ l. ds ++ l) none.0 ∙ append-nil ds in
+    (ap (before 44) whole ∙ before_none 44 ds lacks, ap (behind 44) whole ∙ behind_none 44 ds lacks ∙ sym none.1)
+code_first ds tail params lacks (inr some) =
+    (ap (λ l. before 44 (ds ++ l)) some ∙ before_mark 44 ds params lacks, ap (λ l. behind 44 (ds ++ l)) some ∙ behind_mark 44 ds params lacks)
+
+-- the columns of a reply are its fields
+pub reply_columns : ColumnsAreFields
+reply_columns line r is =
+    let number : Lacks 44 is.number = digits_lack 44 is.number is.is_number.digits (inl (omega arith)) in
+    let front : Lacks 58 (is.number ++ id_text r.id) =
+    lacks_both 58 is.number (id_text r.id) (digits_lack 58 is.number is.is_number.digits (inr (omega arith))) (id_lacks r.id is.is_id) in
+    let code = code_first is.code is.tail r.params (digits_lack 44 is.code is.is_code.digits (inl (omega arith))) is.is_tail in
+    let joined : is.number ++ (id_text r.id ++ 58 ∷ (is.code ++ is.tail)) ≡ (is.number ++ id_text r.id) ++ 58 ∷ (is.code ++ is.tail) = sym (append_assoc is.number (id_text r.id) _) in
+    let first : com_of line ≡ is.number =
+    ap com_of is.whole ∙ ap (λ l. before 44 (before 58 l)) joined ∙ ap (before 44) (before_mark 58 (is.number ++ id_text r.id) (is.code ++ is.tail) front) ∙ number_first is.number r.id number in
+    let behind_colon : behind 58 (behind 44 line) ≡ is.code ++ is.tail =
+    ap (λ l. behind 58 (behind 44 l)) is.whole ∙ ap (behind 58) joined ∙ behind_mark 58 (is.number ++ id_text r.id) (is.code ++ is.tail) front in
+    record {
+      rc_com = subst (λ t. IsNumber t r.rc_com) (sym first) is.is_number;
+      rc = subst (λ t. IsNumber t r.rc) (sym (ap (before 44) behind_colon ∙ code.0)) is.is_code;
+      values = ap (behind 44) behind_colon ∙ code.1;
+    }

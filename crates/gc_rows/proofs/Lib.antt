@@ -1,0 +1,5 @@
+mod Columns
+mod Rows
+mod JsonLines
+mod Members
+mod Told

@@ -1,0 +1,301 @@
+-- The members of a record's line: their names are plain, their texts hold bytes, and their numbers are JSON's.
+use Rattle.std.proofs.Common.{zero, suc, ◌≡◌, ◌≢◌, ◌<◌, ◌≤◌, ◌^◌, ◌==◌, ◌++◌, ◌∷◌, ◌∙◌, [], ℕ, ◌+◌, List, Bool, true, false, cond, Option, Some, None, IfSome, length, drop, get_or, option_and_then, refl, sym, ap, subst, arith, append-nil}
+use Rattle.std.specs.Prelude.{codes, nat_lt, not, ◌&&◌}
+use Rattle.std.specs.Char.{is_ascii_digit}
+use Rattle.std.specs.Fmt.{decimal}
+use Rattle.std.specs.List.{All, AllByRecursion, prefix_len}
+use Rattle.std.specs.Str.Parse.{AllDigits}
+use Rattle.std.proofs.lemmas.Bool.{cond_both, ltb-true, eqb-true, eq-eqb, ne_eqb, false≢true, le-leb, and_from}
+use Rattle.std.proofs.lemmas.List.{drop_at}
+use Rattle.std.proofs.lemmas.List.Elements.{recursion_from_All, All-from_recursion}
+use Rattle.std.proofs.lemmas.Str.Parse.{digit_from_value}
+use Rattle.json.specs.Print.{IsNumber}
+use Rattle.json.specs.Word.{head, after_digits, after_whole, after_fraction, after_exponent, after_number}
+use Rattle.json.proofs.Printed.Decimals.{IsNumber-decimal}
+use Rattle.gc_catalogue.specs.Answers.{answer_fields}
+use Rattle.gc_catalogue.specs.Calls.{call_fields}
+use Rattle.gc_catalogue.specs.declared.answer.Answer.{Answer}
+use Rattle.gc_catalogue.specs.declared.answer.Answer.TheVariants.{Nothing, Short, Version, Long, Name, Date, Temperature, Place, Height, Angles, Measured, MeasuredMode}
+use Rattle.gc_catalogue.specs.declared.call.Call.{Call}
+use Rattle.gc_catalogue.proofs.Table.{number_fits}
+use Rattle.gc_values.specs.Boolean.{boolean_text}
+use Rattle.gc_values.specs.Digits.{AreDigits}
+use Rattle.gc_values.specs.ValueFault.{fault_number}
+use Rattle.gc_values.specs.Whole.{signed_text}
+use Rattle.gc_values.specs.Written.{written}
+use Rattle.gc_values.specs.WrittenForm.{IsWholePart, HasWholeForm, HasDecimalForm, minus_where}
+use Rattle.gc_values.specs.declared.fault.ValueFault.{ValueFault}
+use Rattle.gc_values.specs.declared.fault.ValueFault.TheVariants.{Spelling, Range, OpenQuote, TooMany, Count}
+use Rattle.gc_values.specs.declared.value.Value.{Value}
+use Rattle.gc_values.specs.declared.value.Value.TheVariants as value
+use Rattle.gc_values.proofs.OneText.{whole_text_once, decimal_text_once}
+use Rattle.gc_texts.specs.Endings.{End, Answered, Unreadable, Late, Lost, Skipped, Missed}
+use Rattle.gc_rows.specs.JsonLines.{Text, Number, without_zeros, sent_members, when_members, name_members, what_members, reply_members, ending_members, value_members, values_members, quantity_members}
+use Rattle.gc_rows.specs.Laws.{IsPlainName, IsMember, IsReplyOfBytes, IsAnswerOfBytes, IsEnd, IsWhen, ColumnsSay, RecordsAreMembers}
+use Rattle.gc_rows.specs.Quantities.{column_of, quantity_name, quantity_names}
+use Rattle.gc_texts.specs.Cuts.{before, behind}
+use Rattle.gc_rows.specs.Rows.{com_of, code_of, values_of}
+use Rattle.gc_texts.specs.Stamps.{stamp_text}
+use Rattle.gc_texts.specs.declared.commands.Command.{Command}
+use Rattle.gc_rows.specs.declared.when.When.{When}
+use Rattle.gc_rows.proofs.Columns.{reply_columns}
+use Rattle.gc_rows.proofs.JsonLines.{bytes_shown}
+use Rattle.gc_texts.proofs.LogStamps.{IsShown, stamp_shown}
+
+-- what all of two lists have
+all_both : {X : Type 0} (P : X → Type 0) (xs ys : List X) → AllByRecursion P xs → AllByRecursion P ys → AllByRecursion P (xs ++ ys)
+all_both P [] ys hx hy = hy
+all_both P (x ∷ xs) ys hx hy = (hx.0, all_both P xs ys hx.1 hy)
+
+-- names: a byte that stands in one, and whether all of a text do
+abbrev is_fit : ℕ → Bool
+is_fit b = (nat_lt 31 b && nat_lt b 127) && (not (b == 34) && not (b == 92))
+
+abbrev are_fit : List ℕ → Bool
+are_fit [] = true
+are_fit (b ∷ bs) = is_fit b && are_fit bs
+
+left : (a b : Bool) → (a && b) ≡ true → a ≡ true
+left true b e = refl
+left false b e = e
+
+right : (a b : Bool) → (a && b) ≡ true → b ≡ true
+right true b e = e
+right false b e = let bad : false ≡ true = e in cc
+
+-- a byte that isn't this one
+other : (b mark : ℕ) → not (b == mark) ≡ true → b ≢ mark
+other b mark e is = let bad : not (mark == mark) ≡ true = subst (λ x. not (x == mark) ≡ true) is e in absurd (false≢true (ap not (sym (eq-eqb mark mark refl)) ∙ bad))
+
+plain_name : (name : List ℕ) → are_fit name ≡ true → IsPlainName name
+plain_name [] e = tt
+plain_name (b ∷ bs) e =
+    let one = left (is_fit b) (are_fit bs) e in
+    let shown = left (nat_lt 31 b && nat_lt b 127) (not (b == 34) && not (b == 92)) one in
+    let marks = right (nat_lt 31 b && nat_lt b 127) (not (b == 34) && not (b == 92)) one in
+    let above = ltb-true 31 b (left (nat_lt 31 b) (nat_lt b 127) shown) in (
+      (omega (arith, above), (other b 34 (left (not (b == 34)) (not (b == 92)) marks), other b 92 (right (not (b == 34)) (not (b == 92)) marks))),
+      plain_name bs (right (is_fit b) (are_fit bs) e),
+    )
+
+plain_bytes : (name : List ℕ) → are_fit name ≡ true → AllByRecursion (λ b. b < 256) name
+plain_bytes [] e = tt
+plain_bytes (b ∷ bs) e =
+    let one = left (is_fit b) (are_fit bs) e in
+    let shown = left (nat_lt 31 b && nat_lt b 127) (not (b == 34) && not (b == 92)) one in
+    let below = ltb-true b 127 (right (nat_lt 31 b) (nat_lt b 127) shown) in
+    (omega (arith, below), plain_bytes bs (right (is_fit b) (are_fit bs) e))
+
+-- each of these names is plain
+abbrev all_fit : List (List ℕ) → Bool
+all_fit [] = true
+all_fit (name ∷ names) = are_fit name && all_fit names
+
+name_fits : (names : List (List ℕ)) (n : ℕ) → all_fit names ≡ true → are_fit (get_or names n []) ≡ true
+name_fits [] n e = refl
+name_fits (name ∷ names) zero e = left (are_fit name) (all_fit names) e
+name_fits (name ∷ names) (suc n) e = name_fits names n (right (are_fit name) (all_fit names) e)
+
+quantity_named : (column : ℕ) → IsPlainName (quantity_name column)
+quantity_named column = plain_name (quantity_name column) (name_fits quantity_names column refl)
+
+text_named : (name : List ℕ) → IsPlainName name → IsPlainName (name ++ codes "_text")
+text_named name is = all_both (λ b. (32 ≤ b) × ((b ≢ 34) × (b ≢ 92))) name (codes "_text") is (plain_name (codes "_text") refl)
+
+-- texts
+all_bytes : (bs : List ℕ) → AllByRecursion (λ b. b < 256) bs → All (λ b. b < 256) bs
+all_bytes bs h = All-from_recursion (λ b. b < 256) bs h
+
+stamp_bytes : (utc : ℕ) → utc < 2 ^ 64 → All (λ b. b < 256) (stamp_text utc)
+stamp_bytes utc h = all_bytes (stamp_text utc) (bytes_shown (stamp_text utc) (recursion_from_All IsShown (stamp_text utc) (stamp_shown utc h)))
+
+before_bytes : (mark : ℕ) (bs : List ℕ) → AllByRecursion (λ b. b < 256) bs → AllByRecursion (λ b. b < 256) (before mark bs)
+before_bytes mark [] h = tt
+before_bytes mark (b ∷ bs) h = cond_both (b == mark) [] (b ∷ before mark bs) (AllByRecursion (λ b. b < 256)) (λ _. tt) (λ _. (h.0, before_bytes mark bs h.1))
+
+behind_bytes : (mark : ℕ) (bs : List ℕ) → AllByRecursion (λ b. b < 256) bs → AllByRecursion (λ b. b < 256) (behind mark bs)
+behind_bytes mark [] h = tt
+behind_bytes mark (b ∷ bs) h = cond_both (b == mark) bs (behind mark bs) (AllByRecursion (λ b. b < 256)) (λ _. h.1) (λ _. behind_bytes mark bs h.1)
+
+values_bytes : (line : List ℕ) → All (λ b. b < 256) line → AllByRecursion (λ b. b < 256) (values_of line)
+values_bytes line h = behind_bytes 44 (behind 58 (behind 44 line)) (behind_bytes 58 (behind 44 line) (behind_bytes 44 line (recursion_from_All (λ b. b < 256) line h)))
+
+-- numbers: digits, and what is none behind them
+digits_run : (ds rest : List ℕ) → AreDigits ds → prefix_len is_ascii_digit rest ≡ 0 → prefix_len is_ascii_digit (ds ++ rest) ≡ length ds
+digits_run [] rest h none = none
+digits_run (d ∷ ds) rest h none =
+    let more = digits_run ds rest h.1 none in
+    ap (λ b. cond b (1 + prefix_len is_ascii_digit (ds ++ rest)) 0) (and_from _ _ (le-leb 48 d h.0.0) (le-leb d 57 h.0.1)) ∙ omega (arith, more)
+
+digits_then : (ds rest : List ℕ) → AreDigits ds → 0 < length ds → prefix_len is_ascii_digit rest ≡ 0 → after_digits (ds ++ rest) ≡ Some rest
+digits_then ds rest h some none =
+    ap (λ n. cond (n == 0) None (Some (drop n (ds ++ rest)))) (digits_run ds rest h none)
+    ∙ ap (λ b. cond b None (Some (drop (length ds) (ds ++ rest)))) (ne_eqb (length ds) 0 (λ e. omega (arith, some, e))) ∙ ap Some (drop_at ds rest _ refl)
+
+first_digit : (z : Bool) (d : ℕ) (ds rest : List ℕ) → (z ≡ true → ds ≡ []) → after_digits (d ∷ ds ++ rest) ≡ Some rest → cond z (Some (ds ++ rest)) (after_digits (d ∷ ds ++ rest)) ≡ Some rest
+first_digit true d ds rest alone more = ap (λ l. Some (l ++ rest)) (alone refl)
+first_digit false d ds rest alone more = more
+
+whole_then : (ds rest : List ℕ) → IsWholePart ds → prefix_len is_ascii_digit rest ≡ 0 → (after_whole (ds ++ rest) ≡ Some rest) × ((head (ds ++ rest) == 45) ≡ false)
+whole_then [] rest is none = let some = is.some in absurd (omega (arith, some))
+whole_then (d ∷ ds) rest is none = (
+  first_digit (d == 48) d ds rest (λ e. is.no_zero_in_front ds (ap (λ x. x ∷ ds) (eqb-true d 48 e))) (digits_then (d ∷ ds) rest is.are_digits is.some none),
+  ne_eqb d 45 (λ e. let digit = is.are_digits.0 in omega (arith, e, digit)),
+)
+
+-- a sign, digits, and what ends a number
+signed_then : (negative : Bool) (ds rest : List ℕ) → IsWholePart ds → prefix_len is_ascii_digit rest ≡ 0
+    → option_and_then after_exponent (after_fraction rest) ≡ Some [] → IsNumber (minus_where negative ++ (ds ++ rest))
+unfolding after_number
+signed_then true ds rest is none ends = ap (λ o. option_and_then after_exponent (option_and_then after_fraction o)) (whole_then ds rest is none).0 ∙ ends
+signed_then false ds rest is none ends =
+    let whole = whole_then ds rest is none in
+    ap (λ b. option_and_then after_exponent (option_and_then after_fraction (after_whole (cond b (drop 1 (ds ++ rest)) (ds ++ rest))))) whole.1
+    ∙ ap (λ o. option_and_then after_exponent (option_and_then after_fraction o)) whole.0 ∙ ends
+
+whole_number : (negative : Bool) (ds : List ℕ) → IsWholePart ds → IsNumber (minus_where negative ++ ds)
+whole_number negative ds is = subst (λ l. IsNumber (minus_where negative ++ l)) (append-nil ds) (signed_then negative ds [] is refl refl)
+
+fraction_ends : (ds : List ℕ) → AreDigits ds → 0 < length ds → option_and_then after_exponent (after_fraction (46 ∷ ds)) ≡ Some []
+fraction_ends ds digits some = ap (λ l. option_and_then after_exponent (after_digits l)) (sym (append-nil ds)) ∙ ap (option_and_then after_exponent) (digits_then ds [] digits some refl)
+
+whole_form_number : (text : List ℕ) → HasWholeForm text → IsNumber text
+whole_form_number text form = subst IsNumber (sym form.text_is) (whole_number form.negative form.digits form.digits_are)
+
+decimal_form_number : (text : List ℕ) → HasDecimalForm text → IsNumber text
+decimal_form_number text form =
+    subst IsNumber (sym form.text_is) (signed_then form.negative form.whole (46 ∷ form.fraction) form.whole_is refl (fraction_ends form.fraction form.fraction_is.are_digits form.fraction_is.some))
+
+-- of digits, those behind the zeros before them
+digits_are : (ds : List ℕ) → AllDigits 10 ds → AreDigits ds
+digits_are [] h = tt
+digits_are (d ∷ ds) h = (digit_from_value d h.0, digits_are ds h.1)
+
+behind_zeros : (ds : List ℕ) → AreDigits ds → 0 < length ds → IsWholePart (without_zeros ds)
+behind_zeros [] digits some = absurd (omega (arith, some))
+behind_zeros (b ∷ []) digits some = record { are_digits = digits; some = some; no_zero_in_front = λ rest e. sym (ap (drop 1) e) }
+behind_zeros (b ∷ c ∷ ds) digits some =
+    cond_both (b == 48) (without_zeros (c ∷ ds)) (b ∷ c ∷ ds) IsWholePart (λ _. behind_zeros (c ∷ ds) digits.1 (omega arith))
+    (λ none. record { are_digits = digits; some = some; no_zero_in_front = λ rest e. absurd (false≢true (sym none ∙ eq-eqb b 48 (ap (λ l. get_or l 0 0) e))) })
+
+code_number : (ds : List ℕ) → AllDigits 10 ds → 0 < length ds → IsNumber (without_zeros ds)
+code_number ds digits some = whole_number false (without_zeros ds) (behind_zeros ds (digits_are ds digits) some)
+
+fault_fits : (fault : ValueFault) → fault_number fault < 2 ^ 64
+fault_fits Spelling = omega arith
+fault_fits Range = omega arith
+fault_fits OpenQuote = omega arith
+fault_fits TooMany = omega arith
+fault_fits Count = omega arith
+
+-- when, and for whom
+sent_are : (sent : Option ℕ) → IfSome sent (λ utc. utc < 2 ^ 64) → AllByRecursion IsMember (sent_members sent)
+sent_are None h = tt
+sent_are (Some utc) h = ((plain_name (codes "sent") refl, stamp_bytes utc h), tt)
+
+when_are : (when : When) → IsWhen when → AllByRecursion IsMember (when_members when)
+when_are when is =
+    all_both IsMember (sent_members when.stamp.sent) (Text (codes "time") (stamp_text when.stamp.utc) ∷ Number (codes "cycle")
+    (decimal when.stamp.cycle) ∷ Number (codes "place") (decimal when.stamp.place) ∷ [])
+    (sent_are when.stamp.sent is.sent) (
+      (plain_name (codes "time") refl, stamp_bytes when.stamp.utc is.utc),
+      ((plain_name (codes "cycle") refl, IsNumber-decimal when.stamp.cycle is.cycle), ((plain_name (codes "place") refl, IsNumber-decimal when.stamp.place is.place), tt)),
+    )
+
+name_are : (name : List ℕ) → All (λ b. b < 256) name → AllByRecursion IsMember (name_members name)
+name_are [] h = tt
+name_are (b ∷ bs) h = ((plain_name (codes "name") refl, h), tt)
+
+what_are : (command : Command) (name : List ℕ) → All (λ b. b < 256) name → command.target < 2 ^ 64 → AllByRecursion IsMember (what_members command name)
+what_are command name bytes target = (
+  (plain_name (codes "target") refl, IsNumber-decimal command.target target),
+  all_both IsMember (name_members name) (Number (codes "procedure") (decimal (call_fields command.call).number) ∷ []) (name_are name bytes)
+      ((plain_name (codes "procedure") refl, IsNumber-decimal (call_fields command.call).number (omega (arith, number_fits command.call))), tt),
+)
+
+-- how it ended
+outcome : (text : List ℕ) → are_fit text ≡ true → IsMember (Text (codes "outcome") text)
+outcome text fit = (plain_name (codes "outcome") refl, all_bytes text (plain_bytes text fit))
+
+reply_are : (line : List ℕ) → IsReplyOfBytes line → AllByRecursion IsMember (reply_members (Some line))
+reply_are line is =
+    let say : ColumnsSay line is.0 = reply_columns line is.0 is.1 in (
+      (plain_name (codes "rc_com") refl, code_number (com_of line) say.rc_com.digits say.rc_com.some),
+      (
+        (plain_name (codes "rc") refl, code_number (code_of line) say.rc.digits say.rc.some),
+        ((plain_name (codes "values") refl, all_bytes (values_of line) (values_bytes line is.2)), tt),
+      ),
+    )
+
+ending_are : (end : End) → IsEnd end → AllByRecursion IsMember (ending_members end)
+ending_are (Answered (Some answer) line) is = (outcome (codes "answered") refl, reply_are line is.0)
+ending_are (Answered None line) is = (outcome (codes "answered") refl, reply_are line is)
+ending_are (Unreadable line fault) is =
+    (outcome (codes "unreadable") refl, ((plain_name (codes "fault") refl, IsNumber-decimal (fault_number fault) (fault_fits fault)), reply_are line is))
+ending_are Late is = (outcome (codes "late") refl, tt)
+ending_are Lost is = (outcome (codes "lost") refl, tt)
+ending_are Skipped is = (outcome (codes "skipped") refl, tt)
+ending_are Missed is = (outcome (codes "missed") refl, tt)
+
+-- a value: a number in its type, or a text of bytes
+abbrev HoldsBytes : Value → Type 0
+HoldsBytes (value.Double d) = Unit {0}
+HoldsBytes (value.Long z) = Unit {0}
+HoldsBytes (value.Short z) = Unit {0}
+HoldsBytes (value.Byte n) = n < 256
+HoldsBytes (value.Bool b) = Unit {0}
+HoldsBytes (value.Text bytes) = All (λ b. b < 256) bytes
+
+number_are : (name digits came : List ℕ) → IsPlainName name → IsNumber digits → AllByRecursion (λ b. b < 256) came
+    → AllByRecursion IsMember (Number name digits ∷ Text (name ++ codes "_text") came ∷ [])
+number_are name digits came named number bytes = ((named, number), ((text_named name named, all_bytes came bytes), tt))
+
+boolean_number : (b : Bool) → IsNumber (boolean_text b)
+unfolding after_number
+boolean_number false = refl
+boolean_number true = refl
+
+value_are : (name : List ℕ) (v : Value) (came : List ℕ) → IsPlainName name → HoldsBytes v → AllByRecursion (λ b. b < 256) came → AllByRecursion IsMember (value_members name v came)
+value_are name (value.Double d) came named is bytes =
+    number_are name (written d.digits d.scale) came named (decimal_form_number (written d.digits d.scale) ((decimal_text_once d (written d.digits d.scale)).0 refl).0) bytes
+value_are name (value.Long z) came named is bytes = number_are name (signed_text z) came named (whole_form_number (signed_text z) ((whole_text_once z (signed_text z)).0 refl).0) bytes
+value_are name (value.Short z) came named is bytes = number_are name (signed_text z) came named (whole_form_number (signed_text z) ((whole_text_once z (signed_text z)).0 refl).0) bytes
+value_are name (value.Byte n) came named is bytes = number_are name (decimal n) came named (IsNumber-decimal n (omega (arith, is))) bytes
+value_are name (value.Bool b) came named is bytes = number_are name (boolean_text b) came named (boolean_number b) bytes
+value_are name (value.Text text) came named is bytes = ((named, is), tt)
+
+values_are : (column : ℕ) (vs : List Value) (came : List ℕ) → AllByRecursion HoldsBytes vs → AllByRecursion (λ b. b < 256) came → AllByRecursion IsMember (values_members column vs came)
+values_are column [] came hold bytes = tt
+values_are column (v ∷ vs) came hold bytes =
+    all_both IsMember (value_members (quantity_name column) v (before 44 came)) (values_members (column + 1) vs (behind 44 came))
+    (value_are (quantity_name column) v (before 44 came) (quantity_named column) hold.0 (before_bytes 44 came bytes))
+    (values_are (column + 1) vs (behind 44 came) hold.1 (behind_bytes 44 came bytes))
+
+-- the values of an answer
+answer_holds : (answer : Answer) → IsAnswerOfBytes answer → AllByRecursion HoldsBytes (answer_fields answer).values
+answer_holds Nothing is = tt
+answer_holds (Short n) is = (tt, tt)
+answer_holds (Version release version subversion) is = (tt, (tt, (tt, tt)))
+answer_holds (Long n) is = (tt, tt)
+answer_holds (Name name) is = (is.1, tt)
+answer_holds (Date d) is = (tt, is.1)
+answer_holds (Temperature t) is = (tt, tt)
+answer_holds (Place s) is = (tt, (tt, (tt, (tt, tt))))
+answer_holds (Height h) is = (tt, tt)
+answer_holds (Angles hz v) is = (tt, (tt, tt))
+answer_holds (Measured hz v distance) is = (tt, (tt, (tt, tt)))
+answer_holds (MeasuredMode hz v distance mode) is = (tt, (tt, (tt, (tt, tt))))
+
+quantities_are : (call : Call) (end : End) → IsEnd end → AllByRecursion IsMember (quantity_members call end)
+quantities_are call (Answered (Some answer) line) is =
+    values_are (column_of call answer) (answer_fields answer).values (values_of line) (answer_holds answer is.1) (values_bytes line is.0.2)
+quantities_are call end is = tt
+
+pub are_members : RecordsAreMembers
+are_members when name command end is bytes target ended =
+    let ws = when_members when in
+    let hs = what_members command name in
+    let es = ending_members end in
+    let qs = quantity_members command.call end in
+    all_both IsMember ws (hs ++ (es ++ qs)) (when_are when is)
+    (all_both IsMember hs (es ++ qs) (what_are command name bytes target) (all_both IsMember es qs (ending_are end ended) (quantities_are command.call end ended)))

@@ -1,0 +1,134 @@
+-- Rows: the fields of one, and what a reader of comma-separated values makes of it.
+use Rattle.std.proofs.Common.{◌≡◌, ◌==◌, ◌<◌, ◌≤◌, ◌++◌, ◌∷◌, ◌∙◌, [], ℕ, List, Bool, Some, true, false, inl, inr, refl, sym, ap, arith, append_assoc, length, map}
+use Rattle.std.specs.Prelude.{◌||◌, codes}
+use Rattle.std.specs.List.{All, AllByRecursion, flat_map, list_any}
+use Rattle.std.proofs.lemmas.Grind.{flat_map-append}
+use Rattle.std.proofs.lemmas.Bool.{cases_Bool, cond_both, eqb-true}
+use Rattle.std.proofs.lemmas.List.Elements.{recursion_from_All, All-from_recursion, All-append}
+use Rattle.csv.specs.Machine.{next_record}
+use Rattle.csv.specs.Reading.{default_config, records_from}
+use Rattle.csv.specs.Writing as csv
+use Rattle.csv.specs.Writing.{default_writer, fields_text, is_blank, needs_byte, row_text}
+use Rattle.csv.specs.declared.parser.State.TheVariants.{StartRecord}
+use Rattle.csv.proofs.RoundTrip.{read-write-many}
+use Rattle.gc_rows.specs.Laws.{RowsReadBack, RowsArePrintable}
+use Rattle.gc_texts.specs.Logs.{escaped}
+use Rattle.gc_rows.specs.Rows.{is_special, within_quotes, csv_field, field_text, behind_comma, behind_commas, row_of}
+use Rattle.gc_texts.proofs.LogStamps.{IsShown, escaped_prints}
+use Rattle.gc_texts.proofs.Logs.{one_text}
+
+-- fields that were appended one after the other
+pub all_fields : (run : List ℕ) (ws hs es qs : List (List ℕ))
+    → (((((field_text run) ++ behind_commas ws) ++ behind_commas hs) ++ behind_commas es) ++ behind_commas qs) ++ codes "\n" ≡ row_of (run ∷ (ws ++ (hs ++ (es ++ qs))))
+all_fields run ws hs es qs =
+    let a = field_text run in
+    let w = behind_commas ws in
+    let h = behind_commas hs in
+    let e = behind_commas es in
+    let q = behind_commas qs in
+    let n = codes "\n" in
+    let joined : behind_commas (ws ++ (hs ++ (es ++ qs))) ≡ w ++ (h ++ (e ++ q)) =
+    flat_map-append behind_comma ws (hs ++ (es ++ qs)) ∙ ap (λ l. w ++ l) (flat_map-append behind_comma hs (es ++ qs) ∙ ap (λ l. h ++ l) (flat_map-append behind_comma es qs)) in
+    let grouped : (((a ++ w) ++ h) ++ e) ++ q ≡ a ++ (w ++ (h ++ (e ++ q))) =
+    append_assoc ((a ++ w) ++ h) e q ∙ append_assoc (a ++ w) h (e ++ q) ∙ append_assoc a w (h ++ (e ++ q)) in
+    ap (λ l. l ++ n) (grouped ∙ ap (λ l. a ++ l) (sym joined))
+
+-- a byte calls for quotes here and there
+or_same : (x y z : Bool) → ((x || y) || z) ≡ (((x || (y || z)) || false) || false)
+or_same true y z = refl
+or_same false true z = refl
+or_same false false true = refl
+or_same false false false = refl
+
+same_byte : (b : ℕ) → is_special b ≡ needs_byte default_writer b
+same_byte b = or_same ((b == 44) || (b == 34)) (b == 13) (b == 10)
+
+same_any : (text : List ℕ) → list_any is_special text ≡ list_any (needs_byte default_writer) text
+same_any [] = refl
+same_any (b ∷ bs) = ap (λ x. x || list_any is_special bs) (same_byte b) ∙ ap (λ x. needs_byte default_writer b || x) (same_any bs)
+
+-- and is doubled here and there
+same_quoted : (text : List ℕ) → flat_map within_quotes text ≡ csv.escaped default_writer text
+unfolding csv.escaped
+same_quoted [] = refl
+same_quoted (b ∷ bs) = elim (cases_Bool (b == 34)) [
+  | inl same ↦ rw same (ap (λ l. 34 ∷ l) (ap (λ x. x ∷ flat_map within_quotes bs) (sym (eqb-true b 34 same)) ∙ ap (λ l. b ∷ l) (same_quoted bs)))
+  | inr other ↦ rw other (ap (λ l. b ∷ l) (same_quoted bs))
+]
+
+same_field : (text : List ℕ) → csv_field text ≡ csv.field_text default_writer text
+same_field text = elim (cases_Bool (list_any is_special text)) [
+  | inl special ↦ rw (special, sym (same_any text) ∙ special) (ap (λ l. 34 ∷ (l ++ 34 ∷ [])) (same_quoted text))
+  | inr plain ↦ rw (plain, sym (same_any text) ∙ plain) refl
+]
+
+same_fields : (fields : List (List ℕ)) → behind_commas fields ≡ fields_text default_writer (map escaped fields)
+unfolding fields_text
+same_fields [] = refl
+same_fields (f ∷ fs) = ap (λ l. 44 ∷ (l ++ behind_commas fs)) (same_field (escaped f)) ∙ ap (λ l. 44 ∷ (csv.field_text default_writer (escaped f) ++ l)) (same_fields fs)
+
+-- a row is what the writer of comma-separated values writes
+same_row : (first second : List ℕ) (others : List (List ℕ)) → row_of (first ∷ second ∷ others) ≡ row_text default_writer (map escaped (first ∷ second ∷ others))
+unfolding is_blank
+same_row first second others =
+    ap (λ l. (l ++ behind_commas (second ∷ others)) ++ 10 ∷ []) (same_field (escaped first))
+    ∙ ap (λ l. (csv.field_text default_writer (escaped first) ++ l) ++ 10 ∷ []) (same_fields (second ∷ others))
+
+-- so it reads back
+row_back : (fields : List (List ℕ)) (behind : List ℕ) → 1 < length fields → next_record default_config StartRecord [] [] (row_of fields ++ behind) ≡ Some (map escaped fields, StartRecord, behind)
+row_back [] behind many = absurd (omega (arith, many))
+row_back (first ∷ []) behind many = absurd (omega (arith, many))
+row_back (first ∷ second ∷ others) behind many =
+    ap (λ l. next_record default_config StartRecord [] [] (l ++ behind)) (same_row first second others) ∙ read-write-many (escaped first) (escaped second) (map escaped others) behind
+
+table_back : (rows : List (List (List ℕ))) → AllByRecursion (λ fields. 1 < length fields) rows
+    → records_from default_config (length rows) StartRecord (flat_map row_of rows) ≡ map (map escaped) rows
+unfolding records_from
+table_back [] many = refl
+table_back (fields ∷ rows) many = rw (row_back fields (flat_map row_of rows) many.0) (ap (λ l. map escaped fields ∷ l) (table_back rows many.1))
+
+pub read_back : RowsReadBack
+read_back = record {
+  row = row_back;
+  table = table_back;
+  names = (refl, refl);
+  once = one_text;
+}
+
+-- what is printable stays so within quotes
+one_shown : (b : ℕ) → IsShown b → All IsShown (b ∷ [])
+one_shown b h = All-from_recursion IsShown (b ∷ []) (h, tt)
+
+mark_shown : (b : ℕ) → 32 ≤ b → b ≤ 126 → All IsShown (b ∷ [])
+mark_shown b low high = one_shown b (low, high)
+
+doubled_shown : (text : List ℕ) → AllByRecursion IsShown text → All IsShown (flat_map within_quotes text)
+doubled_shown [] h = All-from_recursion IsShown [] tt
+doubled_shown (b ∷ bs) h =
+    All-append IsShown (within_quotes b) (flat_map within_quotes bs)
+    (cond_both (b == 34) (34 ∷ 34 ∷ []) (b ∷ []) (All IsShown) (λ _. All-from_recursion IsShown (34 ∷ 34 ∷ []) ((omega arith, omega arith), ((omega arith, omega arith), tt))) (λ _. one_shown b h.0))
+    (doubled_shown bs h.1)
+
+field_shown : (bytes : List ℕ) → All (λ b. b < 256) bytes → All IsShown (field_text bytes)
+field_shown bytes are =
+    let text = escaped bytes in
+    let shown = escaped_prints bytes (recursion_from_All (λ b. b < 256) bytes are) in
+    let mark = mark_shown 34 (omega arith) (omega arith) in
+    cond_both (list_any is_special text) (34 ∷ (flat_map within_quotes text ++ 34 ∷ [])) text (All IsShown)
+    (λ _. All-append IsShown (34 ∷ []) (flat_map within_quotes text ++ 34 ∷ []) mark
+    (All-append IsShown (flat_map within_quotes text) (34 ∷ []) (doubled_shown text (recursion_from_All IsShown text shown)) mark))
+    (λ _. shown)
+
+fields_shown : (fields : List (List ℕ)) → AllByRecursion (All (λ b. b < 256)) fields → All IsShown (behind_commas fields)
+fields_shown [] are = All-from_recursion IsShown [] tt
+fields_shown (f ∷ fs) are =
+    All-append IsShown (44 ∷ field_text f) (behind_commas fs)
+    (All-append IsShown (44 ∷ []) (field_text f) (mark_shown 44 (omega arith) (omega arith)) (field_shown f are.0)) (fields_shown fs are.1)
+
+pub printable : RowsArePrintable
+printable [] are = ([], refl, All-from_recursion IsShown [] tt)
+printable (first ∷ others) are = (
+  field_text first ++ behind_commas others,
+  refl,
+  All-append IsShown (field_text first) (behind_commas others) (field_shown first are.0) (fields_shown others are.1),
+)

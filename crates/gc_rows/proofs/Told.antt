@@ -1,0 +1,97 @@
+-- The values of an answer stand under their names, and a row has as many fields as its header.
+use Rattle.std.proofs.Common.{◌≡◌, ◌≤◌, ℕ, suc, ◌+◌, ◌-◌, true, false, List, [], ◌++◌, length, map, replicate, Some, None, refl, ap, arith}
+use Rattle.std.proofs.lemmas.List.{length-append, length-map, length-replicate}
+use Rattle.gc_catalogue.specs.Answers.{answer_fields}
+use Rattle.gc_catalogue.specs.declared.answer.Answer.{Answer}
+use Rattle.gc_catalogue.specs.declared.answer.Answer.TheVariants.{Nothing, Short, Version, Long, Name, Date, Temperature, Place, Height, Angles, Measured, MeasuredMode}
+use Rattle.gc_catalogue.specs.declared.call.Call.{Call}
+use Rattle.gc_catalogue.specs.declared.call.Call.TheVariants.{GetPrecision, ComVersion, InstrumentNo, InstrumentName, GetDate, IntTemp, CsvVersion, GetStation, GetHeight, GetFace, GetAngle, SimpleMea, QuickDist, GetPrism, MeasDistance}
+use Rattle.gc_texts.specs.Endings.{End, Answered}
+use Rattle.gc_rows.specs.Quantities.{column_of, column_of_long, quantity_names, quantity_text}
+use Rattle.gc_rows.specs.Records.{names}
+use Rattle.gc_rows.specs.Rows.{spread, quantity_fields, row_fields}
+use Rattle.gc_rows.specs.Told.{QuantitiesHaveTheirNames, RowsFillTheirColumns}
+use Rattle.gc_texts.specs.declared.commands.Command.{Command}
+use Rattle.gc_rows.specs.declared.when.When.{When}
+
+pub have_their_names : QuantitiesHaveTheirNames
+have_their_names GetPrecision (Short n) is = refl
+have_their_names GetPrecision answer is = cc
+have_their_names ComVersion (Version release version subversion) is = refl
+have_their_names ComVersion answer is = cc
+have_their_names InstrumentNo (Long n) is = refl
+have_their_names InstrumentNo answer is = cc
+have_their_names InstrumentName (Name name) is = refl
+have_their_names InstrumentName answer is = cc
+have_their_names GetDate (Date d) is = refl
+have_their_names GetDate answer is = cc
+have_their_names IntTemp (Temperature t) is = refl
+have_their_names IntTemp answer is = cc
+have_their_names CsvVersion (Version release version subversion) is = refl
+have_their_names CsvVersion answer is = cc
+have_their_names GetStation (Place s) is = refl
+have_their_names GetStation answer is = cc
+have_their_names GetHeight (Height h) is = refl
+have_their_names GetHeight answer is = cc
+have_their_names GetFace (Long n) is = refl
+have_their_names GetFace answer is = cc
+have_their_names (GetAngle mode) (Angles hz v) is = refl
+have_their_names (GetAngle mode) answer is = cc
+have_their_names (SimpleMea wait mode) (Measured hz v distance) is = refl
+have_their_names (SimpleMea wait mode) answer is = cc
+have_their_names QuickDist (Measured hz v distance) is = refl
+have_their_names QuickDist answer is = cc
+have_their_names GetPrism (Long n) is = refl
+have_their_names GetPrism answer is = cc
+have_their_names (MeasDistance mode) (MeasuredMode hz v distance mode') is = refl
+have_their_names (MeasDistance mode) answer is = cc
+have_their_names call Nothing is = refl
+have_their_names call answer is = cc
+
+long_fits : (call : Call) → column_of_long call + 1 ≤ 24
+long_fits GetFace = omega arith
+long_fits GetPrism = omega arith
+long_fits call = omega arith
+
+answer_fits : (call : Call) (answer : Answer) → column_of call answer + length (answer_fields answer).values ≤ 24
+answer_fits call Nothing = omega arith
+answer_fits call (Short n) = omega arith
+answer_fits call (Version release version subversion) = omega arith
+answer_fits call (Long n) = long_fits call
+answer_fits call (Name name) = omega arith
+answer_fits call (Date d) = omega arith
+answer_fits call (Temperature t) = omega arith
+answer_fits call (Place s) = omega arith
+answer_fits call (Height h) = omega arith
+answer_fits call (Angles hz v) = omega arith
+answer_fits call (Measured hz v distance) = omega arith
+answer_fits call (MeasuredMode hz v distance mode) = omega arith
+
+-- values and empty fields fill the 24 columns
+spread_fills : (first : ℕ) (texts : List (List ℕ)) → first + length texts ≤ 24 → length (spread first texts) ≡ 24
+spread_fills first texts fits =
+    let none : List ℕ = [] in
+    let a = length-append (replicate first none) (texts ++ replicate (24 - first - length texts) none) in
+    let b = length-append texts (replicate (24 - first - length texts) none) in
+    let c = length-replicate first none in
+    let d = length-replicate (24 - first - length texts) none in
+    omega (arith, a, b, c, d, fits)
+
+quantities_fill : (call : Call) (end : End) → length (quantity_fields call end) ≡ 24
+quantities_fill call (Answered (Some answer) line) =
+    let texts = map quantity_text (answer_fields answer).values in
+    let few = answer_fits call answer in
+    let same = length-map (answer_fields answer).values quantity_text in
+    spread_fills (column_of call answer) texts (omega (arith, few, same))
+quantities_fill call end = refl
+
+csv_fills : (when : When) (name : List ℕ) (command : Command) (end : End) → length (row_fields false when name command end) ≡ length names
+csv_fills when name command (Answered answer line) = refl
+csv_fills when name command end = refl
+
+columns_fill : (when : When) (name : List ℕ) (command : Command) (end : End) → length (row_fields true when name command end) ≡ length (names ++ quantity_names)
+columns_fill when name command (Answered answer line) = ap (λ n. suc (suc (suc (suc (suc (suc (suc (suc (suc (suc (suc (suc (suc n))))))))))))) (quantities_fill command.call (Answered answer line))
+columns_fill when name command end = refl
+
+pub fill_their_columns : RowsFillTheirColumns
+fill_their_columns = record { csv = csv_fills; columns = columns_fill }

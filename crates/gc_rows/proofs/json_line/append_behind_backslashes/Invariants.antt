@@ -1,0 +1,11 @@
+use Rattle.std.proofs.Common.{◌≡◌, ◌+◌, ◌*◌, ◌≤◌, ◌++◌, take}
+use Rattle.std.specs.List.{flat_map}
+use Rattle.arrayvec.specs.ArrayVec.{array_vec_len}
+use Rattle.gc_rows.specs.JsonLines.{behind_backslash}
+use Rattle.gc_rows.proofs.json_line.append_behind_backslashes.Given as goal
+
+abbrev pub invariant-loop-b : goal.invariant-loop-b
+invariant-loop-b g l = record {
+  written : l.line.items ≡ l.initial.line.items ++ flat_map behind_backslash (take l.b-index l.text);
+  room : array_vec_len l.line ≤ array_vec_len l.initial.line + 2 * l.b-index;
+}

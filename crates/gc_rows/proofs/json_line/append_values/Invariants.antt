@@ -1,0 +1,13 @@
+use Rattle.std.proofs.Common.{◌≡◌, ◌+◌, ◌*◌, ◌≤◌, ◌++◌, drop, length}
+use Rattle.arrayvec.specs.ArrayVec.{array_vec_len}
+use Rattle.gc_rows.specs.JsonLines.{members_text, values_members}
+use Rattle.gc_rows.proofs.json_line.append_values.Given as goal
+
+abbrev pub invariant-loop-value : goal.invariant-loop-value
+invariant-loop-value g l = record {
+  column : l.column ≡ l.first + l.value-index;
+  short : length l.rest ≤ 512;
+  written : l.line.items ++ members_text (values_members l.column (drop l.value-index l.values) l.rest)
+      ≡ l.initial.line.items ++ members_text (values_members l.first l.values l.came);
+  room : array_vec_len l.line ≤ array_vec_len l.initial.line + 4736 * l.value-index;
+}

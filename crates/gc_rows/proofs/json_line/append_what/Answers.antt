@@ -1,0 +1,19 @@
+use Rattle.std.proofs.Common.{◌≡◌, ◌++◌, ap, rules, ◌∙◌}
+use Rattle.std.specs.Fmt.{decimal}
+use Rattle.std.specs.Prelude.{codes}
+use Rattle.gc_catalogue.specs.Calls.{call_fields}
+use Rattle.gc_rows.specs.JsonLines.{number_member, members_text, name_members}
+use Rattle.gc_rows.proofs.JsonLines.{what_text}
+use Rattle.gc_rows.proofs.json_line.append_what.Goals as goal
+
+pub returns-clause-text : goal.returns-clause-text
+returns-clause-text g c =
+    let command = c.args.command.now in
+    let old = c.args.line.now.items in
+    let target = decimal command.target in
+    let procedure = decimal (call_fields command.call).number in
+    let name = name_members c.args.name.now in
+    let first : c.append_number.new.line.items ≡ old ++ number_member (codes "target") target = search rules in
+    let last : c.append_number-2.new.line.items ≡ c.append_called.new.line.items ++ number_member (codes "procedure") procedure = search rules in
+    last ∙ ap (λ l. l ++ number_member (codes "procedure") procedure) (c.append_called.ensures.text ∙ ap (λ l. l ++ members_text name) first)
+    ∙ what_text old target procedure name

@@ -1,0 +1,5 @@
+use Rattle.gc_rows.proofs.Told.{have_their_names}
+use Rattle.gc_rows.proofs.laws.quantities_have_their_names.Goals as goal
+
+pub returns : goal.returns
+returns c = have_their_names

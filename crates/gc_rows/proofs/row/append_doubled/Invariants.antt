@@ -1,0 +1,11 @@
+use Rattle.std.proofs.Common.{◌≡◌, ◌+◌, ◌*◌, ◌≤◌, ◌++◌, take}
+use Rattle.std.specs.List.{flat_map}
+use Rattle.arrayvec.specs.ArrayVec.{array_vec_len}
+use Rattle.gc_rows.specs.Rows.{within_quotes}
+use Rattle.gc_rows.proofs.row.append_doubled.Given as goal
+
+abbrev pub invariant-loop-b : goal.invariant-loop-b
+invariant-loop-b g l = record {
+  written : l.to.items ≡ l.initial.to.items ++ flat_map within_quotes (take l.b-index l.text);
+  room : array_vec_len l.to ≤ array_vec_len l.initial.to + 2 * l.b-index;
+}

@@ -1,0 +1,107 @@
+-- Laws of the rows: this project's own, as the rows are.
+use Rattle.std.specs.Prelude.{◌≡◌, ◌≢◌, ◌<◌, ◌≤◌, ◌^◌, ℕ, List, [], ◌∷◌, ◌++◌, length, map, All, None, Some, IfSome, codes}
+use Rattle.std.specs.List.{AllByRecursion, flat_map}
+use Rattle.csv.specs.Machine.{next_record}
+use Rattle.csv.specs.Reading.{default_config, records_from}
+use Rattle.json.specs.Json as json
+use Rattle.json.specs.Json.{document}
+use Rattle.json.specs.Print.{IsNumber}
+use Rattle.csv.specs.declared.parser.State.TheVariants.{StartRecord}
+use Rattle.gc_texts.specs.Endings.{End, Answered, Unreadable, Late, Lost, Skipped, Missed}
+use Rattle.gc_catalogue.specs.Answers.{IsFittingAnswer}
+use Rattle.gc_catalogue.specs.declared.answer.Answer.{Answer}
+use Rattle.gc_catalogue.specs.declared.answer.Answer.TheVariants as answers
+use Rattle.gc_lines.specs.Numbers as numbers
+use Rattle.gc_lines.specs.Replies.{ReplyFields, IsReply}
+use Rattle.gc_rows.specs.Quantities.{quantity_names}
+use Rattle.gc_rows.specs.Records.{names, head_text}
+use Rattle.gc_rows.specs.JsonLines.{Member, Text, Number, json_line, json_members}
+use Rattle.gc_rows.specs.Rows.{com_of, code_of, values_of, row_of}
+use Rattle.gc_rows.specs.declared.record.Form.TheVariants.{Csv, Columns}
+use Rattle.gc_texts.specs.Logs.{escaped, IsPrintable}
+use Rattle.gc_texts.specs.Stamps.{stamp_text}
+use Rattle.gc_texts.specs.declared.commands.Command.{Command}
+use Rattle.gc_rows.specs.declared.when.When.{When}
+
+-- what the columns of a reply's line say
+pub record ColumnsSay (line : List ℕ) (r : ReplyFields) : Type 0 where
+  pub rc_com : numbers.IsNumber (com_of line) r.rc_com
+  pub rc : numbers.IsNumber (code_of line) r.rc
+  pub values : values_of line ≡ r.params
+
+-- the columns of a reply's line are its fields
+abbrev pub ColumnsAreFields : Type 0
+ColumnsAreFields = (line : List ℕ) (r : ReplyFields) → IsReply line r → ColumnsSay line r
+
+-- a reader of comma-separated values gives each row of two fields and more back as its fields, whatever bytes these hold, and reads on behind it; it gives back a
+-- table of rows, and what stands in front of it is the row of the columns' names; and a field was written of no other bytes
+pub record RowsReadBack : Type 0 where
+  pub row : (fields : List (List ℕ)) (behind : List ℕ) → 1 < length fields
+      → next_record default_config StartRecord [] [] (row_of fields ++ behind) ≡ Some (map escaped fields, StartRecord, behind)
+  pub table : (rows : List (List (List ℕ))) → AllByRecursion (λ fields. 1 < length fields) rows
+      → records_from default_config (length rows) StartRecord (flat_map row_of rows) ≡ map (map escaped) rows
+  pub names : (head_text Csv ≡ row_of names) × (head_text Columns ≡ row_of (names ++ quantity_names))
+  pub once : (xs ys : List ℕ) → All (λ b. b < 256) xs → All (λ b. b < 256) ys → escaped xs ≡ escaped ys → xs ≡ ys
+
+-- a row whose fields hold bytes is printable, before its line feed
+abbrev pub RowsArePrintable : Type 0
+RowsArePrintable =
+    (fields : List (List ℕ)) → AllByRecursion (All (λ b. b < 256)) fields → (text : List ℕ) × (row_of fields ≡ text ++ codes "\n") × IsPrintable text
+
+-- a name that stands in a string as it is: printable ASCII without a double quote and a backslash
+abbrev pub IsPlainName : List ℕ → Type 0
+IsPlainName name = AllByRecursion (λ b. (32 ≤ b) × ((b ≢ 34) × (b ≢ 92))) name
+
+-- a member has such a name, and holds bytes, or is a number of JSON
+abbrev pub IsMember : Member → Type 0
+IsMember (Text name bytes) = IsPlainName name × All (λ b. b < 256) bytes
+IsMember (Number name digits) = IsPlainName name × IsNumber digits
+
+-- what members say, in their order: a text, whose bytes are escaped as in a row, and a number with its digits
+abbrev pub members_read : List Member → json.Members
+members_read [] = json.no_members
+members_read (Text name bytes ∷ members) = json.member name (json.string (escaped bytes)) (members_read members)
+members_read (Number name digits ∷ members) = json.member name (json.number digits) (members_read members)
+
+-- the same of a line
+abbrev pub record_read : ℕ → List Member → json.Members
+record_read run members = json.member (codes "run") (json.string (escaped (stamp_text run))) (members_read members)
+
+-- a line of JSON, without its line feed, reads as an object of its members, in their order, whatever bytes they hold
+abbrev pub JsonLinesReadBack : Type 0
+JsonLinesReadBack =
+    (run : ℕ) (members : List Member) → run < 2 ^ 64 → AllByRecursion IsMember members
+    → (text : List ℕ) × (json_line run members ≡ text ++ codes "\n") × (document text ≡ Some (json.object (record_read run members)))
+
+-- a line that reads as a reply
+abbrev pub IsReplyOfBytes : List ℕ → Type 0
+IsReplyOfBytes line = (r : ReplyFields) × IsReply line r × All (λ b. b < 256) line
+
+-- an answer's numbers lie in their types, and its text holds bytes
+abbrev pub IsAnswerOfBytes : Answer → Type 0
+IsAnswerOfBytes (answers.Name bytes) = IsFittingAnswer (answers.Name bytes) × All (λ b. b < 256) bytes
+IsAnswerOfBytes answer = IsFittingAnswer answer
+
+-- an end that a station writes down
+abbrev pub IsEnd : End → Type 0
+IsEnd (Answered (Some answer) line) = IsReplyOfBytes line × IsAnswerOfBytes answer
+IsEnd (Answered None line) = IsReplyOfBytes line
+IsEnd (Unreadable line fault) = IsReplyOfBytes line
+IsEnd Late = Unit {0}
+IsEnd Lost = Unit {0}
+IsEnd Skipped = Unit {0}
+IsEnd Missed = Unit {0}
+
+-- moments, a cycle and a place of 64 bits
+pub record IsWhen (when : When) : Type 0 where
+  pub sent : IfSome when.stamp.sent (λ utc. utc < 2 ^ 64)
+  pub utc : when.stamp.utc < 2 ^ 64
+  pub cycle : when.stamp.cycle < 2 ^ 64
+  pub place : when.stamp.place < 2 ^ 64
+
+-- the members of a record's line are such members: so the line reads back
+abbrev pub RecordsAreMembers : Type 0
+RecordsAreMembers =
+    (when : When) (name : List ℕ) (command : Command) (end : End)
+    → IsWhen when → All (λ b. b < 256) name → command.target < 2 ^ 64 → IsEnd end
+    → AllByRecursion IsMember (json_members when name command end)

@@ -1,0 +1,63 @@
+-- Records: how a command ended, with its moments, as a line, as a row of comma-separated values, or as a line of JSON. The words and the columns are this
+-- project's own.
+use Rattle.std.specs.Prelude.{ℕ, true, false, List, [], ◌∷◌, ◌++◌, Option, None, Some, codes}
+use Rattle.std.specs.Fmt.{decimal}
+use Rattle.gc_values.specs.ValueFault.{fault_number}
+use Rattle.gc_values.specs.declared.fault.ValueFault.{ValueFault}
+use Rattle.gc_texts.specs.declared.commands.Command.{Command}
+use Rattle.gc_rows.specs.declared.record.Form.{Form}
+use Rattle.gc_rows.specs.declared.record.Form.TheVariants.{Lines, Csv, Columns, Json}
+use Rattle.gc_rows.specs.declared.when.When.{When}
+use Rattle.gc_texts.specs.Endings.{End, word_of, fault_of, line_of}
+use Rattle.gc_rows.specs.JsonLines.{json_line, json_members}
+use Rattle.gc_texts.specs.Logs.{escaped}
+use Rattle.gc_rows.specs.Quantities.{quantity_names}
+use Rattle.gc_rows.specs.Rows.{row_of, row_fields}
+use Rattle.gc_texts.specs.Stamps.{stamp_text}
+
+-- the number of a fault behind a space, where there is one
+abbrev pub spaced_fault : Option ValueFault → List ℕ
+spaced_fault None = []
+spaced_fault (Some fault) = codes " " ++ decimal (fault_number fault)
+
+-- the line of a reply behind a space, as it stands in a row, where there is one
+abbrev pub spaced_line : Option (List ℕ) → List ℕ
+spaced_line None = []
+spaced_line (Some line) = codes " " ++ escaped line
+
+-- how a command ended, in words: the outcome, the number of its fault, and the line of its reply, where there are these. Its bytes stand as
+-- in a row, so that no reply draws itself as another record
+abbrev pub ending_text : End → List ℕ
+ending_text end = codes " " ++ word_of end ++ spaced_fault (fault_of end) ++ spaced_line (line_of end)
+
+-- the line of a record
+abbrev pub record_line : When → Command → End → List ℕ
+record_line when command end =
+    stamp_text when.stamp.utc ++ codes " " ++ decimal when.stamp.place ++ codes " " ++ decimal command.target ++ ending_text end ++ codes "\n"
+
+-- a record in its form: its moments, the target's name, the command, and how it ended
+abbrev pub record_text : Form → When → List ℕ → Command → End → List ℕ
+record_text Lines when name command end = record_line when command end
+record_text Csv when name command end = row_of (row_fields false when name command end)
+record_text Columns when name command end = row_of (row_fields true when name command end)
+record_text Json when name command end = json_line when.run (json_members when name command end)
+
+-- the names of the columns
+abbrev pub names : List (List ℕ)
+names =
+    codes "run" ∷ codes "sent" ∷ codes "time" ∷ codes "cycle" ∷ codes "place" ∷ codes "target" ∷ codes "name" ∷ codes "procedure"
+    ∷ codes "outcome" ∷ codes "fault" ∷ codes "rc_com" ∷ codes "rc" ∷ codes "values" ∷ []
+
+-- what stands in front of all records
+abbrev pub head_text : Form → List ℕ
+head_text Lines = []
+head_text Json = []
+head_text Csv = row_of names
+head_text Columns = row_of (names ++ quantity_names)
+
+-- what a file of records begins with: what stands in front of all, and in a file of JSON, in which nothing does, how each line begins
+abbrev pub sign_text : Form → List ℕ
+sign_text Json = codes "{\"run\":\""
+sign_text Lines = head_text Lines
+sign_text Csv = head_text Csv
+sign_text Columns = head_text Columns

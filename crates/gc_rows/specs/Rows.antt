@@ -1,0 +1,108 @@
+-- Rows: a record as a row of comma-separated values. The columns are this project's own, and how a field is quoted is RFC 4180's. Each
+-- field is printable ASCII: other bytes stand as `\x` and two digits, and so does a backslash.
+use Rattle.std.specs.Prelude.{ℕ, ◌-◌, ◌==◌, ◌||◌, Bool, true, false, List, [], ◌∷◌, ◌++◌, length, map, replicate, Option, Some, None, if◌then◌else◌, codes}
+use Rattle.std.specs.Fmt.{decimal}
+use Rattle.std.specs.List.{flat_map, list_any}
+use Rattle.gc_catalogue.specs.Answers.{answer_fields}
+use Rattle.gc_catalogue.specs.Calls.{call_fields}
+use Rattle.gc_catalogue.specs.declared.call.Call.{Call}
+use Rattle.gc_values.specs.ValueFault.{fault_number}
+use Rattle.gc_values.specs.declared.fault.ValueFault.{ValueFault}
+use Rattle.gc_values.specs.declared.value.Value.{Value}
+use Rattle.gc_texts.specs.declared.commands.Command.{Command}
+use Rattle.gc_rows.specs.declared.when.When.{When}
+use Rattle.gc_texts.specs.Endings.{End, Answered, word_of, fault_of, line_of}
+use Rattle.gc_texts.specs.Cuts.{before, behind}
+use Rattle.gc_texts.specs.Logs.{escaped}
+use Rattle.gc_rows.specs.Quantities.{column_of, quantity_text}
+use Rattle.gc_texts.specs.Stamps.{stamp_text}
+
+-- the fields of a reply's line, as they are written: the communication code behind its first comma, and behind the colon after that the
+-- return code and the values
+abbrev pub com_of : List ℕ → List ℕ
+com_of line = before 44 (before 58 (behind 44 line))
+
+abbrev pub code_of : List ℕ → List ℕ
+code_of line = before 44 (behind 58 (behind 44 line))
+
+abbrev pub values_of : List ℕ → List ℕ
+values_of line = behind 44 (behind 58 (behind 44 line))
+
+-- a byte that stands in a field only within quotes: a comma, a double quote, CR or LF
+abbrev pub is_special : ℕ → Bool
+is_special b = (b == 44) || (b == 34) || (b == 13) || (b == 10)
+
+-- a byte within quotes: a double quote stands twice
+abbrev pub within_quotes : ℕ → List ℕ
+within_quotes b = if b == 34 then 34 ∷ 34 ∷ [] else b ∷ []
+
+-- a field: as it is, or within quotes
+abbrev pub csv_field : List ℕ → List ℕ
+csv_field text = if list_any is_special text then codes "\"" ++ flat_map within_quotes text ++ codes "\"" else text
+
+-- a field that holds these bytes
+abbrev pub field_text : List ℕ → List ℕ
+field_text bytes = csv_field (escaped bytes)
+
+-- the same behind a comma, and many of them
+abbrev pub behind_comma : List ℕ → List ℕ
+behind_comma bytes = 44 ∷ field_text bytes
+
+abbrev pub behind_commas : List (List ℕ) → List ℕ
+behind_commas fields = flat_map behind_comma fields
+
+-- the row of fields that hold these bytes
+abbrev pub row_of : List (List ℕ) → List ℕ
+row_of [] = codes "\n"
+row_of (first ∷ others) = field_text first ++ behind_commas others ++ codes "\n"
+
+-- a moment, where there is one
+abbrev pub moment_text : Option ℕ → List ℕ
+moment_text None = []
+moment_text (Some utc) = stamp_text utc
+
+-- when a command was sent and ended, and which of its run it was
+abbrev pub when_fields : When → List (List ℕ)
+when_fields when = moment_text when.stamp.sent ∷ stamp_text when.stamp.utc ∷ decimal when.stamp.cycle ∷ decimal when.stamp.place ∷ []
+
+-- for whom it was, and what it asked for
+abbrev pub what_fields : Command → List ℕ → List (List ℕ)
+what_fields command name = decimal command.target ∷ name ∷ decimal (call_fields command.call).number ∷ []
+
+-- the number of a fault, where there is one
+abbrev pub fault_field : Option ValueFault → List ℕ
+fault_field None = []
+fault_field (Some fault) = decimal (fault_number fault)
+
+-- what a reply's line says, where there is one: its communication code, its return code, and its values
+abbrev pub reply_fields : Option (List ℕ) → List (List ℕ)
+reply_fields None = [] ∷ [] ∷ [] ∷ []
+reply_fields (Some line) = com_of line ∷ code_of line ∷ values_of line ∷ []
+
+-- how it ended: the outcome, the fault, and what the reply's line says
+abbrev pub ending_fields : End → List (List ℕ)
+ending_fields end = word_of end ∷ fault_field (fault_of end) ∷ reply_fields (line_of end)
+
+-- a value in its column
+abbrev pub value_text : Value → List ℕ
+value_text value = behind_comma (quantity_text value)
+
+-- values in 24 columns, from this one on
+abbrev pub spread : ℕ → List (List ℕ) → List (List ℕ)
+spread first texts = replicate first [] ++ (texts ++ replicate (24 - first - length texts) [])
+
+-- the quantities of how a call's command ended, each in its column
+abbrev pub quantity_fields : Call → End → List (List ℕ)
+quantity_fields call (Answered (Some answer) line) = spread (column_of call answer) (map quantity_text (answer_fields answer).values)
+quantity_fields call _ = replicate 24 []
+
+-- the same where there is a column for each, and none where there isn't
+abbrev pub more_fields : Bool → Call → End → List (List ℕ)
+more_fields true call end = quantity_fields call end
+more_fields false call end = []
+
+-- the fields of a record's row: when its run began, when it was sent and ended, and which of its run it was; for whom, what it asked for,
+-- and how it ended; and a field for each quantity, or none
+abbrev pub row_fields : Bool → When → List ℕ → Command → End → List (List ℕ)
+row_fields columns when name command end =
+    stamp_text when.run ∷ (when_fields when ++ (what_fields command name ++ (ending_fields end ++ more_fields columns command.call end)))

@@ -1,0 +1,67 @@
+-- Which quantities a procedure tells, and how many fields a row has. A procedure's number and what it tells are those of the manual's
+-- procedure tables; the names are this project's own.
+use Rattle.std.specs.Prelude.{◌≡◌, ℕ, ◌+◌, ◌==◌, ◌||◌, true, false, List, [], ◌∷◌, ◌++◌, length, if◌then◌else◌, codes}
+use Rattle.gc_catalogue.specs.Answers.{answer_fields, IsAnswerOf}
+use Rattle.gc_catalogue.specs.Calls.{call_fields}
+use Rattle.gc_catalogue.specs.declared.answer.Answer.{Answer}
+use Rattle.gc_catalogue.specs.declared.call.Call.{Call}
+use Rattle.gc_values.specs.declared.value.Value.{Value}
+use Rattle.gc_texts.specs.Endings.{End}
+use Rattle.gc_rows.specs.Quantities.{column_of, quantity_name, quantity_names}
+use Rattle.gc_rows.specs.Records.{names}
+use Rattle.gc_rows.specs.Rows.{row_fields}
+use Rattle.gc_texts.specs.declared.commands.Command.{Command}
+use Rattle.gc_rows.specs.declared.when.When.{When}
+
+-- the angles that an instrument measures, and with them the slope distance
+abbrev pub angles : List (List ℕ)
+angles = codes "hz_rad" ∷ codes "v_rad" ∷ []
+
+abbrev pub measured : List (List ℕ)
+measured = angles ++ codes "distance_m" ∷ []
+
+-- a version's three numbers
+abbrev pub versions : List (List ℕ)
+versions = codes "release" ∷ codes "version" ∷ codes "subversion" ∷ []
+
+-- what the procedure with this number tells, in its order on the line; nothing, where it isn't among these
+abbrev pub quantities_told : ℕ → List (List ℕ)
+quantities_told rpc =
+    -- COM_GetDoublePrecision
+    if rpc == 108 then codes "places" ∷ []
+    -- COM_GetSWVersion, CSV_GetSWVersion
+    else (if (rpc == 110) || (rpc == 5034) then versions
+    -- CSV_GetInstrumentNo, CSV_GetInstrumentName
+    else (if rpc == 5003 then codes "serial" ∷ []
+    else (if rpc == 5004 then codes "instrument" ∷ []
+    -- CSV_GetDateTime
+    else (if rpc == 5008 then codes "year" ∷ codes "month" ∷ codes "day" ∷ codes "hour" ∷ codes "minute" ∷ codes "second" ∷ []
+    -- CSV_GetIntTemp
+    else (if rpc == 5011 then codes "temperature_c" ∷ []
+    -- TMC_GetStation, TMC_GetHeight, TMC_GetFace
+    else (if rpc == 2009 then codes "easting_m" ∷ codes "northing_m" ∷ codes "height_m" ∷ codes "instrument_height_m" ∷ []
+    else (if rpc == 2011 then codes "reflector_height_m" ∷ []
+    else (if rpc == 2026 then codes "face" ∷ []
+    -- TMC_GetAngle
+    else (if rpc == 2107 then angles
+    -- TMC_GetSimpleMea, TMC_QuickDist
+    else (if (rpc == 2108) || (rpc == 2117) then measured
+    -- BAP_GetPrismType, BAP_MeasDistanceAngle
+    else (if rpc == 17009 then codes "prism_type" ∷ []
+    else (if rpc == 17017 then measured ++ codes "mode" ∷ []
+    else []))))))))))))
+
+-- the names of the columns in which values stand, the first of them in this one
+abbrev pub names_from : ℕ → List Value → List (List ℕ)
+names_from column [] = []
+names_from column (v ∷ vs) = quantity_name column ∷ names_from (column + 1) vs
+
+-- the values of an answer stand under the names of what its procedure tells, in that order
+abbrev pub QuantitiesHaveTheirNames : Type 0
+QuantitiesHaveTheirNames =
+    (call : Call) (answer : Answer) → IsAnswerOf call answer → names_from (column_of call answer) (answer_fields answer).values ≡ quantities_told (call_fields call).number
+
+-- however a command ended, its row has a field for each name of the header, and no other
+pub record RowsFillTheirColumns : Type 0 where
+  pub csv : (when : When) (name : List ℕ) (command : Command) (end : End) → length (row_fields false when name command end) ≡ length names
+  pub columns : (when : When) (name : List ℕ) (command : Command) (end : End) → length (row_fields true when name command end) ≡ length (names ++ quantity_names)

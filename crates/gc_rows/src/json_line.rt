@@ -1,0 +1,276 @@
+//! Lines of JSON: a record as one object, with its quantities by their names, as numbers and as they came.
+
+ghost use Rattle.std.specs.Prelude.{◌≡◌, ℕ, ◌+◌, ◌*◌, ◌≤◌, ◌<◌, ◌++◌, length, option_map, Some, codes};
+ghost use Rattle.std.specs.List.{flat_map};
+ghost use Rattle.arrayvec.specs.ArrayVec.{array_vec_len};
+ghost use Rattle.gc_texts.specs.Endings.{ending_seen};
+ghost use Rattle.gc_texts.specs.Logs.{escaped};
+ghost use Rattle.gc_rows.specs.JsonLines.{behind_backslash, in_quotes, named, string_text, text_member, number_member, members_text, without_zeros, sent_members, when_members, name_members, what_members, fault_members, reply_members, ending_members, value_members, values_members, quantity_members, json_line, json_members};
+
+use crate::quantity::{answer_values, column_of, quantity_name, quantity_text};
+use crate::row::texts_of;
+use crate::when::When;
+use arrayvec::ArrayVec;
+use gc_catalogue::Call;
+use gc_lines::{Line, append};
+use gc_texts::{Command, Ending, before, behind, escaped, stamp_text};
+use gc_values::{Value, ValueFault};
+use itoa::Buffer;
+
+/// The most bytes of a line.
+pub(crate) const JSON_ROOM: usize = 40_960;
+
+// Appends a text with a backslash before each double quote and each backslash.
+fn append_behind_backslashes<const N: usize>(line: &mut ArrayVec<u8, N>, text: &[u8])
+    requires { array_vec_len line.old + 2 * length text.now ≤ N }
+    ensures text { line.new.items ≡ line.old.items ++ flat_map behind_backslash text.now }
+    ensures room { array_vec_len line.new ≤ array_vec_len line.old + 2 * length text.now }
+{
+    for b in text {
+        if *b == b'"' || *b == b'\\' {
+            append(line, &[b'\\', *b]);
+        } else {
+            append(line, &[*b]);
+        }
+    }
+}
+
+// Appends a string that holds these bytes.
+fn append_string<const N: usize>(line: &mut ArrayVec<u8, N>, bytes: &[u8])
+    requires short { length bytes.now ≤ 514 }
+    requires room { array_vec_len line.old + 8 * length bytes.now + 2 ≤ N }
+    ensures text { line.new.items ≡ line.old.items ++ string_text bytes.now }
+    ensures room { array_vec_len line.new ≤ array_vec_len line.old + 8 * length bytes.now + 2 }
+{
+    append(line, b"\"");
+    append_behind_backslashes(line, &escaped(bytes));
+    append(line, b"\"");
+}
+
+// Appends the name of a member, which has this ending, behind a comma and with its colon.
+fn append_name<const N: usize>(line: &mut ArrayVec<u8, N>, name: &[u8], ending: &[u8])
+    requires short { length name.now ≤ 32 }
+    requires ends { length ending.now ≤ 5 }
+    requires room { array_vec_len line.old + 41 ≤ N }
+    ensures text { line.new.items ≡ line.old.items ++ named (name.now ++ ending.now) }
+    ensures room { array_vec_len line.new ≤ array_vec_len line.old + 41 }
+{
+    append(line, b",\"");
+    append(line, name);
+    append(line, ending);
+    append(line, b"\":");
+}
+
+// Appends a member that is a string of these bytes.
+fn append_text<const N: usize>(line: &mut ArrayVec<u8, N>, name: &[u8], bytes: &[u8])
+    requires named { length name.now ≤ 32 }
+    requires short { length bytes.now ≤ 514 }
+    requires room { array_vec_len line.old + 8 * length bytes.now + 43 ≤ N }
+    ensures text { line.new.items ≡ line.old.items ++ text_member name.now bytes.now }
+    ensures room { array_vec_len line.new ≤ array_vec_len line.old + 8 * length bytes.now + 43 }
+{
+    append_name(line, name, b"");
+    append_string(line, bytes);
+}
+
+// Appends a member that is a number with these digits.
+fn append_number<const N: usize>(line: &mut ArrayVec<u8, N>, name: &[u8], digits: &[u8])
+    requires named { length name.now ≤ 32 }
+    requires short { length digits.now ≤ 514 }
+    requires room { array_vec_len line.old + length digits.now + 41 ≤ N }
+    ensures text { line.new.items ≡ line.old.items ++ number_member name.now digits.now }
+    ensures room { array_vec_len line.new ≤ array_vec_len line.old + length digits.now + 41 }
+{
+    append_name(line, name, b"");
+    append(line, digits);
+}
+
+// When a command was sent, where it was.
+fn append_sent<const N: usize>(line: &mut ArrayVec<u8, N>, sent: Option<u64>)
+    requires { array_vec_len line.old + 384 ≤ N }
+    ensures text { line.new.items ≡ line.old.items ++ members_text (sent_members sent) }
+    ensures room { array_vec_len line.new ≤ array_vec_len line.old + 384 }
+{
+    if let Some(utc) = sent {
+        append_text(line, b"sent", &stamp_text(utc));
+    }
+}
+
+// When a command was sent and ended, and which of its run it was.
+fn append_when<const N: usize>(line: &mut ArrayVec<u8, N>, when: &When)
+    requires { array_vec_len line.old + 1024 ≤ N }
+    ensures text { line.new.items ≡ line.old.items ++ members_text (when_members when.now) }
+    ensures room { array_vec_len line.new ≤ array_vec_len line.old + 1024 }
+{
+    let mut digits = Buffer::new();
+    append_sent(line, when.stamp.sent);
+    append_text(line, b"time", &stamp_text(when.stamp.utc));
+    append_number(line, b"cycle", digits.format(when.stamp.cycle).as_bytes());
+    append_number(line, b"place", digits.format(when.stamp.place).as_bytes());
+}
+
+// What a target is called, where it has a name.
+fn append_called<const N: usize>(line: &mut ArrayVec<u8, N>, name: &[u8])
+    requires short { length name.now ≤ 64 }
+    requires room { array_vec_len line.old + 640 ≤ N }
+    ensures text { line.new.items ≡ line.old.items ++ members_text (name_members name.now) }
+    ensures room { array_vec_len line.new ≤ array_vec_len line.old + 640 }
+{
+    if !name.is_empty() {
+        append_text(line, b"name", name);
+    }
+}
+
+// For whom a command was, and what it asked for.
+fn append_what<const N: usize>(line: &mut ArrayVec<u8, N>, command: &Command, name: &[u8])
+    requires short { length name.now ≤ 64 }
+    requires room { array_vec_len line.old + 1408 ≤ N }
+    ensures text { line.new.items ≡ line.old.items ++ members_text (what_members command.now name.now) }
+    ensures room { array_vec_len line.new ≤ array_vec_len line.old + 1408 }
+{
+    let mut digits = Buffer::new();
+    append_number(line, b"target", digits.format(command.target).as_bytes());
+    append_called(line, name);
+    append_number(
+        line,
+        b"procedure",
+        digits.format(command.call.number()).as_bytes(),
+    );
+}
+
+// Digits without the zeros before them, but for the last digit.
+fn without_zeros(digits: &[u8]) -> &[u8]
+    ensures is { result.now ≡ without_zeros digits.now }
+    ensures short { length result.now ≤ length digits.now }
+{
+    match digits {
+        [b'0', rest @ ..] if !rest.is_empty() => without_zeros(rest),
+        _ => digits,
+    }
+}
+
+// The fault of a reply's values, where they don't read.
+fn append_fault<const N: usize>(line: &mut ArrayVec<u8, N>, fault: Option<ValueFault>)
+    requires { array_vec_len line.old + 64 ≤ N }
+    ensures text { line.new.items ≡ line.old.items ++ members_text (fault_members fault) }
+    ensures room { array_vec_len line.new ≤ array_vec_len line.old + 64 }
+{
+    if let Some(fault) = fault {
+        append_number(
+            line,
+            b"fault",
+            Buffer::new().format(fault.number()).as_bytes(),
+        );
+    }
+}
+
+// What a reply's line says: its communication code, its return code, and its values.
+fn append_texts<const N: usize>(line: &mut ArrayVec<u8, N>, reply: &Line)
+    requires { array_vec_len line.old + 5346 ≤ N }
+    ensures text { line.new.items ≡ line.old.items ++ members_text (reply_members (Some reply.now.items)) }
+    ensures room { array_vec_len line.new ≤ array_vec_len line.old + 5346 }
+{
+    let texts = texts_of(reply);
+    append_number(line, b"rc_com", without_zeros(texts.com));
+    append_number(line, b"rc", without_zeros(texts.code));
+    append_text(line, b"values", texts.values);
+}
+
+// The same, where there is one.
+fn append_reply<const N: usize>(line: &mut ArrayVec<u8, N>, reply: Option<&Line>)
+    requires { array_vec_len line.old + 5346 ≤ N }
+    ensures text { line.new.items ≡ line.old.items ++ members_text (reply_members (option_map (λ l. l.now.items) reply.entry)) }
+    ensures room { array_vec_len line.new ≤ array_vec_len line.old + 5346 }
+{
+    if let Some(reply) = reply {
+        append_texts(line, reply);
+    }
+}
+
+// How a command ended.
+fn append_ending<const N: usize>(line: &mut ArrayVec<u8, N>, ending: Ending<'_>)
+    requires { array_vec_len line.old + 5632 ≤ N }
+    ensures text { line.new.items ≡ line.old.items ++ members_text (ending_members (ending_seen ending.entry)) }
+    ensures room { array_vec_len line.new ≤ array_vec_len line.old + 5632 }
+{
+    append_text(line, b"outcome", ending.word());
+    append_fault(line, ending.fault());
+    append_reply(line, ending.line());
+}
+
+// A value: a number in its one written form and as it came, or a text.
+fn append_value<const N: usize>(line: &mut ArrayVec<u8, N>, name: &[u8], value: &Value, came: &[u8])
+    requires named { length name.now ≤ 32 }
+    requires short { length came.now ≤ 514 }
+    requires room { array_vec_len line.old + 8 * length came.now + 640 ≤ N }
+    ensures text { line.new.items ≡ line.old.items ++ members_text (value_members name.now value.now came.now) }
+    ensures room { array_vec_len line.new ≤ array_vec_len line.old + 8 * length came.now + 640 }
+{
+    match value {
+        Value::Text(text) => append_text(line, name, text.as_bytes()),
+        Value::Double(_) | Value::Long(_) | Value::Short(_) | Value::Byte(_) | Value::Bool(_) => {
+            append_number(line, name, &quantity_text(value));
+            append_name(line, name, b"_text");
+            append_string(line, came);
+        }
+    }
+}
+
+// Values, the first of them in this column, which came as this text.
+fn append_values<const N: usize>(
+    line: &mut ArrayVec<u8, N>,
+    first: usize,
+    values: &[Value],
+    came: &[u8],
+)
+    requires fits { first + length values.now ≤ 24 }
+    requires short { length came.now ≤ 512 }
+    requires room { array_vec_len line.old + 4736 * length values.now ≤ N }
+    ensures text { line.new.items ≡ line.old.items ++ members_text (values_members first values.now came.now) }
+    ensures room { array_vec_len line.new ≤ array_vec_len line.old + 4736 * length values.now }
+{
+    let mut column = first;
+    let mut rest = came;
+    for value in values {
+        append_value(line, quantity_name(column), value, before(b',', rest));
+        column += 1;
+        rest = behind(b',', rest);
+    }
+}
+
+// The quantities of how a command ended.
+fn append_quantities<const N: usize>(line: &mut ArrayVec<u8, N>, call: &Call, ending: Ending<'_>)
+    requires { array_vec_len line.old + 28416 ≤ N }
+    ensures text { line.new.items ≡ line.old.items ++ members_text (quantity_members call.now (ending_seen ending.entry)) }
+    ensures room { array_vec_len line.new ≤ array_vec_len line.old + 28416 }
+{
+    if let Ending::Answered(Some(answer), reply) = ending {
+        append_values(
+            line,
+            column_of(call, answer),
+            &answer_values(answer),
+            texts_of(reply).values,
+        );
+    }
+}
+
+/// The line of a record.
+pub(crate) fn json_line(
+    when: &When,
+    name: &[u8],
+    command: &Command,
+    ending: Ending<'_>,
+) -> ArrayVec<u8, JSON_ROOM>
+    requires { length name.now ≤ 64 }
+    ensures { result.items ≡ json_line when.now.run (json_members when.now name.now command.now (ending_seen ending.entry)) }
+{
+    let mut line = ArrayVec::new();
+    append(&mut line, b"{\"run\":");
+    append_string(&mut line, &stamp_text(when.run));
+    append_when(&mut line, when);
+    append_what(&mut line, command, name);
+    append_ending(&mut line, ending);
+    append_quantities(&mut line, &command.call, ending);
+    append(&mut line, b"}\n");
+    line
+}

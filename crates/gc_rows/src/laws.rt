@@ -1,0 +1,41 @@
+//! What is proved of the definitions themselves. The functions have no effect: their contracts are the laws.
+
+ghost use Rattle.gc_rows.specs.Told.{QuantitiesHaveTheirNames, RowsFillTheirColumns};
+ghost use Rattle.gc_rows.specs.Laws.{ColumnsAreFields, RowsReadBack, RowsArePrintable, JsonLinesReadBack, RecordsAreMembers};
+
+/// The columns of a record that stand for a reply are its communication code, its return code and its values.
+pub fn columns_are_a_replys_fields()
+    ensures { ColumnsAreFields }
+{}
+
+/// A reader of comma-separated values gives each row back as its fields, and a table as its rows, whatever bytes a reply had; and
+/// a field was written of no other bytes.
+pub fn rows_read_back()
+    ensures { RowsReadBack }
+{}
+
+/// A row has no byte below 32 nor above 126 before its line feed.
+pub fn rows_are_printable()
+    ensures { RowsArePrintable }
+{}
+
+/// A line of JSON reads as an object of its members, in their order, whatever bytes they hold.
+pub fn json_lines_read_back()
+    ensures { JsonLinesReadBack }
+{}
+
+/// The members of a record's line are such that it reads back: plain names, texts of bytes, and numbers of JSON.
+pub fn records_are_members()
+    ensures { RecordsAreMembers }
+{}
+
+/// The values of an answer stand under the names of what its procedure tells, by its number in the manual's procedure tables. The
+/// columns of a row and the members of an object have these names.
+pub fn quantities_have_their_names()
+    ensures { QuantitiesHaveTheirNames }
+{}
+
+/// However a command ended, its row has as many fields as the header has names.
+pub fn rows_fill_their_columns()
+    ensures { RowsFillTheirColumns }
+{}

@@ -1,0 +1,12 @@
+//! The rows that a station writes: each record as a line, as comma-separated values, or as a line of JSON.
+#![tactic(auto)]
+
+mod json_line;
+pub mod laws;
+mod quantity;
+mod record;
+mod row;
+mod when;
+
+pub use record::{Form, head, sign, write_head, write_record};
+pub use when::When;

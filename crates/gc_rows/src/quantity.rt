@@ -1,0 +1,173 @@
+//! Quantities: the values of an answer, each as a text, and the columns in which they stand.
+
+ghost use Rattle.std.specs.Prelude.{◌≡◌, ◌+◌, ◌≤◌, length};
+ghost use Rattle.gc_catalogue.specs.Answers.{answer_fields};
+ghost use Rattle.gc_catalogue.specs.Structs.{date_values, station_values};
+ghost use Rattle.gc_rows.specs.Quantities.{column_of, column_of_long, quantity_name, quantity_text};
+
+use arrayvec::ArrayVec;
+use gc_catalogue::{Answer, Call, DateTime, Station};
+use gc_lines::append;
+use gc_values::{Value, push_bool, push_decimal, push_long, push_short};
+use itoa::Buffer;
+
+/// How many columns of quantities there are.
+pub(crate) const QUANTITIES: usize = 24;
+
+/// The most values of an answer.
+pub(crate) const MOST_VALUES: usize = 6;
+
+/// The most bytes of a quantity.
+pub(crate) const QUANTITY_ROOM: usize = 64;
+
+/// The name of the quantity in a column, counted from 0; nothing behind the last column.
+pub(crate) fn quantity_name(column: usize) -> &'static [u8]
+    ensures is { result.now ≡ quantity_name column }
+    ensures short { length result.now ≤ 32 }
+{
+    match column {
+        0 => b"hz_rad",
+        1 => b"v_rad",
+        2 => b"distance_m",
+        3 => b"mode",
+        4 => b"easting_m",
+        5 => b"northing_m",
+        6 => b"height_m",
+        7 => b"instrument_height_m",
+        8 => b"reflector_height_m",
+        9 => b"face",
+        10 => b"prism_type",
+        11 => b"temperature_c",
+        12 => b"places",
+        13 => b"release",
+        14 => b"version",
+        15 => b"subversion",
+        16 => b"serial",
+        17 => b"instrument",
+        18 => b"year",
+        19 => b"month",
+        20 => b"day",
+        21 => b"hour",
+        22 => b"minute",
+        23 => b"second",
+        _ => b"",
+    }
+}
+
+/// The values of an answer, in their order on the line.
+pub(crate) fn answer_values(answer: &Answer) -> ArrayVec<Value, MOST_VALUES>
+    ensures { result.items ≡ (answer_fields answer.now).values }
+{
+    let mut values = ArrayVec::new();
+    match answer {
+        Answer::Nothing => (),
+        Answer::Short(n) => values.push(Value::Short(*n)),
+        Answer::Version(release, version, subversion) => {
+            values.push(Value::Short(*release));
+            values.push(Value::Short(*version));
+            values.push(Value::Short(*subversion));
+        }
+        Answer::Long(n) => values.push(Value::Long(*n)),
+        Answer::Name(name) => values.push(Value::Text(*name)),
+        Answer::Date(date) => return date_values(date),
+        Answer::Temperature(t) => values.push(Value::Double(*t)),
+        Answer::Place(station) => return station_values(station),
+        Answer::Height(h) => values.push(Value::Double(*h)),
+        Answer::Angles { hz, v } => {
+            values.push(Value::Double(*hz));
+            values.push(Value::Double(*v));
+        }
+        Answer::Measured { hz, v, distance } => {
+            values.push(Value::Double(*hz));
+            values.push(Value::Double(*v));
+            values.push(Value::Double(*distance));
+        }
+        Answer::MeasuredMode {
+            hz,
+            v,
+            distance,
+            mode,
+        } => {
+            values.push(Value::Double(*hz));
+            values.push(Value::Double(*v));
+            values.push(Value::Double(*distance));
+            values.push(Value::Long(*mode));
+        }
+    }
+    values
+}
+
+// A date's values, in their order on the line.
+fn date_values(date: &DateTime) -> ArrayVec<Value, MOST_VALUES>
+    ensures { result.items ≡ date_values date.now }
+{
+    let mut values = ArrayVec::new();
+    values.push(Value::Short(date.year));
+    values.push(Value::Byte(date.month));
+    values.push(Value::Byte(date.day));
+    values.push(Value::Byte(date.hour));
+    values.push(Value::Byte(date.minute));
+    values.push(Value::Byte(date.second));
+    values
+}
+
+// A station's values, in their order on the line.
+fn station_values(station: &Station) -> ArrayVec<Value, MOST_VALUES>
+    ensures { result.items ≡ station_values station.now }
+{
+    let mut values = ArrayVec::new();
+    values.push(Value::Double(station.e0));
+    values.push(Value::Double(station.n0));
+    values.push(Value::Double(station.h0));
+    values.push(Value::Double(station.hi));
+    values
+}
+
+/// The column of the first value of a call's answer, counted from 0. The others stand behind it.
+pub(crate) fn column_of(call: &Call, answer: &Answer) -> usize
+    ensures is { result ≡ column_of call.now answer.now }
+    ensures fits { column_of call.now answer.now + length (answer_fields answer.now).values ≤ 24 }
+{
+    match answer {
+        Answer::Nothing
+        | Answer::Angles { .. }
+        | Answer::Measured { .. }
+        | Answer::MeasuredMode { .. } => 0,
+        Answer::Place(_) => 4,
+        Answer::Height(_) => 8,
+        Answer::Long(_) => column_of_long(call),
+        Answer::Temperature(_) => 11,
+        Answer::Short(_) => 12,
+        Answer::Version(..) => 13,
+        Answer::Name(_) => 17,
+        Answer::Date(_) => 18,
+    }
+}
+
+// The column of a lone whole number, by the call: a face, a type of prism, or a serial number.
+fn column_of_long(call: &Call) -> usize
+    ensures is { result ≡ column_of_long call.now }
+    ensures fits { column_of_long call.now + 1 ≤ 24 }
+{
+    match call {
+        Call::GetFace => 9,
+        Call::GetPrism => 10,
+        _ => 16,
+    }
+}
+
+/// A value as a quantity: a number in its one written form, a byte as a number, and the bytes of a text without their quotes.
+pub(crate) fn quantity_text(value: &Value) -> ArrayVec<u8, QUANTITY_ROOM>
+    ensures { result.items ≡ quantity_text value.now }
+{
+    let mut text = ArrayVec::new();
+    match value {
+        Value::Double(d) => push_decimal(&mut text, d),
+        Value::Long(n) => push_long(&mut text, *n),
+        Value::Short(n) => push_short(&mut text, *n),
+        Value::Byte(n) => append(&mut text, Buffer::new().format(*n).as_bytes()),
+        Value::Bool(b) => push_bool(&mut text, *b),
+        Value::Text(bytes) => append(&mut text, bytes.as_bytes()),
+    }
+    text
+}

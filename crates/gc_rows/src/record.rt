@@ -1,0 +1,146 @@
+//! Records: how a command ended, with its moments, as a line or as a row of comma-separated values.
+
+ghost use Rattle.std.specs.Prelude.{◌≡◌, ℕ, ◌+◌, ◌≤◌, ◌++◌, length, option_map, OnOk, IfErr};
+ghost use Rattle.std.specs.Io.KnownBytes.{Appends};
+ghost use Rattle.gc_lines.specs.Ports.{FailsWith, TakesFront};
+ghost use Rattle.gc_texts.specs.Endings.{ending_seen};
+ghost use Rattle.gc_rows.specs.Records.{spaced_fault, spaced_line, ending_text, record_line, record_text, head_text, sign_text};
+ghost use Rattle.arrayvec.specs.ArrayVec.{array_vec_len};
+
+use crate::json_line::json_line;
+use crate::row::csv_row;
+use crate::when::When;
+use arrayvec::ArrayVec;
+use gc_lines::{Line, Sink, append, write_whole};
+use gc_texts::{Command, Ending, append_escaped, stamp_text};
+use gc_values::ValueFault;
+use itoa::Buffer;
+
+/// How records are written.
+#[derive(Clone, Copy, Debug, PartialEq, Eq)]
+pub enum Form {
+    /// Each a line: the moment, the place, the target, and how the command ended, with the bytes of the reply as in a row.
+    Lines,
+    /// Each a row of comma-separated values, quoted as RFC 4180 has it, with the names of the columns in front of all.
+    Csv,
+    /// The same, with a column for each quantity that an answer may have.
+    Columns,
+    /// Each an object of JSON on a line of its own, with the quantities of its answer.
+    Json,
+}
+
+/// What stands in front of all records: the names of the columns, or nothing.
+pub fn head(form: Form) -> &'static [u8]
+    ensures { result.now ≡ head_text form }
+{
+    match form {
+        Form::Lines | Form::Json => b"",
+        Form::Csv => {
+            b"run,sent,time,cycle,place,target,name,procedure,outcome,fault,rc_com,rc,values\n"
+        }
+        Form::Columns => {
+            b"run,sent,time,cycle,place,target,name,procedure,outcome,fault,rc_com,rc,values,hz_rad,v_rad,distance_m,mode,easting_m,northing_m,height_m,instrument_height_m,reflector_height_m,face,prism_type,temperature_c,places,release,version,subversion,serial,instrument,year,month,day,hour,minute,second\n"
+        }
+    }
+}
+
+/// What a file of records in this form begins with, where any record stands in it.
+pub fn sign(form: Form) -> &'static [u8]
+    ensures { result.now ≡ sign_text form }
+{
+    match form {
+        Form::Json => b"{\"run\":\"",
+        Form::Lines | Form::Csv | Form::Columns => head(form),
+    }
+}
+
+/// Writes what stands in front of all records: the names of the columns, or nothing. `Err(n)`: the sink took the first n bytes
+/// of it, which aren't all, and failed.
+pub fn write_head<K: Sink>(sink: &mut K, form: Form) -> Result<(), usize>
+    ensures failed { FailsWith result (K.failed sink.old) (K.failed sink.new) }
+    ensures ok { OnOk result (Appends (K.taken sink.old) (K.taken sink.new) (head_text form)) }
+    ensures err { IfErr result (λ n. TakesFront (K.taken sink.old) (K.taken sink.new) n (head_text form)) }
+{
+    write_whole(sink, head(form))
+}
+
+/// Writes a record: its moments, the target's name, of at most 64 bytes and empty where it has none, the command, and how it
+/// ended. It goes out in one write where the sink takes all of it. `Err(n)`: the sink took the first n bytes of it, which aren't
+/// all, and failed.
+pub fn write_record<K: Sink>(
+    sink: &mut K,
+    form: Form,
+    when: &When,
+    name: &[u8],
+    command: &Command,
+    ending: Ending<'_>,
+) -> Result<(), usize>
+    requires { length name.now ≤ 64 }
+    ensures failed { FailsWith result (K.failed sink.old) (K.failed sink.new) }
+    ensures ok { OnOk result (Appends (K.taken sink.old) (K.taken sink.new) (record_text form when.now name.now command.now (ending_seen ending.entry))) }
+    ensures err { IfErr result (λ n. TakesFront (K.taken sink.old) (K.taken sink.new) n (record_text form when.now name.now command.now (ending_seen ending.entry))) }
+{
+    match form {
+        Form::Lines => write_whole(sink, &record_line(when, command, ending)),
+        Form::Csv => write_whole(sink, &csv_row(false, when, name, command, ending)),
+        Form::Columns => write_whole(sink, &csv_row(true, when, name, command, ending)),
+        Form::Json => write_whole(sink, &json_line(when, name, command, ending)),
+    }
+}
+
+// The most bytes of how a command ended: the word, a fault, and the reply's line, each byte of which may stand as four.
+const ENDING_ROOM: usize = 1 + 16 + 21 + 1 + 4 * 512;
+
+// The most bytes of a record's line: a moment, a place and a target, the words, and the reply's line.
+const LINE_ROOM: usize = 40 + 1 + 20 + 1 + 10 + ENDING_ROOM + 1;
+
+// The line of a record: the moment, the place, the target, and how the command ended.
+fn record_line(when: &When, command: &Command, ending: Ending<'_>) -> ArrayVec<u8, LINE_ROOM>
+    ensures { result.items ≡ record_line when.now command.now (ending_seen ending.entry) }
+{
+    let mut digits = Buffer::new();
+    let mut line = ArrayVec::new();
+    append(&mut line, &stamp_text(when.stamp.utc));
+    append(&mut line, b" ");
+    append(&mut line, digits.format(when.stamp.place).as_bytes());
+    append(&mut line, b" ");
+    append(&mut line, digits.format(command.target).as_bytes());
+    append(&mut line, &ending_text(ending));
+    append(&mut line, b"\n");
+    line
+}
+
+// How a command ended, in words, and behind them the line of the reply, as it stands in a row.
+fn ending_text(ending: Ending<'_>) -> ArrayVec<u8, ENDING_ROOM>
+    ensures { result.items ≡ ending_text (ending_seen ending.entry) }
+{
+    let mut text = ArrayVec::new();
+    append(&mut text, b" ");
+    append(&mut text, ending.word());
+    append_fault(&mut text, ending.fault());
+    append_line(&mut text, ending.line());
+    text
+}
+
+// The number of a fault behind a space, where there is one.
+fn append_fault<const N: usize>(text: &mut ArrayVec<u8, N>, fault: Option<ValueFault>)
+    requires { array_vec_len text.old + 21 ≤ N }
+    ensures text { text.new.items ≡ text.old.items ++ spaced_fault fault }
+    ensures room { array_vec_len text.new ≤ array_vec_len text.old + 21 }
+{
+    if let Some(fault) = fault {
+        append(text, b" ");
+        append(text, Buffer::new().format(fault.number()).as_bytes());
+    }
+}
+
+// The line of a reply behind a space, as it stands in a row, where there is one.
+fn append_line<const N: usize>(text: &mut ArrayVec<u8, N>, line: Option<&Line>)
+    requires { array_vec_len text.old + 2049 ≤ N }
+    ensures { text.new.items ≡ text.old.items ++ spaced_line (option_map (λ l. l.now.items) line.entry) }
+{
+    if let Some(line) = line {
+        append(text, b" ");
+        append_escaped(text, line);
+    }
+}

@@ -1,0 +1,270 @@
+//! Rows: a record as a row of comma-separated values, quoted as RFC 4180 has it, of printable ASCII alone.
+
+ghost use Rattle.std.specs.Prelude.{◌≡◌, ℕ, ◌+◌, ◌*◌, ◌≤◌, ◌++◌, length, option_map, replicate};
+ghost use Rattle.std.specs.List.{flat_map, list_any};
+ghost use Rattle.arrayvec.specs.ArrayVec.{array_vec_len};
+ghost use Rattle.gc_texts.specs.Cuts.{before, behind};
+ghost use Rattle.gc_texts.specs.Endings.{ending_seen};
+ghost use Rattle.gc_rows.specs.Rows.{com_of, code_of, values_of, is_special, within_quotes, csv_field, field_text, behind_comma, behind_commas, fault_field, reply_fields, ending_fields, moment_text, when_fields, what_fields, quantity_fields, more_fields, value_text, row_of, row_fields};
+
+use crate::quantity::{QUANTITIES, answer_values, column_of, quantity_text};
+use crate::when::When;
+use arrayvec::ArrayVec;
+use gc_catalogue::Call;
+use gc_lines::{Line, append};
+use gc_texts::{Command, Ending, STAMP_ROOM, before, behind, escaped, stamp_text};
+use gc_values::{Value, ValueFault};
+use itoa::Buffer;
+
+/// The most bytes of a row.
+pub(crate) const ROW_ROOM: usize = 24_576;
+
+// A comma before each column of a quantity.
+const COMMAS: [u8; QUANTITIES] = [b','; QUANTITIES];
+
+/// What a reply's line says, as it is written there.
+#[derive(Clone, Copy)]
+pub(crate) struct ReplyTexts<'a> {
+    /// Its communication code.
+    pub com: &'a [u8],
+    /// Its return code.
+    pub code: &'a [u8],
+    /// Its values, with the commas between them.
+    pub values: &'a [u8],
+}
+
+/// Cuts a reply's line once, into what it says.
+pub(crate) fn texts_of(line: &[u8]) -> ReplyTexts<'_>
+    ensures com { result.com.now ≡ com_of line.now }
+    ensures code { result.code.now ≡ code_of line.now }
+    ensures values { result.values.now ≡ values_of line.now }
+    ensures short { (length result.com.now ≤ length line.now) × (length result.code.now ≤ length line.now) × (length result.values.now ≤ length line.now) }
+{
+    let (head, body) = parts(b':', behind(b',', line));
+    let (code, values) = parts(b',', body);
+    ReplyTexts {
+        com: before(b',', head),
+        code,
+        values,
+    }
+}
+
+// What stands before the first mark, and what stands behind it.
+fn parts(mark: u8, text: &[u8]) -> (&[u8], &[u8])
+    ensures front { result.0.now ≡ before mark text.now }
+    ensures rest { result.1.now ≡ behind mark text.now }
+    ensures short { (length result.0.now ≤ length text.now) × (length result.1.now ≤ length text.now) }
+{
+    (before(mark, text), behind(mark, text))
+}
+
+// Whether a field has to stand within quotes.
+fn is_special(text: &[u8]) -> bool
+    ensures { result ≡ list_any is_special text.now }
+{
+    text.iter()
+        .any(|b| matches!(b, b',' | b'"' | b'\r' | b'\n'))
+}
+
+// Appends a text with each double quote twice.
+fn append_doubled<const N: usize>(to: &mut ArrayVec<u8, N>, text: &[u8])
+    requires { array_vec_len to.old + 2 * length text.now ≤ N }
+    ensures text { to.new.items ≡ to.old.items ++ flat_map within_quotes text.now }
+    ensures room { array_vec_len to.new ≤ array_vec_len to.old + 2 * length text.now }
+{
+    for b in text {
+        if *b == b'"' {
+            append(to, b"\"\"");
+        } else {
+            append(to, &[*b]);
+        }
+    }
+}
+
+// Appends a text as a field: as it is, or within quotes.
+fn append_quoted<const N: usize>(row: &mut ArrayVec<u8, N>, text: &[u8])
+    requires { array_vec_len row.old + 2 * length text.now + 2 ≤ N }
+    ensures text { row.new.items ≡ row.old.items ++ csv_field text.now }
+    ensures room { array_vec_len row.new ≤ array_vec_len row.old + 2 * length text.now + 2 }
+{
+    if is_special(text) {
+        append(row, b"\"");
+        append_doubled(row, text);
+        append(row, b"\"");
+    } else {
+        append(row, text);
+    }
+}
+
+// Appends a field that holds these bytes.
+fn append_field<const N: usize>(row: &mut ArrayVec<u8, N>, bytes: &[u8])
+    requires short { length bytes.now ≤ 514 }
+    requires room { array_vec_len row.old + 8 * length bytes.now + 2 ≤ N }
+    ensures text { row.new.items ≡ row.old.items ++ field_text bytes.now }
+    ensures room { array_vec_len row.new ≤ array_vec_len row.old + 8 * length bytes.now + 2 }
+{
+    append_quoted(row, &escaped(bytes));
+}
+
+// Appends a field that holds these bytes, behind a comma.
+fn append_next<const N: usize>(row: &mut ArrayVec<u8, N>, bytes: &[u8])
+    requires short { length bytes.now ≤ 514 }
+    requires room { array_vec_len row.old + 8 * length bytes.now + 3 ≤ N }
+    ensures text { row.new.items ≡ row.old.items ++ behind_comma bytes.now }
+    ensures room { array_vec_len row.new ≤ array_vec_len row.old + 8 * length bytes.now + 3 }
+{
+    append(row, b",");
+    append_field(row, bytes);
+}
+
+// Appends so many empty fields, each behind a comma.
+fn append_blanks<const N: usize>(row: &mut ArrayVec<u8, N>, count: usize)
+    requires few { count ≤ 24 }
+    requires room { array_vec_len row.old + count ≤ N }
+    ensures text { row.new.items ≡ row.old.items ++ replicate count 44 }
+    ensures room { array_vec_len row.new ≡ array_vec_len row.old + count }
+{
+    append(row, &COMMAS[..count]);
+}
+
+// A moment, where there is one.
+fn moment_text(moment: Option<u64>) -> ArrayVec<u8, STAMP_ROOM>
+    ensures { result.items ≡ moment_text moment }
+{
+    match moment {
+        Some(utc) => stamp_text(utc),
+        None => ArrayVec::new(),
+    }
+}
+
+// When a command was sent and ended, and which of its run it was.
+fn append_when<const N: usize>(row: &mut ArrayVec<u8, N>, when: &When)
+    requires { array_vec_len row.old + 1024 ≤ N }
+    ensures text { row.new.items ≡ row.old.items ++ behind_commas (when_fields when.now) }
+    ensures room { array_vec_len row.new ≤ array_vec_len row.old + 1024 }
+{
+    let mut digits = Buffer::new();
+    append_next(row, &moment_text(when.stamp.sent));
+    append_next(row, &stamp_text(when.stamp.utc));
+    append_next(row, digits.format(when.stamp.cycle).as_bytes());
+    append_next(row, digits.format(when.stamp.place).as_bytes());
+}
+
+// For whom a command was, and what it asked for.
+fn append_what<const N: usize>(row: &mut ArrayVec<u8, N>, command: &Command, name: &[u8])
+    requires short { length name.now ≤ 64 }
+    requires room { array_vec_len row.old + 5120 ≤ N }
+    ensures text { row.new.items ≡ row.old.items ++ behind_commas (what_fields command.now name.now) }
+    ensures room { array_vec_len row.new ≤ array_vec_len row.old + 5120 }
+{
+    let mut digits = Buffer::new();
+    append_next(row, digits.format(command.target).as_bytes());
+    append_next(row, name);
+    append_next(row, digits.format(command.call.number()).as_bytes());
+}
+
+// The number of a fault, where there is one.
+fn fault_text(fault: Option<ValueFault>) -> ArrayVec<u8, 20>
+    ensures { result.items ≡ fault_field fault }
+{
+    let mut text = ArrayVec::new();
+    if let Some(fault) = fault {
+        append(&mut text, Buffer::new().format(fault.number()).as_bytes());
+    }
+    text
+}
+
+// What a reply's line says, where there is one: its communication code, its return code, and its values.
+fn append_reply<const N: usize>(row: &mut ArrayVec<u8, N>, line: Option<&Line>)
+    requires { array_vec_len row.old + 12297 ≤ N }
+    ensures text { row.new.items ≡ row.old.items ++ behind_commas (reply_fields (option_map (λ l. l.now.items) line.entry)) }
+    ensures room { array_vec_len row.new ≤ array_vec_len row.old + 12297 }
+{
+    match line {
+        Some(line) => {
+            let texts = texts_of(line);
+            append_next(row, texts.com);
+            append_next(row, texts.code);
+            append_next(row, texts.values);
+        }
+        None => append(row, b",,,"),
+    }
+}
+
+// How a command ended.
+fn append_ending<const N: usize>(row: &mut ArrayVec<u8, N>, ending: Ending<'_>)
+    requires { array_vec_len row.old + 12800 ≤ N }
+    ensures text { row.new.items ≡ row.old.items ++ behind_commas (ending_fields (ending_seen ending.entry)) }
+    ensures room { array_vec_len row.new ≤ array_vec_len row.old + 12800 }
+{
+    append_next(row, ending.word());
+    append_next(row, &fault_text(ending.fault()));
+    append_reply(row, ending.line());
+}
+
+// Values as quantities.
+fn append_values<const N: usize>(row: &mut ArrayVec<u8, N>, values: &[Value])
+    requires few { length values.now ≤ 6 }
+    requires room { array_vec_len row.old + 515 * length values.now ≤ N }
+    ensures text { row.new.items ≡ row.old.items ++ flat_map value_text values.now }
+    ensures room { array_vec_len row.new ≤ array_vec_len row.old + 515 * length values.now }
+{
+    for value in values {
+        append_next(row, &quantity_text(value));
+    }
+}
+
+// The quantities of how a command ended, each in its column.
+fn append_quantities<const N: usize>(row: &mut ArrayVec<u8, N>, call: &Call, ending: Ending<'_>)
+    requires { array_vec_len row.old + 3200 ≤ N }
+    ensures text { row.new.items ≡ row.old.items ++ behind_commas (quantity_fields call.now (ending_seen ending.entry)) }
+    ensures room { array_vec_len row.new ≤ array_vec_len row.old + 3200 }
+{
+    match ending {
+        Ending::Answered(Some(answer), _) => {
+            let values = answer_values(answer);
+            let first = column_of(call, answer);
+            append_blanks(row, first);
+            append_values(row, &values);
+            append_blanks(row, QUANTITIES - first - values.len());
+        }
+        _ => append_blanks(row, QUANTITIES),
+    }
+}
+
+// Appends the quantities of how a command ended where `columns` asks for them, and else nothing.
+fn append_more<const N: usize>(
+    row: &mut ArrayVec<u8, N>,
+    columns: bool,
+    call: &Call,
+    ending: Ending<'_>,
+)
+    requires { array_vec_len row.old + 3200 ≤ N }
+    ensures text { row.new.items ≡ row.old.items ++ behind_commas (more_fields columns call.now (ending_seen ending.entry)) }
+    ensures room { array_vec_len row.new ≤ array_vec_len row.old + 3200 }
+{
+    if columns {
+        append_quantities(row, call, ending);
+    }
+}
+
+/// The row of a record, with a column for each quantity or without them.
+pub(crate) fn csv_row(
+    columns: bool,
+    when: &When,
+    name: &[u8],
+    command: &Command,
+    ending: Ending<'_>,
+) -> ArrayVec<u8, ROW_ROOM>
+    requires { length name.now ≤ 64 }
+    ensures { result.items ≡ row_of (row_fields columns when.now name.now command.now (ending_seen ending.entry)) }
+{
+    let mut row = ArrayVec::new();
+    append_field(&mut row, &stamp_text(when.run));
+    append_when(&mut row, when);
+    append_what(&mut row, command, name);
+    append_ending(&mut row, ending);
+    append_more(&mut row, columns, &command.call, ending);
+    append(&mut row, b"\n");
+    row
+}

@@ -1,0 +1,49 @@
+-- What every run keeps: the records and the requests that wait are the commands that were sent, whatever the link tells.
+use Rattle.std.proofs.Common.{◌≡◌, ◌<◌, ◌≤◌, Bool, true, false, List, [], length}
+use Rattle.gc_client.specs.Rule.{fresh}
+use Rattle.gc_texts.specs.declared.tasks.Task.{Task}
+use Rattle.gc_station.specs.declared.plan.Plan.{Plan}
+use Rattle.gc_station.specs.declared.cause.Cause.{Cause}
+use Rattle.gc_station.specs.declared.cause.Cause.TheVariants as cause
+use Rattle.gc_station.specs.declared.progress.Phase.{Phase}
+use Rattle.gc_station.specs.declared.progress.Phase.TheVariants.{Down, Pausing, Clearing, Draining, Ready, Closing, Over}
+use Rattle.gc_station.specs.Deciding.{has_begun}
+use Rattle.gc_station.specs.Marks.{commands_in}
+use Rattle.gc_station.specs.Progressing.{is_over}
+use Rattle.gc_station.specs.EachOnce.{IsEachOnce}
+use Rattle.gc_station.specs.Model.{Model}
+
+-- a phase without a connection, or before requests go out: no byte of a line is kept there
+abbrev pub is_bare : Phase → Bool
+is_bare Down = true
+is_bare Pausing = true
+is_bare Clearing = true
+is_bare Draining = true
+is_bare Ready = false
+is_bare (Closing why) = false
+is_bare (Over why) = false
+
+abbrev pub is_done : Cause → Bool
+is_done cause.Done = true
+is_done _ = false
+
+-- the run is done there
+abbrev pub says_done : Phase → Bool
+says_done (Closing why) = is_done why
+says_done (Over why) = is_done why
+says_done _ = false
+
+-- what every run keeps
+pub record Invariant (plan : Plan) (commands : List Task) (s : Model) : Type 0 where
+  pub unsent : s.progress.unsent ≤ length commands
+  pub left : s.progress.left ≤ plan.cycles
+  pub begun : 0 < s.progress.unsent → s.progress.left < plan.cycles
+  pub paired : length s.marks ≡ length s.client.waiting
+  pub window : length s.client.waiting ≤ 7
+  pub digit : s.client.next < 8
+  -- while it begins nothing waits, and the client is new
+  pub begins : has_begun s.progress ≡ false → s.client ≡ fresh
+  pub rest : is_bare s.progress.phase ≡ true → s.rest ≡ []
+  pub over : is_over s.progress ≡ true → s.client.waiting ≡ []
+  pub finished : says_done s.progress.phase ≡ true → (s.progress.left ≡ 0) × (s.progress.unsent ≡ 0) × (commands_in s.marks ≡ 0)
+  pub each : IsEachOnce plan commands s

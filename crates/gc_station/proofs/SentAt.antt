@@ -1,0 +1,239 @@
+-- Where a request of a command goes out, and that what is written down stays.
+use Rattle.std.proofs.Common.{◌≡◌, ◌⊎◌, inl, inr, ℕ, zero, suc, ◌+◌, Bool, true, false, List, [], ◌∷◌, ◌++◌, length, drop, Some, None, refl, sym, ◌∙◌, ap, subst, arith, append_assoc}
+use Rattle.std.specs.Prelude.{slice_get}
+use Rattle.std.proofs.lemmas.List.{length-append}
+use Rattle.gc_texts.specs.declared.tasks.Task.{Task}
+use Rattle.gc_station.specs.declared.mark.Mark.{Mark}
+use Rattle.gc_station.specs.declared.plan.Plan.{Plan}
+use Rattle.gc_station.specs.declared.progress.Action.{Action}
+use Rattle.gc_station.specs.declared.progress.Action.TheVariants.{Ask, Send, Flush, Read}
+use Rattle.gc_links.specs.Acts.{Act, Put, Cut, Gave}
+use Rattle.gc_station.specs.Deciding.{has_begun}
+use Rattle.gc_station.specs.Links.{RecordsStay}
+use Rattle.gc_station.specs.Parts.{Part, nothing, joined, asking_first, putting, doing, beginning, acting, ends_part, in_front, parts_of}
+use Rattle.gc_station.specs.Progressing.{turned, loses_all}
+use Rattle.gc_station.specs.Records.{Record}
+use Rattle.gc_station.specs.Runs.{stood}
+use Rattle.gc_station.specs.Model.{Model, opening, action_at, place_next, mark_next, with_progress, moved, after, after_all}
+use Rattle.gc_station.proofs.Facts.{either}
+use Rattle.gc_station.proofs.Going.{after_all-append}
+use Rattle.gc_station.proofs.Growing.{losing_records, moved_grew}
+use Rattle.gc_station.proofs.Records.{Grew, grew_none}
+
+-- Lists.
+
+pub some_is : {A : Type 0} (a b : A) → Some a ≡ Some b → a ≡ b
+some_is a b e = cc
+
+pub none_is_not : {A : Type 0} (a : A) → None ≡ Some a → ⊥
+none_is_not a e = cc
+
+pub get_split : {A : Type 0} (xs ys : List A) (n : ℕ) (x : A) → slice_get (xs ++ ys) n ≡ Some x → (slice_get xs n ≡ Some x) ⊎ ((k : ℕ) × (n ≡ length xs + k) × (slice_get ys k ≡ Some x))
+get_split [] ys n x e = inr (n, omega arith, e)
+get_split (y ∷ xs) ys zero x e = inl e
+get_split (y ∷ xs) ys (suc n) x e =
+    elim (get_split xs ys n x e) [
+      | inl l ↦ inl l
+      | inr r ↦ (let at : n ≡ length xs + r.0 = r.1 in inr (r.0, omega (arith, at), r.2))
+    ]
+
+pub get_behind : {A : Type 0} (xs ys : List A) (i j : ℕ) (x : A) → j ≡ length xs + i → slice_get ys i ≡ Some x → slice_get (xs ++ ys) j ≡ Some x
+get_behind [] ys i j x e got = let same : i ≡ j = omega (arith, e) in subst (λ k. slice_get ys k ≡ Some x) same got
+get_behind (y ∷ xs) ys i zero x e got = absurd (omega (arith, e))
+get_behind (y ∷ xs) ys i (suc j) x e got = get_behind xs ys i j x (omega (arith, e)) got
+
+pub act_head : (x y : Act) (xs ys : List Act) → x ∷ xs ≡ y ∷ ys → x ≡ y
+act_head x y xs ys e = cc
+
+pub act_tail : (x y : Act) (xs ys : List Act) → x ∷ xs ≡ y ∷ ys → xs ≡ ys
+act_tail x y xs ys e = cc
+
+-- of two fronts of the same acts one is a front of the other
+pub fronts : (xs ys fs gs : List Act) → xs ++ ys ≡ fs ++ gs → ((more : List Act) × (fs ≡ xs ++ more)) ⊎ ((more : List Act) × (xs ≡ fs ++ more))
+fronts [] ys fs gs e = inl (fs, refl)
+fronts (x ∷ xs) ys [] gs e = inr (x ∷ xs, refl)
+fronts (x ∷ xs) ys (f ∷ fs) gs e =
+    let head : x ≡ f = act_head x f (xs ++ ys) (fs ++ gs) e in
+    elim (fronts xs ys fs gs (act_tail x f (xs ++ ys) (fs ++ gs) e)) [
+      | inl h ↦ inl (h.0, ap (λ y. y ∷ fs) (sym head) ∙ ap (λ l. x ∷ l) h.1)
+      | inr h ↦ inr (h.0, ap (λ y. y ∷ xs) head ∙ ap (λ l. f ∷ l) h.1)
+    ]
+
+-- What is written down stays.
+
+pub grew_both : (xs ys zs : List Record) → Grew xs ys → Grew ys zs → Grew xs zs
+grew_both xs ys zs g h = (g.0 ++ h.0, h.1 ∙ ap (λ l. l ++ h.0) g.1 ∙ append_assoc xs g.0 h.0)
+
+pub after_grew : (plan : Plan) (commands : List Task) (s : Model) (act : Act) → Grew s.records (after plan commands s act).records
+after_grew plan commands s act =
+    let t = moved plan commands (action_at plan s) (with_progress turned s) act in
+    grew_both s.records t.records (after plan commands s act).records (moved_grew plan commands (action_at plan s) (with_progress turned s) act) (losing_records (loses_all t.progress) t)
+
+pub all_grew : (plan : Plan) (commands : List Task) (s : Model) (acts : List Act) → Grew s.records (after_all plan commands s acts).records
+all_grew plan commands s [] = grew_none s.records
+all_grew plan commands s (act ∷ acts) =
+    grew_both s.records (after plan commands s act).records (after_all plan commands s (act ∷ acts)).records (after_grew plan commands s act) (all_grew plan commands (after plan commands s act) acts)
+
+pub records_stay : RecordsStay
+records_stay plan commands scope before rest =
+    let g = all_grew plan commands (stood plan commands scope before) rest in
+    (g.0, ap (λ (s : Model). s.records) (after_all-append plan commands (opening plan scope) before rest) ∙ g.1)
+
+-- Where a request of a command goes out.
+
+pub put_mark : (plan : Plan) (commands : List Task) (s : Model) (left : List Task) (n : ℕ) (mark : Mark)
+    → slice_get (asking_first s.progress.moment.elapsed (mark_next plan commands s.progress) left).marks n ≡ Some (Some mark)
+    → (n ≡ 0) × (mark ≡ mark_next plan commands s.progress)
+put_mark plan commands s [] n mark e = absurd (none_is_not (Some mark) e)
+put_mark plan commands s (task ∷ others) zero mark e = (refl, sym (some_is (mark_next plan commands s.progress) mark (some_is (Some (mark_next plan commands s.progress)) (Some mark) e)))
+put_mark plan commands s (task ∷ others) (suc n) mark e = absurd (none_is_not (Some mark) e)
+
+pub null_mark : (n : ℕ) (mark : Mark) → slice_get (None ∷ []) n ≡ Some (Some mark) → ⊥
+null_mark zero mark e = cc
+null_mark (suc n) mark e = none_is_not (Some mark) e
+
+abbrev pub IsSend : Plan → List Task → Model → Action → ℕ → Mark → Type 0
+IsSend plan commands s o n mark = (n ≡ 0) × (o ≡ Send) × (mark ≡ mark_next plan commands s.progress)
+
+pub putting_mark : (plan : Plan) (commands : List Task) (s : Model) (o : Action) (n : ℕ) (mark : Mark)
+    → slice_get (putting plan commands s o).marks n ≡ Some (Some mark) → IsSend plan commands s o n mark
+putting_mark plan commands s Send n mark e = let h = put_mark plan commands s (drop (place_next commands s.progress) commands) n mark e in (h.0, refl, h.1)
+putting_mark plan commands s Flush n mark e = absurd (null_mark n mark e)
+putting_mark plan commands s o n mark e = absurd (none_is_not (Some mark) e)
+
+pub doing_mark : (plan : Plan) (commands : List Task) (s : Model) (o : Action) (act : Act) (n : ℕ) (mark : Mark)
+    → slice_get (doing plan commands s o act).marks n ≡ Some (Some mark) → IsSend plan commands s o n mark
+doing_mark plan commands s o (Put bytes) n mark e = putting_mark plan commands s o n mark e
+doing_mark plan commands s o (Cut bytes count) n mark e = putting_mark plan commands s o n mark e
+doing_mark plan commands s o act n mark e = absurd (none_is_not (Some mark) e)
+
+-- while it begins no request is a command
+pub beginning_mark : (s : Model) (o : Action) (act : Act) (n : ℕ) (mark : Mark) → slice_get (beginning s o act).marks n ≡ Some (Some mark) → ⊥
+beginning_mark s Ask (Put bytes) n mark e = none_is_not (Some mark) e
+beginning_mark s Ask (Cut bytes count) n mark e = none_is_not (Some mark) e
+beginning_mark s Ask act n mark e = none_is_not (Some mark) e
+beginning_mark s (Read until) (Gave piece m) n mark e = none_is_not (Some mark) e
+beginning_mark s (Read until) act n mark e = none_is_not (Some mark) e
+beginning_mark s o act n mark e = none_is_not (Some mark) e
+
+pub acting_mark : (plan : Plan) (commands : List Task) (s : Model) (o : Action) (act : Act) (n : ℕ) (mark : Mark)
+    → slice_get (acting plan commands s o act).marks n ≡ Some (Some mark) → IsSend plan commands s o n mark
+acting_mark plan commands s o act n mark =
+    either (λ (p : Part). slice_get p.marks n ≡ Some (Some mark) → IsSend plan commands s o n mark) (doing plan commands s o act) (beginning s o act) (has_begun s.progress)
+    (λ begun e. doing_mark plan commands s o act n mark e) (λ begins e. absurd (beginning_mark s o act n mark e))
+
+pub record SentAt (plan : Plan) (commands : List Task) (s : Model) (acts : List Act) (i n : ℕ) (mark : Mark) : Type 0 where
+  pub before : List Act
+  pub act : Act
+  pub rest : List Act
+  pub order : acts ≡ before ++ act ∷ rest
+  pub sends : action_at plan (after_all plan commands s before) ≡ Send
+  pub is : mark ≡ mark_next plan commands (after_all plan commands s before).progress
+  pub first : Part
+  pub of_parts : slice_get (parts_of plan commands s before) i ≡ Some first
+  pub last : length (parts_of plan commands s before) ≡ suc i
+  pub count : length first.marks ≡ n
+
+pub joined_at : (p : Part) (ps : List Part) (q : Part) → slice_get ps 0 ≡ Some q → slice_get (in_front p false ps) 0 ≡ Some (joined p q)
+joined_at p [] q e = absurd (none_is_not q e)
+joined_at p (x ∷ ps) q e = ap (λ y. Some (joined p y)) (some_is x q e)
+
+pub joined_on : (p : Part) (ps : List Part) (i : ℕ) (q : Part) → slice_get ps (suc i) ≡ Some q → slice_get (in_front p false ps) (suc i) ≡ Some q
+joined_on p [] i q e = absurd (none_is_not q e)
+joined_on p (x ∷ ps) i q e = e
+
+pub joined_length : (p : Part) (ps : List Part) (i : ℕ) → length ps ≡ suc i → length (in_front p false ps) ≡ suc i
+joined_length p [] i e = absurd (omega (arith, e))
+joined_length p (x ∷ ps) i e = e
+
+module _ (plan : Plan) (commands : List Task) where
+  -- the first act sends it
+  pub sent_here : (s : Model) (act : Act) (acts : List Act) (n : ℕ) (mark : Mark)
+      → slice_get (acting plan commands s (action_at plan s) act).marks n ≡ Some (Some mark) → SentAt plan commands s (act ∷ acts) 0 n mark
+  sent_here s act acts n mark e =
+      let h = acting_mark plan commands s (action_at plan s) act n mark e in
+      record { before = []; act = act; rest = acts; order = refl; sends = h.1; is = h.2; first = nothing; of_parts = refl; last = refl; count = sym h.0 }
+
+  -- a later one does, in a later part
+  pub sent_cut : (s : Model) (act : Act) (acts : List Act) (i n : ℕ) (mark : Mark) → ends_part plan commands s act ≡ true
+      → SentAt plan commands (after plan commands s act) acts i n mark → SentAt plan commands s (act ∷ acts) (suc i) n mark
+  sent_cut s act acts i n mark is h =
+      let p = acting plan commands s (action_at plan s) act in
+      let ps = parts_of plan commands (after plan commands s act) h.before in
+      record {
+        before = act ∷ h.before;
+        act = h.act;
+        rest = h.rest;
+        order = ap (λ l. act ∷ l) h.order;
+        sends = h.sends;
+        is = h.is;
+        first = h.first;
+        of_parts = subst (λ b. slice_get (in_front p b ps) (suc i) ≡ Some h.first) (sym is) h.of_parts;
+        last = subst (λ b. length (in_front p b ps) ≡ suc (suc i)) (sym is) (ap suc h.last);
+        count = h.count;
+      }
+
+  -- in the same part
+  pub sent_on : (s : Model) (act : Act) (acts : List Act) (n k : ℕ) (mark : Mark) → ends_part plan commands s act ≡ false → n ≡ length (acting plan commands s (action_at plan s) act).marks + k
+      → SentAt plan commands (after plan commands s act) acts 0 k mark → SentAt plan commands s (act ∷ acts) 0 n mark
+  sent_on s act acts n k mark is at h =
+      let p = acting plan commands s (action_at plan s) act in
+      let ps = parts_of plan commands (after plan commands s act) h.before in
+      let size : length (p.marks ++ h.first.marks) ≡ length p.marks + length h.first.marks = length-append p.marks h.first.marks in
+      let count : length h.first.marks ≡ k = h.count in
+      record {
+        before = act ∷ h.before;
+        act = h.act;
+        rest = h.rest;
+        order = ap (λ l. act ∷ l) h.order;
+        sends = h.sends;
+        is = h.is;
+        first = joined p h.first;
+        of_parts = subst (λ b. slice_get (in_front p b ps) 0 ≡ Some (joined p h.first)) (sym is) (joined_at p ps h.first h.of_parts);
+        last = subst (λ b. length (in_front p b ps) ≡ 1) (sym is) (joined_length p ps 0 h.last);
+        count = omega (arith, size, count, at);
+      }
+
+  pub sent_later : (s : Model) (act : Act) (acts : List Act) (i n : ℕ) (mark : Mark) → ends_part plan commands s act ≡ false
+      → SentAt plan commands (after plan commands s act) acts (suc i) n mark → SentAt plan commands s (act ∷ acts) (suc i) n mark
+  sent_later s act acts i n mark is h =
+      let p = acting plan commands s (action_at plan s) act in
+      let ps = parts_of plan commands (after plan commands s act) h.before in
+      record {
+        before = act ∷ h.before;
+        act = h.act;
+        rest = h.rest;
+        order = ap (λ l. act ∷ l) h.order;
+        sends = h.sends;
+        is = h.is;
+        first = h.first;
+        of_parts = subst (λ b. slice_get (in_front p b ps) (suc i) ≡ Some h.first) (sym is) (joined_on p ps i h.first h.of_parts);
+        last = subst (λ b. length (in_front p b ps) ≡ suc (suc i)) (sym is) (joined_length p ps (suc i) h.last);
+        count = h.count;
+      }
+
+  -- by whether the part ends behind the first act
+  pub sent_by : (s : Model) (act : Act) (acts : List Act) (b : Bool) (ps : List Part) (i n : ℕ) (part : Part) (mark : Mark) → ends_part plan commands s act ≡ b
+      → ((j k : ℕ) (p : Part) → slice_get ps j ≡ Some p → slice_get p.marks k ≡ Some (Some mark) → SentAt plan commands (after plan commands s act) acts j k mark)
+      → slice_get (in_front (acting plan commands s (action_at plan s) act) b ps) i ≡ Some part → slice_get part.marks n ≡ Some (Some mark) → SentAt plan commands s (act ∷ acts) i n mark
+  sent_by s act acts true ps zero n part mark is again e f =
+      sent_here s act acts n mark (subst (λ (p : Part). slice_get p.marks n ≡ Some (Some mark)) (sym (some_is (acting plan commands s (action_at plan s) act) part e)) f)
+  sent_by s act acts true ps (suc i) n part mark is again e f = sent_cut s act acts i n mark is (again i n part e f)
+  sent_by s act acts false [] zero n part mark is again e f =
+      sent_here s act acts n mark (subst (λ (p : Part). slice_get p.marks n ≡ Some (Some mark)) (sym (some_is (acting plan commands s (action_at plan s) act) part e)) f)
+  sent_by s act acts false [] (suc i) n part mark is again e f = absurd (none_is_not part e)
+  sent_by s act acts false (q ∷ ps) zero n part mark is again e f =
+      let p = acting plan commands s (action_at plan s) act in
+      elim (get_split p.marks q.marks n (Some mark) (subst (λ (x : Part). slice_get x.marks n ≡ Some (Some mark)) (sym (some_is (joined p q) part e)) f)) [
+        | inl l ↦ sent_here s act acts n mark l
+        | inr r ↦ sent_on s act acts n r.0 mark is r.1 (again 0 r.0 q refl r.2)
+      ]
+  sent_by s act acts false (q ∷ ps) (suc i) n part mark is again e f = sent_later s act acts i n mark is (again (suc i) n part e f)
+
+  pub sent_at : (s : Model) (acts : List Act) (i n : ℕ) (part : Part) (mark : Mark) → slice_get (parts_of plan commands s acts) i ≡ Some part
+      → slice_get part.marks n ≡ Some (Some mark) → SentAt plan commands s acts i n mark
+  sent_at s [] zero n part mark e f = absurd (none_is_not (Some mark) (subst (λ (p : Part). slice_get p.marks n ≡ Some (Some mark)) (sym (some_is nothing part e)) f))
+  sent_at s [] (suc i) n part mark e f = absurd (none_is_not part e)
+  sent_at s (act ∷ acts) i n part mark e f =
+      sent_by s act acts (ends_part plan commands s act) (parts_of plan commands (after plan commands s act) acts) i n part mark refl
+      (λ j k p g h. sent_at (after plan commands s act) acts j k p mark g h) e f

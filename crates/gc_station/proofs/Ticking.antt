@@ -1,0 +1,103 @@
+-- Tests of numbers, and a clock that goes on from act to act.
+use Rattle.std.proofs.Common.{◌≡◌, inl, inr, ℕ, ◌<◌, ◌≤◌, ◌&&◌, ◌||◌, Bool, true, false, List, [], ◌∷◌, ◌++◌, min, nat_le, if◌then◌else◌, refl, sym, ap, ◌∙◌, arith}
+use Rattle.std.proofs.lemmas.Bool.Decides.{leb_tells}
+use Rattle.gc_links.specs.Acts.{Act, Told, Gave, Silent}
+use Rattle.gc_links.specs.declared.link.Moment.{Moment}
+use Rattle.gc_station.specs.Cycles.{Rises}
+use Rattle.gc_station.specs.declared.progress.Progress.{Progress}
+
+-- Tests of numbers.
+
+pub le_of : (a b : ℕ) → nat_le a b ≡ true → a ≤ b
+le_of a b e = elim (leb_tells a b) as (λ _. a ≤ b) [ inl is ↦ is.1 | inr is ↦ let bad : true ≡ false = sym e ∙ is.0 in cc ]
+
+pub lt_of : (a b : ℕ) → nat_le a b ≡ false → b < a
+lt_of a b e = elim (leb_tells a b) as (λ _. b < a) [ inl is ↦ let bad : true ≡ false = sym is.0 ∙ e in cc | inr is ↦ is.1 ]
+
+pub due_since : (first due : Bool) → first ≡ false → (if first then true else due) ≡ true → due ≡ true
+due_since first due e d = sym (ap (λ (b : Bool). if b then true else due) e) ∙ d
+
+pub picks : {A : Type 0} (b : Bool) (x y : A) → b ≡ true → (if b then x else y) ≡ x
+picks b x y e = ap (λ (c : Bool). if c then x else y) e
+
+pub picks_other : {A : Type 0} (b : Bool) (x y : A) → b ≡ false → (if b then x else y) ≡ y
+picks_other b x y e = ap (λ (c : Bool). if c then x else y) e
+
+pub or_none : (a b : Bool) → a ≡ false → b ≡ false → (a || b) ≡ false
+or_none a b e f = ap (λ (c : Bool). c || b) e ∙ f
+
+pub or_some : (a b : Bool) → a ≡ true → (a || b) ≡ true
+or_some a b e = ap (λ (c : Bool). c || b) e
+
+pub or_second : (a b : Bool) → (a || b) ≡ true → a ≡ false → b ≡ true
+or_second true b e none = cc
+or_second false b e none = e
+
+pub and_second : (a b : Bool) → a ≡ true → (a && b) ≡ b
+and_second a b e = ap (λ (c : Bool). c && b) e
+
+pub clash : (b : Bool) → b ≡ true → b ≡ false → ⊥
+clash b e f = let bad : true ≡ false = sym e ∙ f in cc
+
+-- Clocks.
+
+-- what an act does to the moment, and to the one at which the cycle was due
+abbrev pub Ticks : Progress → Act → Progress → Type 0
+Ticks p (Told m) q = (q.moment ≡ m) × (q.began ≡ min p.began m.elapsed)
+Ticks p (Gave bytes m) q = (q.moment ≡ m) × (q.began ≡ min p.began m.elapsed)
+Ticks p (Silent m) q = (q.moment ≡ m) × (q.began ≡ min p.began m.elapsed)
+Ticks p act q = (q.moment ≡ p.moment) × (q.began ≡ p.began)
+
+pub ticked_at : (p q : Progress) (m : Moment) → (q.moment ≡ m) × (q.began ≡ min p.began m.elapsed) → p.moment.elapsed ≤ m.elapsed → p.began ≤ p.moment.elapsed
+    → (q.began ≡ p.began) × (q.began ≤ q.moment.elapsed)
+ticked_at p q m t rises past =
+    let same : q.began ≡ p.began = t.1 ∙ omega (arith, rises, past) in
+    let now : q.moment.elapsed ≡ m.elapsed = ap (λ (x : Moment). x.elapsed) t.0 in
+    (same, omega (arith, same, now, rises, past))
+
+pub ticked_not : (p q : Progress) → (q.moment ≡ p.moment) × (q.began ≡ p.began) → p.began ≤ p.moment.elapsed → (q.began ≡ p.began) × (q.began ≤ q.moment.elapsed)
+ticked_not p q t past =
+    let same = t.1 in
+    let now : q.moment.elapsed ≡ p.moment.elapsed = ap (λ (x : Moment). x.elapsed) t.0 in
+    (same, omega (arith, same, now, past))
+
+pub ticked : (p q : Progress) (act : Act) → Ticks p act q → Rises p.moment.elapsed (act ∷ []) → p.began ≤ p.moment.elapsed → (q.began ≡ p.began) × (q.began ≤ q.moment.elapsed)
+ticked p q (Told m) t rises past = ticked_at p q m t rises.0 past
+ticked p q (Gave bytes m) t rises past = ticked_at p q m t rises.0 past
+ticked p q (Silent m) t rises past = ticked_at p q m t rises.0 past
+ticked p q act t rises past = ticked_not p q t past
+
+-- the front of acts whose moments rise, and the last of them
+pub rises_front : (now : ℕ) (xs : List Act) (act : Act) → Rises now (xs ++ act ∷ []) → Rises now xs
+rises_front now [] act h = tt
+rises_front now (Told m ∷ xs) act h = (h.0, h.1, rises_front m.elapsed xs act h.2)
+rises_front now (Gave bytes m ∷ xs) act h = (h.0, h.1, rises_front m.elapsed xs act h.2)
+rises_front now (Silent m ∷ xs) act h = (h.0, h.1, rises_front m.elapsed xs act h.2)
+rises_front now (x ∷ xs) act h = rises_front now xs act h
+
+abbrev pub last_of : ℕ → List Act → ℕ
+last_of now [] = now
+last_of now (Told m ∷ acts) = last_of m.elapsed acts
+last_of now (Gave bytes m ∷ acts) = last_of m.elapsed acts
+last_of now (Silent m ∷ acts) = last_of m.elapsed acts
+last_of now (act ∷ acts) = last_of now acts
+
+pub rises_last : (now : ℕ) (xs : List Act) (act : Act) → Rises now (xs ++ act ∷ []) → Rises (last_of now xs) (act ∷ [])
+rises_last now [] act h = h
+rises_last now (Told m ∷ xs) act h = rises_last m.elapsed xs act h.2
+rises_last now (Gave bytes m ∷ xs) act h = rises_last m.elapsed xs act h.2
+rises_last now (Silent m ∷ xs) act h = rises_last m.elapsed xs act h.2
+rises_last now (x ∷ xs) act h = rises_last now xs act h
+
+pub last_more : (now : ℕ) (xs : List Act) (act : Act) → last_of now (xs ++ act ∷ []) ≡ last_of (last_of now xs) (act ∷ [])
+last_more now [] act = refl
+last_more now (Told m ∷ xs) act = last_more m.elapsed xs act
+last_more now (Gave bytes m ∷ xs) act = last_more m.elapsed xs act
+last_more now (Silent m ∷ xs) act = last_more m.elapsed xs act
+last_more now (x ∷ xs) act = last_more now xs act
+
+pub last_ticks : (p q : Progress) (act : Act) → Ticks p act q → q.moment.elapsed ≡ last_of p.moment.elapsed (act ∷ [])
+last_ticks p q (Told m) t = ap (λ (x : Moment). x.elapsed) t.0
+last_ticks p q (Gave bytes m) t = ap (λ (x : Moment). x.elapsed) t.0
+last_ticks p q (Silent m) t = ap (λ (x : Moment). x.elapsed) t.0
+last_ticks p q act t = ap (λ (x : Moment). x.elapsed) t.0

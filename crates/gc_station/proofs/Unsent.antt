@@ -1,0 +1,212 @@
+-- What isn't sent is missed or skipped for its cause.
+use Rattle.std.proofs.Common.{◌≡◌, ◌⊎◌, inl, inr, ℕ, ◌<◌, Bool, true, false, List, [], ◌∷◌, ◌++◌, drop, Option, Some, None, if◌then◌else◌, refl, sym, ap, ◌∙◌, subst, arith, append_assoc}
+use Rattle.std.specs.List.{AllByRecursion}
+use Rattle.gc_lines.specs.Frames.{rest_behind}
+use Rattle.gc_catalogue.specs.declared.answer.Reading.{Reading}
+use Rattle.gc_catalogue.specs.declared.answer.Reading.TheVariants as reading
+use Rattle.gc_catalogue.specs.declared.call.Call.{Call}
+use Rattle.gc_client.specs.Rule
+use Rattle.gc_client.specs.Rule.{heard, hears, lost, restarts}
+use Rattle.gc_texts.specs.Endings.{Skipped, Missed}
+use Rattle.gc_texts.specs.declared.tasks.Task.{Task}
+use Rattle.gc_links.specs.Acts.{Act, Told, Gave}
+use Rattle.gc_links.specs.declared.link.Moment.{Moment}
+use Rattle.gc_station.specs.Cycles.{Rises, IsMissedIn, IsSkippedIn, IsTrulyUnsent, UnsentForACause}
+use Rattle.gc_station.specs.Marks.{answer_as, end_of, records_of}
+use Rattle.gc_station.specs.Parts.{went_out}
+use Rattle.gc_station.specs.Progressing.{turned, told, begun, skipped_at, loses_all}
+use Rattle.gc_station.specs.Records.{Record}
+use Rattle.gc_station.specs.Runs.{stood}
+use Rattle.gc_station.specs.Scopes.{Scope}
+use Rattle.gc_station.specs.Model.{Model, opening, action_at, cycles_begun, place_next, mark_next, is_chained, is_heard, with_progress, with_moment, with_rest, skips_first, lines_came, lines_behind, came, moved, losing, Performs, Runs}
+use Rattle.gc_station.specs.declared.mark.Mark.{Mark}
+use Rattle.gc_station.specs.declared.plan.Plan.{Plan}
+use Rattle.gc_station.specs.declared.progress.Action.{Action}
+use Rattle.gc_station.specs.declared.progress.Action.TheVariants as actions
+use Rattle.gc_station.specs.declared.progress.Progress.{Progress}
+use Rattle.gc_station.proofs.Closings.{needs_of}
+use Rattle.gc_station.proofs.Always.{always}
+use Rattle.gc_station.proofs.Going.{after_all-append}
+use Rattle.gc_station.proofs.Lists.{all_append, all_on}
+use Rattle.gc_station.proofs.Walk.{lines_along, moved_changed}
+use Rattle.gc_station.proofs.Ticking.{le_of, picks, picks_other, clash, rises_front}
+use Rattle.gc_station.proofs.Cycles.{Begun, late_more, kept_stood, last_began}
+
+module _ (plan : Plan) (commands : List Task) (scope : Scope) (some : 0 < plan.every) where
+  abbrev Truly : List Act → Record → Type 0
+  Truly acts r = IsTrulyUnsent plan commands scope acts r
+
+  truly_more : (acts more : List Act) (r : Record) → Truly acts r → Truly (acts ++ more) r
+  truly_more acts more r h = (missed_more, skipped_more) where
+    missed_more : r.end ≡ Missed → IsMissedIn plan commands scope (acts ++ more) r
+    missed_more e =
+        let x = h.0 e in
+        record {
+          n = x.n;
+          moment = x.moment;
+          late = x.late;
+          begins = (late_more plan commands scope some) acts more x.n x.moment x.late x.begins;
+          cycle =
+              x.cycle;
+          too_late = x.too_late;
+          sent = x.sent;
+          due = x.due;
+        }
+
+    skipped_more : r.end ≡ Skipped → IsSkippedIn plan commands scope (acts ++ more) r
+    skipped_more e =
+        let x = h.1 e in
+        record {
+          before = x.before;
+          moment = x.moment;
+          behind = x.behind ++ more;
+          order = ap (λ xs. xs ++ more) x.order ∙ append_assoc x.before (Told x.moment ∷ x.behind) more;
+          skips = x.skips;
+          cycle = x.cycle;
+          place = x.place;
+          not_first = x.not_first;
+          chained = x.chained;
+          broken = x.broken;
+          last = x.last;
+          in_time = x.in_time;
+          sent = x.sent;
+          utc = x.utc;
+        }
+
+  answer_sent : (said : Reading) (line : List ℕ) → went_out (answer_as said line) ≡ true
+  answer_sent (reading.Value answer) line = refl
+  answer_sent (reading.Refused code) line = refl
+  answer_sent (reading.ComFault code) line = refl
+  answer_sent (reading.Unreadable fault) line = refl
+
+  end_sent : (reads : Call → List ℕ → Reading) (call : Call) (outcome : Rule.Outcome) → went_out (end_of reads call outcome) ≡ true
+  end_sent reads call (Rule.Answered line) = answer_sent (reads call line) line
+  end_sent reads call Rule.Late = refl
+  end_sent reads call Rule.Lost = refl
+
+  sent_truly : (acts : List Act) (r : Record) → went_out r.end ≡ true → Truly acts r
+  sent_truly acts r out = (λ e. absurd (clash (went_out r.end) out (ap went_out e)), λ e. absurd (clash (went_out r.end) out (ap went_out e)))
+
+  settled_truly : (acts : List Act) (reads : Call → List ℕ → Reading) (utc : ℕ) (marks : List (Option Mark)) (settlements : List Rule.Settlement)
+      → AllByRecursion (Truly acts) (records_of reads utc marks settlements)
+  settled_truly acts reads utc [] settlements = tt
+  settled_truly acts reads utc (mark ∷ marks) [] = tt
+  settled_truly acts reads utc (None ∷ marks) (x ∷ others) = settled_truly acts reads utc marks others
+  settled_truly acts reads utc (Some mark ∷ marks) (x ∷ others) = (sent_truly acts _ (end_sent reads x.call x.outcome), settled_truly acts reads utc marks others)
+
+  lines_truly : (acts : List Act) (s : Model) (lines : List (List ℕ)) → AllByRecursion (Truly acts) s.records → AllByRecursion (Truly acts) (lines_came s lines).records
+  lines_truly acts s lines h =
+      lines_along (λ (x : Model). AllByRecursion (Truly acts) x.records)
+      (λ x line all. all_append (Truly acts) x.records _ all (settled_truly acts x.reads x.progress.moment.utc x.marks (hears x.client line (heard line)).settlements)) s lines h
+
+  came_truly : (acts : List Act) (b : Bool) (word piece : List ℕ) (s : Model) → AllByRecursion (Truly acts) s.records → AllByRecursion (Truly acts) (came b word piece s).records
+  came_truly acts true (asked ∷ others) piece s h = h
+  came_truly acts true [] piece s h = lines_truly acts (with_rest (rest_behind s.rest piece) s) (lines_behind s.rest piece) h
+  came_truly acts false word piece s h = h
+
+  losing_truly : (acts : List Act) (b : Bool) (s : Model) → AllByRecursion (Truly acts) s.records → AllByRecursion (Truly acts) (losing b s).records
+  losing_truly acts true s h = all_append (Truly acts) s.records _ h (settled_truly acts s.reads s.progress.moment.utc s.marks (restarts s.client).settlements)
+  losing_truly acts false s h = h
+
+  -- a command isn't sent
+  unsent_end : (b : Bool) → ((if b then Missed else Skipped) ≡ Missed → b ≡ true) × ((if b then Missed else Skipped) ≡ Skipped → b ≡ false)
+  unsent_end true = (λ e. refl, λ e. cc)
+  unsent_end false = (λ e. cc, λ e. refl)
+
+  skip_missed : (acts : List Act) (m : Moment) (p : Progress) (r : Record) → (Begun plan commands scope some) acts p → 0 < p.unsent → r.cycle ≡ cycles_begun plan p → r.sent ≡ None
+      → r.utc ≡ skipped_at m p → p.missed ≡ true → IsMissedIn plan commands scope (acts ++ Told m ∷ []) r
+  skip_missed acts m p r (inl none) here cycle sent utc missed = let nothing = none.1 in absurd (omega (arith, nothing, here))
+  skip_missed acts m p r (inr c) here cycle sent utc missed = record {
+    n = c.n;
+    moment = c.m;
+    late = c.late;
+    begins = (late_more plan commands scope some) acts (Told m ∷ []) c.n c.m c.late c.begins;
+    cycle = cycle ∙ c.count;
+    too_late = le_of plan.every c.late (sym c.missed ∙ missed);
+    sent = sent;
+    due = utc ∙ picks p.missed p.due m.utc missed ∙ c.due;
+  }
+
+  chain_of : (p : Progress) → ((p.missed ≡ true) ⊎ ((0 < place_next commands p) × (is_chained (drop (place_next commands p) commands) ≡ true))) → p.missed ≡ false
+      → (0 < place_next commands p) × (is_chained (drop (place_next commands p) commands) ≡ true)
+  chain_of p (inl missed) free = absurd (clash p.missed missed free)
+  chain_of p (inr chain) free = chain
+
+  skip_skipped : (acts : List Act) (m : Moment) (r : Record) → (Begun plan commands scope some) acts (stood plan commands scope acts).progress
+      → action_at plan (stood plan commands scope acts) ≡ actions.Skip
+      → r.cycle ≡ cycles_begun plan (stood plan commands scope acts).progress → r.place ≡ place_next commands (stood plan commands scope acts).progress
+      → r.sent ≡ None → r.utc ≡ skipped_at m (stood plan commands scope acts).progress
+      → (stood plan commands scope acts).progress.missed ≡ false → IsSkippedIn plan commands scope (acts ++ Told m ∷ []) r
+  skip_skipped acts m r begun is cycle place sent utc free = by_begun begun where
+    s : Model
+    s = stood plan commands scope acts
+
+    by_begun : (Begun plan commands scope some) acts (stood plan commands scope acts).progress → IsSkippedIn plan commands scope (acts ++ Told m ∷ []) r
+    by_begun (inl none) = let here = (needs_of plan s actions.Skip is).2 in let nothing = none.1 in absurd (omega (arith, nothing, here))
+    by_begun (inr c) =
+        let needs = needs_of plan (stood plan commands scope acts) actions.Skip is in
+        let chain = chain_of (stood plan commands scope acts).progress (c.chained needs.4) free in
+        let last = (last_began plan commands scope some) acts (stood plan commands scope acts).progress refl c free in
+        record {
+          before = acts;
+          moment = m;
+          behind = [];
+          order = refl;
+          skips = is;
+          cycle = cycle;
+          place = place;
+          not_first = chain.0;
+          chained = chain.1;
+          broken = needs.5;
+          last = last.0;
+          in_time = last.1;
+          sent = sent;
+          utc = utc ∙ picks_other (stood plan commands scope acts).progress.missed (stood plan commands scope acts).progress.due m.utc free;
+        }
+
+  skips_truly : (acts : List Act) (m : Moment) (left : List Task) → (Begun plan commands scope some) acts (stood plan commands scope acts).progress
+      → action_at plan (stood plan commands scope acts) ≡ actions.Skip
+      → AllByRecursion (Truly (acts ++ Told m ∷ [])) (skips_first (turned (stood plan commands scope acts).progress) m
+      (mark_next plan commands (turned (stood plan commands scope acts).progress)) left)
+  skips_truly acts m [] begun is = tt
+  skips_truly acts m (task ∷ others) begun is =
+      let p = (stood plan commands scope acts).progress in
+      let here = (needs_of plan (stood plan commands scope acts) actions.Skip is).2 in
+      let ends = unsent_end p.missed in
+      ((λ e. skip_missed acts m p _ begun here refl refl refl (ends.0 e), λ e. skip_skipped acts m _ begun is refl refl refl refl (ends.1 e)), tt)
+
+  -- what an act writes down, before what is lost by it
+  moved_truly : (acts : List Act) (next : Action) (act : Act) → (Begun plan commands scope some) acts (stood plan commands scope acts).progress → action_at plan (stood plan commands scope acts) ≡ next
+      → AllByRecursion (Truly (acts ++ act ∷ [])) (stood plan commands scope acts).records
+      → AllByRecursion (Truly (acts ++ act ∷ [])) (moved plan commands next (with_progress turned (stood plan commands scope acts)) act).records
+  moved_truly acts actions.Skip (Told m) begun is all =
+      let s = stood plan commands scope acts in
+      all_append (Truly (acts ++ Told m ∷ [])) s.records _ all (skips_truly acts m (drop (place_next commands (turned s.progress)) commands) begun is)
+  moved_truly acts actions.Skip act begun is all = all_append (Truly (acts ++ act ∷ [])) (stood plan commands scope acts).records [] all tt
+  moved_truly acts (actions.Read until) (Gave bytes m) begun is all =
+      let s = with_progress turned (stood plan commands scope acts) in
+      came_truly (acts ++ Gave bytes m ∷ []) (is_heard s.progress.phase) s.progress.word bytes (with_moment m (with_progress (told m) s)) all
+  moved_truly acts (actions.Read until) act begun is all = all
+  moved_truly acts next act begun is all =
+      let t = with_progress turned (stood plan commands scope acts) in
+      subst (λ (x : Model). AllByRecursion (Truly (acts ++ act ∷ [])) x.records) (sym (moved_changed plan commands next t act)) all
+
+  abbrev Written : List Act → Type 0
+  Written acts = Rises 0 acts → AllByRecursion (Truly acts) (stood plan commands scope acts).records
+
+  written_step : (done : List Act) (act : Act) → Runs plan commands (opening plan scope) done
+      → Performs commands (stood plan commands scope done) (action_at plan (stood plan commands scope done)) act → Written done → Written (done ++ act ∷ [])
+  written_step done act runs o h rises =
+      let s = stood plan commands scope done in
+      let front = rises_front 0 done act rises in
+      let begun = ((kept_stood plan commands scope some) done runs front).1 in
+      let old = all_on (Truly done) (Truly (done ++ act ∷ [])) s.records (λ r x. truly_more done (act ∷ []) r x) (h front) in
+      let t = moved plan commands (action_at plan s) (with_progress turned s) act in
+      subst (λ (x : Model). AllByRecursion (Truly (done ++ act ∷ [])) x.records) (sym (after_all-append plan commands (opening plan scope) done (act ∷ [])))
+      (losing_truly (done ++ act ∷ []) (loses_all t.progress) t (moved_truly done (action_at plan s) act begun refl old))
+
+  written_stood : (acts : List Act) → Runs plan commands (opening plan scope) acts → Written acts
+  written_stood acts runs = always plan commands (opening plan scope) (λ (xs : List Act) (t : Model). Written xs) written_step (λ rises. tt) acts runs
+
+pub unsent_for_a_cause : UnsentForACause
+unsent_for_a_cause plan commands scope acts some runs rises = written_stood plan commands scope some acts runs rises

@@ -1,0 +1,319 @@
+-- What a station is after the acts of its link, this project's own: the client's rule over what really happened, and how far
+-- the station is. Each act is the one that the station was to make next.
+use Rattle.std.specs.Prelude.{◌≡◌, ℕ, ◌+◌, ◌-◌, ◌<◌, ◌||◌, Bool, true, false, List, [], ◌∷◌, ◌++◌, length, drop, Option, Some, None, if◌then◌else◌, nat_eq}
+use Rattle.std.specs.List.{filter_map}
+use Rattle.gc_lines.specs.Frames.{line_in, rest_behind}
+use Rattle.gc_lines.specs.Lines.{with_end}
+use Rattle.gc_lines.specs.Passing.{frames_behind}
+use Rattle.gc_catalogue.specs.declared.answer.Reading.{Reading}
+use Rattle.gc_catalogue.specs.declared.call.Call.{Call}
+use Rattle.gc_catalogue.specs.declared.call.Call.TheVariants.{NullProc}
+use Rattle.gc_catalogue.specs.Texts.{request_line}
+use Rattle.gc_client.specs.declared.window.TheConstants.{WINDOW}
+use Rattle.gc_client.specs.Rule.{ById, Settlement, Settled, Sending, fresh, sends, hears, heard, expires, restarts, deadlines}
+use Rattle.gc_texts.specs.declared.tasks.Task.{Task}
+use Rattle.gc_links.specs.declared.link.Moment.{Moment}
+use Rattle.gc_station.specs.declared.plan.Plan.{Plan}
+use Rattle.gc_station.specs.declared.cause.Cause.{Cause}
+use Rattle.gc_station.specs.declared.cause.Cause.TheVariants as cause
+use Rattle.gc_station.specs.declared.progress.Phase.{Phase}
+use Rattle.gc_station.specs.declared.progress.Phase.TheVariants as phase
+use Rattle.gc_station.specs.declared.progress.Action.{Action}
+use Rattle.gc_station.specs.declared.progress.Action.TheVariants.{ReadClock, Renew, Begin, Open, Clear, Ask, Send, Skip, Flush, Read, Close, Stop}
+use Rattle.gc_station.specs.declared.progress.Progress.{Progress}
+use Rattle.gc_station.specs.declared.progress.Until.{Until}
+use Rattle.gc_station.specs.declared.progress.Waiting.{Waiting}
+use Rattle.gc_station.specs.declared.mark.Mark.{Mark}
+use Rattle.gc_links.specs.Acts.{Act, Told, Untold, Put, Cut, Gave, Silent, Ended, Broke, Closed, Opened, Unopened}
+use Rattle.gc_station.specs.Deciding.{later, action_of}
+pub use Rattle.gc_station.specs.Lines.{is_ok, is_reply}
+use Rattle.gc_station.specs.Marks.{commands_in, records_of, last_well}
+use Rattle.gc_station.specs.Progressing.{at_start, turned, told, begun, skipped, skipped_at, failing, opened, again, cleared, asking, null_sent, renewed, sent, noted, lines_asked, gave, silent, reckoned_early, closed, loses_all}
+use Rattle.gc_station.specs.Records.{Record}
+use Rattle.gc_station.specs.Scopes.{Scope}
+use Rattle.gc_texts.specs.Endings.{Skipped, Missed}
+
+-- where a station stands: how far it is, the bytes since the last line feed that it heard on this connection, the client, which command
+-- each request that waits is of, the records so far, and what replies say
+pub record Model : Type 0 where
+  pub progress : Progress
+  pub rest : List ℕ
+  pub client : ById
+  pub marks : List (Option Mark)
+  pub records : List Record
+  pub reads : Call → List ℕ → Reading
+
+-- nothing was done
+abbrev pub opening : Plan → Scope → Model
+opening plan scope = record { progress = at_start plan scope.turns; rest = []; client = fresh; marks = []; records = []; reads = scope.reads }
+
+-- how many requests wait: in all, of those that aren't given up, and of commands; and whether the command that was written down last
+-- was answered well
+abbrev pub waiting_of : Model → Waiting
+waiting_of s = record {
+  all = length s.client.waiting;
+  current = length (deadlines s.client.waiting);
+  commands = commands_in s.marks;
+  well = last_well s.reads false s.records;
+}
+
+-- what is next
+abbrev pub action_at : Plan → Model → Action
+action_at plan s = action_of plan s.progress (waiting_of s)
+
+-- a command of the cycle, counted from 0
+abbrev pub place_next : List Task → Progress → ℕ
+place_next commands p = length commands - p.unsent
+
+-- how many cycles began
+abbrev pub cycles_begun : Plan → Progress → ℕ
+cycles_begun plan p = plan.cycles - p.left
+
+-- the next command, the cycle that it is of, and the moment told last
+abbrev pub mark_next : Plan → List Task → Progress → Mark
+mark_next plan commands p = record { cycle = cycles_begun plan p; place = place_next commands p; sent = p.moment.utc }
+
+-- how many requests of the cycle went out: none before the first cycle
+abbrev pub requests_out : Plan → List Task → Progress → ℕ
+requests_out plan commands p = if nat_eq p.left plan.cycles then 0 else place_next commands p
+
+-- a request line with its CR LF
+abbrev pub request_text : ById → Call → List ℕ
+request_text client call = with_end (request_line (Some client.next) call)
+
+-- the request line of a beginning's null procedure, of the first id that isn't answered
+abbrev pub null_text : List ℕ → List ℕ
+null_text [] = []
+null_text (asked ∷ others) = with_end (request_line (Some asked) NullProc)
+
+-- the request line of the first of these commands
+abbrev pub first_text : ById → List Task → List ℕ
+first_text client [] = []
+first_text client (task ∷ others) = request_text client task.command.call
+
+-- whether the first of these commands goes out only once the one before it was answered well
+abbrev pub is_chained : List Task → Bool
+is_chained [] = false
+is_chained (task ∷ others) = task.chained
+
+-- whether the command behind the next one goes out only once that was answered well
+abbrev pub is_chained_behind_next : List Task → Progress → Bool
+is_chained_behind_next commands p = p.missed || is_chained (drop (place_next commands p + 1) commands)
+
+-- these bytes were put, whole or in part
+abbrev pub Puts : List ℕ → Act → Type 0
+Puts bytes (Put out) = out ≡ bytes
+Puts bytes (Cut out count) = (out ≡ bytes) × (count < length bytes)
+Puts bytes _ = ⊥
+
+abbrev pub ReadsClock : Act → Type 0
+ReadsClock (Told m) = Unit {0}
+ReadsClock Untold = Unit {0}
+ReadsClock _ = ⊥
+
+abbrev pub IsOpening : Act → Type 0
+IsOpening Opened = Unit {0}
+IsOpening Unopened = Unit {0}
+IsOpening _ = ⊥
+
+abbrev pub IsReading : Act → Type 0
+IsReading (Gave bytes m) = Unit {0}
+IsReading (Silent m) = Unit {0}
+IsReading Ended = Unit {0}
+IsReading Broke = Unit {0}
+IsReading Untold = Unit {0}
+IsReading _ = ⊥
+
+-- the act is that of this action
+abbrev pub Performs : List Task → Model → Action → Act → Type 0
+Performs commands s ReadClock act = ReadsClock act
+Performs commands s Renew act = ReadsClock act
+Performs commands s Begin act = ReadsClock act
+Performs commands s Open act = IsOpening act
+Performs commands s Clear act = Puts (10 ∷ []) act
+Performs commands s Ask act = Puts (null_text s.progress.word) act
+Performs commands s Send act = Puts (first_text s.client (drop (place_next commands s.progress) commands)) act
+Performs commands s Skip act = ReadsClock act
+Performs commands s Flush act = Puts (request_text s.client NullProc) act
+Performs commands s (Read until) act = IsReading act
+Performs commands s (Close cause) act = act ≡ Closed
+Performs commands s (Stop cause) act = ⊥
+
+-- What an act does.
+
+-- how far the station is changes, and nothing else
+abbrev pub with_progress : (Progress → Progress) → Model → Model
+with_progress f s = record s { progress = f s.progress }
+
+-- a moment gives up what has reached its deadline
+abbrev pub with_moment : Moment → Model → Model
+with_moment m s = record s { client = expires s.client m.elapsed }
+
+-- the client after a send, where it wasn't refused
+abbrev pub client_sent : ById → Option (Sending ById) → ById
+client_sent client None = client
+client_sent client (Some x) = x.client
+
+-- a request is sent, which waits so long behind the moment that was told last; it has this mark
+abbrev pub asks : ℕ → ℕ → Call → Option Mark → Model → Model
+asks wait target call mark s = record s {
+  client = client_sent s.client (sends WINDOW s.client target call (later s.progress.moment.elapsed wait));
+  marks = s.marks ++ mark ∷ [];
+}
+
+-- a null procedure of the station's own is sent
+abbrev pub asks_null : Plan → Model → Model
+asks_null plan s = asks plan.deadline 0 NullProc None s
+
+-- the first of these commands is sent, with this mark
+abbrev pub asks_first : Mark → List Task → Model → Model
+asks_first mark [] s = s
+asks_first mark (task ∷ others) s = asks task.deadline task.command.target task.command.call (Some mark) s
+
+-- the next command is sent
+abbrev pub asks_next : Plan → List Task → Model → Model
+asks_next plan commands s = asks_first (mark_next plan commands s.progress) (drop (place_next commands s.progress) commands) s
+
+-- the client is another
+abbrev pub with_client : ById → Model → Model
+with_client client s = record s { client = client }
+
+-- the record of the first of these commands, which isn't sent, at a moment: it is skipped, or its cycle is missed
+abbrev pub skips_first : Progress → Moment → Mark → List Task → List Record
+skips_first p m mark [] = []
+skips_first p m mark (task ∷ others) =
+    record { sent = None; utc = skipped_at m p; cycle = mark.cycle; place = mark.place; command = task.command; end = if p.missed then Missed else Skipped } ∷ []
+
+-- the record of the next command, where the clock was read
+abbrev pub skips : Plan → List Task → Progress → Act → List Record
+skips plan commands p (Told m) = skips_first p m (mark_next plan commands p) (drop (place_next commands p) commands)
+skips plan commands p _ = []
+
+-- these are written down, too
+abbrev pub with_records : List Record → Model → Model
+with_records records s = record s { records = s.records ++ records }
+
+-- settlements of the oldest requests that wait are written down by their marks, which go
+abbrev pub with_settled : List Settlement → Model → Model
+with_settled settlements s = record s {
+  records = s.records ++ records_of s.reads s.progress.moment.utc s.marks settlements;
+  marks = drop (length settlements) s.marks;
+}
+
+-- what was settled, and the client behind it
+abbrev pub settles : Settled ById → Model → Model
+settles x s = with_client x.client (with_settled x.settlements s)
+
+-- a line came
+abbrev pub line_came : Model → List ℕ → Model
+line_came s line = with_progress (noted (is_reply line)) (settles (hears s.client line (heard line)) s)
+
+abbrev pub lines_came : Model → List (List ℕ) → Model
+lines_came s [] = s
+lines_came s (line ∷ others) = lines_came (line_came s line) others
+
+-- the lines that a piece completes behind the bytes since the last line feed
+abbrev pub lines_behind : List ℕ → List ℕ → List (List ℕ)
+lines_behind rest piece = filter_map line_in (frames_behind rest piece)
+
+abbrev pub with_rest : List ℕ → Model → Model
+with_rest rest s = record s { rest = rest }
+
+-- the lines of a piece are heard, in order
+abbrev pub piece_came : List ℕ → Model → Model
+piece_came piece s = lines_came (with_rest (rest_behind s.rest piece) s) (lines_behind s.rest piece)
+
+-- the lines of a piece are heard while it begins, in order
+abbrev pub piece_asked : List ℕ → Model → Model
+piece_asked piece s = with_progress (λ p. lines_asked p (lines_behind s.rest piece)) (with_rest (rest_behind s.rest piece) s)
+
+-- what comes is heard where requests go out, and is dropped before that
+abbrev pub is_heard : Phase → Bool
+is_heard phase.Down = false
+is_heard phase.Pausing = false
+is_heard phase.Clearing = false
+is_heard phase.Draining = false
+is_heard phase.Ready = true
+is_heard (phase.Closing cause) = false
+is_heard (phase.Over cause) = false
+
+-- whether a piece is heard, and what isn't answered of a beginning: what is behind the last answer in its piece is dropped
+abbrev pub came : Bool → List ℕ → List ℕ → Model → Model
+came true [] piece s = piece_came piece s
+came true (asked ∷ others) piece s = piece_asked piece s
+came false word piece s = s
+
+-- how far a station is once it heard a piece, before which so many commands waited
+abbrev pub reckoned : Plan → Until → ℕ → Model → Model
+reckoned plan until before s = with_progress (λ p. reckoned_early plan (commands_in s.marks) (gave plan until before (waiting_of s) p)) s
+
+-- a piece came, and then it was this moment: it gives up what has reached its deadline, and then hears
+abbrev pub piece_at : Plan → Until → List ℕ → Moment → Model → Model
+piece_at plan until piece m s =
+    reckoned plan until (commands_in s.marks) (came (is_heard s.progress.phase) s.progress.word piece (with_moment m (with_progress (told m) s)))
+
+-- what was read
+abbrev pub after_read : Plan → Until → Model → Act → Model
+after_read plan until s (Gave bytes m) = piece_at plan until bytes m s
+after_read plan until s (Silent m) = with_moment m (with_progress (silent plan until m) s)
+after_read plan until s Ended = with_progress (failing cause.End) s
+after_read plan until s Broke = with_progress (failing cause.Read) s
+after_read plan until s _ = with_progress (failing cause.Clock) s
+
+-- the clock was read
+abbrev pub after_clock : (Moment → Progress → Progress) → Model → Act → Model
+after_clock f s (Told m) = with_moment m (with_progress (f m) s)
+after_clock f s _ = with_progress (failing cause.Clock) s
+
+-- bytes were put, which does this; where they were cut, the connection is to be closed, behind so many requests
+abbrev pub after_put : ℕ → (Model → Model) → Model → Act → Model
+after_put requests f s (Cut bytes count) = with_progress (failing (cause.Write requests count)) (f s)
+after_put requests f s _ = f s
+
+-- a connection was asked for
+abbrev pub after_open : Plan → Model → Act → Model
+after_open plan s Opened = with_progress opened s
+after_open plan s _ = with_progress (again plan (commands_in s.marks) cause.Open) s
+
+-- the connection was closed: bytes of a line are forgotten; what waits goes on waiting
+abbrev pub after_close : Plan → Cause → Model → Model
+after_close plan cause s = with_progress (closed plan (waiting_of s) cause) (with_rest [] s)
+
+-- what an act of this action does, apart from the turn
+abbrev pub moved : Plan → List Task → Action → Model → Act → Model
+moved plan commands ReadClock s act = after_clock (λ m p. reckoned_early plan (commands_in s.marks) (told m p)) s act
+moved plan commands Renew s act = after_clock (λ m p. reckoned_early plan 0 (renewed plan m p)) s act
+moved plan commands Begin s act = after_clock (begun plan (length commands)) s act
+moved plan commands Open s act = after_open plan s act
+moved plan commands Clear s act = after_put (requests_out plan commands s.progress) (with_progress cleared) s act
+moved plan commands Ask s act = after_put (requests_out plan commands s.progress) (with_progress (null_sent plan)) s act
+moved plan commands Send s act = after_put (requests_out plan commands s.progress) (λ (s : Model). with_progress (sent (is_chained_behind_next commands s.progress)) (asks_next plan commands s)) s act
+moved plan commands Skip s act =
+    after_clock (λ m p. reckoned_early plan (commands_in s.marks) (skipped (is_chained_behind_next commands s.progress) m p)) (with_records (skips plan commands s.progress act) s) act
+moved plan commands Flush s act = after_put (requests_out plan commands s.progress) (λ (s : Model). with_progress asking (asks_null plan s)) s act
+moved plan commands (Read until) s act = after_read plan until s act
+moved plan commands (Close cause) s act = after_close plan cause s
+moved plan commands (Stop cause) s act = s
+
+-- all that wait are lost, and ids begin anew, or not
+abbrev pub losing : Bool → Model → Model
+losing true s = settles (restarts s.client) s
+losing false s = s
+
+-- all that wait are lost where the station begins anew, and where no act follows
+abbrev pub ended : Model → Model
+ended s = losing (loses_all s.progress) s
+
+-- an act takes a turn, and does what it does by the action that it performs
+abbrev pub after : Plan → List Task → Model → Act → Model
+after plan commands s act = ended (moved plan commands (action_at plan s) (with_progress turned s) act)
+
+-- after all acts, in order
+abbrev pub after_all : Plan → List Task → Model → List Act → Model
+after_all plan commands s [] = s
+after_all plan commands s (act ∷ acts) = after_all plan commands (after plan commands s act) acts
+
+-- each act is the one that was to be made next
+abbrev pub Runs : Plan → List Task → Model → List Act → Type 0
+Runs plan commands s [] = Unit {0}
+Runs plan commands s (act ∷ acts) = Performs commands s (action_at plan s) act × Runs plan commands (after plan commands s act) acts

@@ -1,5 +1,0 @@
-use Rattle.gc_texts.proofs.Columns.{reply_columns}
-use Rattle.gc_texts.proofs.laws.columns_are_a_replys_fields.Goals as goal
-
-pub returns : goal.returns
-returns c = reply_columns

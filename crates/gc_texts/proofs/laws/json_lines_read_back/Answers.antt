@@ -1,5 +1,0 @@
-use Rattle.gc_texts.proofs.JsonLines.{read_back}
-use Rattle.gc_texts.proofs.laws.json_lines_read_back.Goals as goal
-
-pub returns : goal.returns
-returns c = read_back

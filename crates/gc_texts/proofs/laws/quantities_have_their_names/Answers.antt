@@ -1,5 +1,0 @@
-use Rattle.gc_texts.proofs.Told.{have_their_names}
-use Rattle.gc_texts.proofs.laws.quantities_have_their_names.Goals as goal
-
-pub returns : goal.returns
-returns c = have_their_names

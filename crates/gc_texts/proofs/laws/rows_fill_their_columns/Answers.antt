@@ -1,5 +1,0 @@
-use Rattle.gc_texts.proofs.Told.{fill_their_columns}
-use Rattle.gc_texts.proofs.laws.rows_fill_their_columns.Goals as goal
-
-pub returns : goal.returns
-returns c = fill_their_columns
