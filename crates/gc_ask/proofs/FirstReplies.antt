@@ -201,6 +201,7 @@ reading_quiet rest start given ahead kept kept' a b c r q =
     let all = quiet_then rest r.heard_so ahead kept kept' a b c r.quiet q in
     (ap (λ zs. first_reply a (lines_behind rest zs)) r.order ∙ all.none, all.same)
 
+-- where the bytes that are ahead settle a request behind those that were heard, all bytes since the start settle it
 pub reading_settles : (rest start given ahead left : List ℕ) (kept kept' : Kept) (a b c : ById) (settled : List Settlement)
     → (r : Reading rest start given ahead kept a b) → Settles b (record
     { rest = rest_behind rest r.heard_so; bytes = ahead; left = left; kept = kept'; client = c; settled = settled })

@@ -96,8 +96,8 @@ struct PortCallers<'a, R> {
 impl<'a, R: Clock> Callers for PortCallers<'a, R> {
     ghost served = { λ _. None };
 
-    // Waits for the next connection, and serves it. A rest is behind an accept that failed, and an idle connection is told from one
-    // that broke.
+    // Waits for the next connection and serves it. After an accept that failed it sleeps for `REST` seconds. A read that timed out is the
+    // fault `Idle`, any other failed read is `Read`.
     fn serve_next(&mut self) -> Result<(), CallerFault> {
         let Ok(stream) = accept(self.listener) else {
             thread::sleep(self.rt, Duration::from_secs(REST));

@@ -67,7 +67,7 @@ impl Beginning {
         self.answered
     }
 
-    /// Whether all are answered.
+    /// Whether all eight null procedures are answered.
     pub fn has_begun(&self) -> bool
         ensures { (result ≡ true) ↔ (self.now ≡ []) }
     {

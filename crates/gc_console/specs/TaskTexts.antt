@@ -38,7 +38,8 @@ abbrev pub RefusesTasks : List ℕ → Input → Input → Stop → Type 0
 RefusesTasks given old new stop =
     ((fault : RunFault) × RefusesText TaskFault given old new fault × IsRefusal given fault stop) ⊎ HasNoCommand given old new stop
 
--- a source gave a station's text, with these tasks, of which there are some, and these names, where the deadline and the mode of this choice hold before any line
+-- a source gave a station's text with these tasks, at least one, and these names. Until a line says otherwise its commands have the
+-- choice's deadline, and are chained or not as the choice says
 pub record GivesTasks (given : List ℕ) (old new : Input) (choice : Choice) (tasks : List Task) (names : List Name) : Type 0 where
   pub read : WasRead given old new
   pub are : IsTasks given choice.deadline choice.chained tasks names

@@ -28,7 +28,7 @@ pub(crate) struct Argument<'a> {
     pub help: &'a str,
 }
 
-/// A flag without a name and a help: what rows say nothing of is as here.
+/// The defaults of a row, which rows take over with `..FLAG`: a flag with neither name nor help.
 pub(crate) const FLAG: Argument<'static> = Argument {
     name: "",
     takes: Takes::Nothing,

@@ -7,7 +7,7 @@ use gc_rows::Form;
 pub struct Layout {
     /// How each is written.
     pub form: Form,
-    /// Whether what stands in front of them stands there already, as in a file that has rows.
+    /// Whether no header is to be written, as in a file that has one already.
     pub headed: bool,
     /// When the run began, in milliseconds since 1970-01-01, UTC.
     pub run: u64,

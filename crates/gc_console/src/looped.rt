@@ -20,7 +20,7 @@ use std::rt::Files;
 // Its arguments.
 const ARGUMENTS: &[Argument<'static>] = &[SCENE];
 
-/// The words of `loop`.
+/// The subcommand `loop` as clap is given it: its help and its arguments.
 pub(crate) fn loop_command<'a>(alloc: Global, name: &'a str) -> Result<Command<'a>, AllocError> {
     command_of(
         alloc,

@@ -19,7 +19,8 @@ struct Refusal {
     why: io::Error,
 }
 
-/// A runtime that notes what the one inside refuses. A path or an address that is had behind it takes the note away.
+/// A runtime that notes the last error of the one inside at a path or an address. The next success at any of
+/// them clears the note.
 #[derive(Drop)]
 pub(crate) struct Noting<'a, R> {
     rt: &'a R,
@@ -67,7 +68,7 @@ impl<'a, R> Noting<'a, R> {
         }
     }
 
-    /// Drops the note: what was refused isn't the reason of the fault that is told next.
+    /// Clears the note, so that an old error isn't told as the reason of the next fault.
     pub(crate) fn forget(&self) {
         self.last.set(None);
     }

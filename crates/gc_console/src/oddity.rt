@@ -82,7 +82,7 @@ impl<'a> Spot<'a> {
         }
     }
 
-    /// Tells behind the fault's line where and why the run stopped, where no reason of the system's says so.
+    /// Adds to the fault's line the place and the reason, where the run stopped for one of the faults that [`tell_place`] explains.
     pub(crate) fn tell<E: Write>(self, messages: &mut E) -> io::Result<()> {
         match self.noticed.get().fault {
             Some(fault) => tell_place(self.place, fault, messages),
@@ -91,7 +91,8 @@ impl<'a> Spot<'a> {
     }
 }
 
-/// Tells where something stopped for a fault, and why, where no reason of the system's says so.
+/// Writes the place and a reason in words, for the faults of a connection that come without an error of the system's. For any other fault
+/// it writes nothing.
 pub(crate) fn tell_place<E: Write>(
     place: Place<'_>,
     fault: RunFault,

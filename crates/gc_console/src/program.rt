@@ -234,7 +234,8 @@ fn reads_a_text(words: &[String]) -> bool {
     }
 }
 
-// A command line that doesn't parse: why is told, and of a subcommand that reads a text that no word names it.
+// Tells why a command line doesn't parse. After an unknown argument of a subcommand that reads a text it adds that the text comes on
+// standard input.
 fn refuse<E: Write>(error: &Error, reads: bool, messages: &mut E) -> io::Result<ExitCode>
     ensures { IfOk result (λ status. exit_status status ≡ 2) }
 {

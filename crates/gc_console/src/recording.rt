@@ -71,7 +71,8 @@ fn tell_torn<E: Write>(torn: u64, messages: &mut E) -> io::Result<()>
     writeln!(messages, "geocom: {torn} bytes of a torn row were cut off")
 }
 
-// Tells behind the fault how to rotate a file, where it holds something else than such rows. The status stays.
+// Adds to the fault's line, for a file that doesn't begin as this station's rows do, what may have happened and how to rotate it. The
+// status is passed on.
 fn tell_rotation<E: Write>(
     ended: io::Result<ExitCode>,
     why: Unfit,
@@ -84,7 +85,7 @@ fn tell_rotation<E: Write>(
     Ok(status)
 }
 
-// The line of it, where there is one.
+// Writes the line that says how to rotate a file: for `Foreign` alone.
 fn write_rotation<E: Write>(why: Unfit, messages: &mut E) -> io::Result<()>
     ensures { OnOk result (Appends (E.contents messages.old) (E.contents messages.new) (rotation_line why)) }
 {
@@ -167,7 +168,7 @@ pub(crate) fn append_at<
     }
 }
 
-// Tells that a file of records can't be had, and where it holds something else how it is rotated.
+// Tells why a file of records can't be had and, for one that doesn't begin as this station's rows do, how to rotate it.
 fn refuse_file<E: Write>(why: Unfit, messages: &mut E) -> io::Result<ExitCode>
     ensures told { IfOk result (λ status. (exit_status status ≡ 1) × Appends (E.contents messages.old) (E.contents messages.new) (unfit_text why)) }
 {

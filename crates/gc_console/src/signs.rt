@@ -158,7 +158,8 @@ impl Signs {
         self.watch != Watch::Nobody && self.late.allows(self.elapsed, MINUTE)
     }
 
-    /// Tells how things stand, where that is to be told. The last connection was lost or couldn't be made, or it wasn't.
+    /// Takes in the health of the link and the moment, and writes the lines that are due. `is_lost`: the last connection was lost or
+    /// couldn't be made.
     pub(crate) fn see<E: Write>(
         &mut self,
         health: LinkHealth,
@@ -278,7 +279,7 @@ impl Signs {
         }
     }
 
-    // Tells since when things stand so, in milliseconds since 1970, where that may be told.
+    // Writes `what` and since when it has lasted (`utc`, in milliseconds since 1970), if `may` allows it.
     fn tell_since<E: Write>(
         &mut self,
         may: bool,
@@ -320,7 +321,7 @@ impl Signs {
         writeln!(messages, "geocom: commands skipped since {since}: {count}")
     }
 
-    // Writes the line of a terminal over, where that is a second old.
+    // Rewrites the status line of a terminal, at most once a second.
     fn show<E: Write>(&mut self, messages: &mut E) -> io::Result<()> {
         if self.watch != Watch::Terminal || !self.shown.allows(self.elapsed, SECOND) {
             return Ok(());

@@ -49,7 +49,7 @@ impl Standard {
         })
     }
 
-    /// That one is closed ends a command: it is told where there is a place for messages.
+    /// Ends a command with status 1 because a standard stream is closed, and says so where the messages are open.
     pub(crate) fn refuse<E: Write>(self, messages: &mut E) -> io::Result<ExitCode>
         ensures told { IfOk result (λ status. TellsClosed self (exit_status status) (E.contents messages.old) (E.contents messages.new)) }
         ensures bound { IfOk result (λ status. exit_status status ≤ 1) }

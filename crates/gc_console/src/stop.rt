@@ -33,7 +33,7 @@ impl Stop {
         }
     }
 
-    /// Writes the fault's line, behind that of a text without a command that it has none, and behind that of a faulty line its trouble.
+    /// Writes the fault's line. A second line follows for a text without a command, which says so, and for a faulty line, with its trouble.
     pub fn tell<E: Write>(self, messages: &mut E) -> io::Result<()>
         ensures { OnOk result (Appends (E.contents messages.old) (E.contents messages.new) (stop_text self)) }
     {

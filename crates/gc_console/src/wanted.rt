@@ -49,8 +49,8 @@ impl Wanted {
         }
     }
 
-    // Nothing is left to be asked in this cycle. Where it had answers, and the last ones were lost, none is wanted before the next
-    // cycle, unless that was told: then it stays until one comes.
+    // Nothing is left to be asked in this cycle. If the cycle had an answer, no answer is wanted until the next cycle asks; but a want
+    // that was told stays until an answer comes.
     fn end_cycle(&mut self)
         ensures { self.new ≡ behind_cycle self.old }
     {
@@ -81,7 +81,7 @@ impl Wanted {
     }
 }
 
-/// Whether at least `least` milliseconds lie between two moments.
+/// Whether at least `least` milliseconds passed from `from` to `elapsed`, both by the clock for deadlines.
 pub(crate) fn has_lasted(from: u64, elapsed: u64, least: u64) -> bool
     ensures { result ≡ has_lasted from elapsed least }
 {

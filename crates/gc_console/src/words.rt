@@ -25,7 +25,7 @@ pub(crate) enum Asked<'a> {
     Drill(Drilling<'a>),
     Serve(Serving<'a>),
     Over(Asking<'a>),
-    // A word that is to name a place names none, of a simulator or of an instrument.
+    // The word for the place names none: none that can be served where `serves` is set, else none of an instrument.
     Nowhere { serves: bool },
     // A number is missing that has a default.
     Unnumbered,

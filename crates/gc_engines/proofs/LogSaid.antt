@@ -17,7 +17,7 @@ said_both [] ms (t ∷ ts) us h k = absurd h
 said_both (l ∷ ls) ms [] us h k = absurd h
 said_both (l ∷ ls) ms (t ∷ ts) us h k = (h.0, said_both ls ms ts us h.1 k)
 
--- some bytes, and more behind them
+-- what is said of p, and then of q behind it, is what is said of both at once
 pub says_then : (rest p q : List ℕ) (a b c : Option (List ℕ)) (n m k : ℕ) → SaysAll rest p a b n m → SaysAll (rest_behind rest p) q b c m k → SaysAll rest (p ++ q) a c n k
 says_then rest p q a b c n m k one next = record {
   texts = one.texts ++ next.texts;

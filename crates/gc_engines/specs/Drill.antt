@@ -54,7 +54,7 @@ is_read_whole (Err (Schedule n)) = true
 is_read_whole (Err Output) = true
 is_read_whole (Err _) = false
 
--- whether the source has failed after this end, if it had so before
+-- whether the source has failed once the drill ended so; `failed` says whether it had before
 abbrev pub source_failed : Result (Unit {0}) RunFault → Bool → Bool
 source_failed (Err Read) failed = true
 source_failed _ failed = failed

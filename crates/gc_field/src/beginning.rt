@@ -28,7 +28,8 @@ pub fn rows_have_not_the_word<State>()
     ensures { RowsHaveNotTheWord State }
 {}
 
-/// Behind a beginning that has begun cleanly such a row is under way at any time.
+/// After a clean beginning, what is under way at any moment is an `IsRow`: in the order of the line, its ids are numbers that never fall,
+/// modulo 8, and all of them lie within eight consecutive numbers.
 pub fn runs_leave_rows<State>()
     ensures { RunsLeaveRows State }
 {}
@@ -44,8 +45,8 @@ pub fn simulators_runs_are_their_own()
     ensures { SimulatorsRunsAreTheirOwn }
 {}
 
-/// Some runs are such runs: one is killed while it begins, and the next one begins among replies to it and to requests from before, and sends
-/// two commands at once, whose answers are their own.
+/// The premises of [`simulators_runs_are_their_own`] can be met, here by two runs: one is killed while it begins; the next one begins among
+/// replies to it and to requests from before, and sends two commands at once, both of which are answered.
 pub fn some_runs_are_their_own()
     ensures { AreSomeRuns }
 {}

@@ -138,7 +138,7 @@ fn repair<F: Appending>(file: &mut F, len: u64, end: u64) -> Result<(), PortFail
     Ok(())
 }
 
-// Appends all of these bytes.
+// Appends all of these bytes. Where an append fails, a front of them has been appended.
 fn append_all<F: Appending>(file: &mut F, bytes: &[u8]) -> Result<(), PortFailed>
     ensures ok { OnOk result (PutsAll (F.life file.old) (F.life file.new) bytes.now) }
     ensures err { OnErr result ((front : List ℕ) × IsFront front bytes.now × PutsAll (F.life file.old) (F.life file.new) front) }

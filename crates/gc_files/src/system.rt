@@ -100,8 +100,8 @@ impl Appending for SystemFile {
     }
 }
 
-// Refuses a path that names something else than a regular file. It looks before the opening, since a pipe would wait for its
-// writer.
+// Refuses a path that leads to anything but a regular file; a path that leads to nothing passes. It looks before the file is opened,
+// since opening a device can already act on it.
 fn expect_file<R: Files<File = File>>(rt: &R, path: &str) -> Result<(), Unfit> {
     match fs::metadata(rt, path) {
         Ok(found) if found.is_file() => Ok(()),

@@ -66,7 +66,7 @@ impl<'a, R: Clock> Timer<'a, R> {
     }
 }
 
-// A time in milliseconds, at most what a u64 holds.
+// A time in whole milliseconds; `u64::MAX` where it has more.
 fn millis_of(time: Duration) -> u64 {
     u64::try_from(time.as_millis()).unwrap_or(u64::MAX)
 }

@@ -17,8 +17,7 @@ use Rattle.gc_texts.specs.Logs.{escaped}
 use Rattle.gc_rows.specs.Quantities.{column_of, quantity_text}
 use Rattle.gc_texts.specs.Stamps.{stamp_text}
 
--- the fields of a reply's line, as they are written: the communication code behind its first comma, and behind the colon after that the
--- return code and the values
+-- the fields of a reply's line `%R1P,RC_COM,ID:RC,VALUES`, as they are written: RC_COM, RC and VALUES. The id and the values may be missing
 abbrev pub com_of : List ℕ → List ℕ
 com_of line = before 44 (before 58 (behind 44 line))
 

@@ -51,6 +51,7 @@ PlacedAt p rest marks = Placed p.phase p.left p.unsent rest marks
 abbrev pub Mid : Plan → List Task → Model → Type 0
 Mid plan commands s = SoundAt plan commands s.progress s.client s.marks s.records × PlacedAt s.progress s.rest s.marks
 
+-- what every run keeps is the stronger of the two
 pub mid_of : (plan : Plan) (commands : List Task) (s : Model) → Invariant plan commands s → Mid plan commands s
 mid_of plan commands s fine = (
   record {

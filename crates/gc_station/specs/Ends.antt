@@ -74,7 +74,7 @@ pub record IsLateIn (plan : Plan) (commands : List Task) (scope : Scope) (acts :
   pub came : Brings plan commands scope (before ++ request ∷ between) piece (stood plan commands scope before).client.next
   pub written : IsWrittenAt plan commands scope (before ++ request ∷ between) (Gave piece moment) r
 
--- behind a request, among the acts between, another one was put; it waits; and this act brings a line with the other one's id
+-- between a request and this act another request was put; the other one still waits, and this act brings a line with its id
 pub record IsOvertaken (plan : Plan) (commands : List Task) (scope : Scope) (before : List Act) (request : Act) (between : List Act) (act : Act) : Type 0 where
   pub first : List Act
   pub other : Act

@@ -117,8 +117,8 @@ pub fn stops_for_a_cause()
 {}
 
 /// Where a run stops at a connection that ended or couldn't be made, and not for `Done`, the clock or the turns, its tries are used
-/// up: since a read last settled a command, or else since the start, more connections ended or couldn't be made than the plan has
-/// `retries`. At least that many were asked for since then, and at least one more where no read settled a command.
+/// up. Count from the last read that settled a command, or from the start where none did: more connections ended or couldn't be made
+/// than the plan has `retries`, and at least `retries` were asked for; counted from the start, more than `retries`.
 pub fn stops_behind_all_tries()
     ensures { (plan : Plan) (commands : List Task) (scope : Scope) (acts : List Act) (last : Act) (why : Cause) → Runs plan commands (opening plan scope) (acts ++ last ∷ [])
         → action_at plan (stood plan commands scope (acts ++ last ∷ [])) ≡ Stop why → IsTried why → IsEnding last → AllTried plan commands scope (acts ++ last ∷ []) }

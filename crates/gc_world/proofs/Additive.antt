@@ -1,4 +1,4 @@
--- Bytes that go over at once leave what they leave one piece behind the other, in either direction.
+-- Delivering bytes in one event leaves the same streams as delivering them in two, in either direction.
 use Rattle.std.proofs.Common.{◌≡◌, ℕ, zero, suc, ◌+◌, ◌-◌, ◌<◌, ◌≤◌, Bool, true, false, cond, List, [], ◌∷◌, ◌++◌, length, map, drop, refl, sym, ◌∙◌, ap, subst, arith, ltb}
 use mathlib.Core.Path.{ap₂}
 use Rattle.std.specs.Prelude.{replicate}
@@ -12,7 +12,7 @@ use Rattle.gc_world.proofs.Directions.{gone_reached, reaches_again, passing, byt
 use Rattle.gc_world.proofs.Flow.{run_append}
 use Rattle.gc_world.proofs.Handed.{cut_long}
 
--- so many lines more
+-- the cut c, with k more completed lines in front of it
 abbrev behind : ℕ → Cut → Cut
 behind k c = record { lines = k + c.lines; gone = c.gone }
 
@@ -51,7 +51,7 @@ cut_all (line ∷ lines) n e = by_size (ltb n (length line)) (cut_all lines (n -
     by_size true rest e = cc
     by_size false rest e = rest e
 
--- and bytes more complete no more
+-- and further bytes change nothing
 cut_end : (lines : List (List ℕ)) (m n : ℕ) → drop (cut lines m).lines lines ≡ [] → cut lines (m + n) ≡ cut lines m
 cut_end lines m n e =
     let c = cut lines m in

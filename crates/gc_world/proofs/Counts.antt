@@ -1,4 +1,4 @@
--- How much so many events can bring.
+-- A bound on the lists and the counts of a run, which each event raises by one.
 use Rattle.std.proofs.Common.{ℕ, zero, suc, ◌+◌, ◌-◌, ◌<◌, ◌≤◌, Bool, true, false, List, [], ◌∷◌, ◌++◌, Option, Some, None, length, map, arith, subst, ltb, cond, refl, ap, ◌≡◌, ◌∙◌}
 use Rattle.std.specs.Prelude.{replicate}
 use Rattle.std.proofs.lemmas.List.{length-drop, length-map, length_push}
@@ -16,7 +16,7 @@ use Rattle.gc_world.specs.Streams.{Streams, Cut, one_more, cut, at_line, passed,
 use Rattle.gc_world.specs.World.{Request, Sent, Numbered, Ends, Rule, Step, Send, Up_deliver, Up_lose, Up_repeat, Down_deliver, Down_lose, Down_repeat, Expire, Restart_client, Restart_instrument, Nothing, Wire, World, without, doubled, idle, replied, up_delivered, with_up, with_down, started, instrument_restarted, requested, down_delivered, client_restarted, happens, run}
 use Rattle.gc_world.proofs.Directions.{one_less}
 
--- no more than so many of each: the executions and the replies together with the requests that are still to be executed
+-- none of these lists and counts is above n; a request that is under way counts as an execution and as a reply
 pub record IsWithin {State : Type 0} (n : ℕ) (w : Wire State) : Type 0 where
   pub sent : length w.sent ≤ n
   pub executed : length w.executed + length w.up ≤ n

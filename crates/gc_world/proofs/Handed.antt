@@ -39,7 +39,7 @@ stray_same c line (Some id) e = ap (λ b. (id_settled c line (place_in c id) b).
 
 -- The streams v, of which these n bytes go over; and the streams now, with this many of them left.
 module _ (width : ℕ) (d : Direction) (v : Streams ById State) where
-  -- what a line more is
+  -- the front line takes `used` of the n bytes: the cut of all n is that of the others at the lines behind it, and one line more
   record IsNext (n used : ℕ) : Type 0 where
     text : List ℕ
     behind : List (List ℕ)

@@ -310,7 +310,7 @@ module _ {State : Type 0} (width : ℕ) (narrow : width ≤ 7) (ends : Ends Stat
       → Each (λ x. x.number < h.top) down → Above (kept w.state) c.since c.count h.top up → Each (IsOf w.sent) up → IsOnce c (record w { up = up; down = down })
   once_queues c w up down h d u l = record { top = h.top; last = h.last; climbs = h.climbs; below = h.below; sent = h.sent; made = d; above = u; told = told_up w h.top up down l h.told }
 
-  -- nothing that counts here is another one
+  -- settlements, replies under way and the two counts may change
   told_else : (w : Wire State) (top : ℕ) (settled : _) (down : _) (refused idle : ℕ) → IsTold w top → IsTold (record w { settled = settled; down = down; refused = refused; idle = idle }) top
   told_else w top settled down refused idle t = record { replies = t.replies; replays = t.replays; among = t.among; each = t.each; begins = t.begins; held = t.held; lines = t.lines }
 

@@ -64,7 +64,7 @@ module _ {Line : Type 0} where
   rising_moved low n line [] ns h = h
   rising_moved low n line (x ∷ xs) ns h = (h.0, rising_moved (x.number + 1) n line xs ns h.1)
 
-  -- a number above all
+  -- a line with a number above all others goes to the back of the queue
   pub rising_push : (low n : ℕ) (line : Line) (ns : List ℕ) (xs : List (Numbered Line)) → low ≤ n + 1
       → Each (λ m. m < n) (ns ++ numbers xs) → Rising low (ns ++ numbers xs) → Rising low (ns ++ numbers (xs ++ record { number = n; line = line } ∷ []))
   rising_push low n line [] [] le below h = (le, tt)

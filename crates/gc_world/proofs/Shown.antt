@@ -89,7 +89,7 @@ names_down r (p ∷ ps) (x ∷ xs) h =
 from_start : (s : Side) (texts : List (List ℕ)) → s.gone ≡ 0 → StandsFor s.assembler [] → Each IsPlain texts → IsFlow s.assembler s.gone texts
 from_start s texts none stands plain = subst (λ g. IsFlow s.assembler g texts) (sym none) (flow_start s.assembler texts stands plain)
 
--- where nothing more has gone, only the world is another one
+-- where no further byte has gone, only the world changes
 unmoved : (d : Direction) (v : Streams ById State) (w : World ById State) → reaches d v w (gone d v) ≡ record { world = w; up_gone = v.up_gone; down_gone = v.down_gone }
 unmoved Up v w = refl
 unmoved Down v w = refl

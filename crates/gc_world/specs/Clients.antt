@@ -32,8 +32,8 @@ pub record ByNumber : Type 0 where
   pub requests : List Pending
   pub since : ℕ
 
--- a send, where as many as the window is wide are not settled, or fewer: the id is the count of the sends since the
--- last start, going round at the number of ids
+-- a send: refused where the flag says that the window is full. Else the request's id is the count of the sends since the last
+-- start, modulo the number of ids
 abbrev pub number_send : ByNumber → ℕ → Call → ℕ → Bool → Option (Sending ByNumber)
 number_send c target call deadline true = None
 number_send c target call deadline false =
@@ -42,7 +42,8 @@ number_send c target call deadline false =
       client = record { count = c.count; requests = c.requests ++ pending_of target call deadline ∷ []; since = c.since };
     })
 
--- a reply, where its request is settled, or is not: then those before it are lost, and it is met by this line
+-- a reply: where its request is settled already (the flag) nothing happens. Else the requests before it that aren't settled are
+-- lost, and its own is settled by this line
 abbrev pub number_reply : ByNumber → Numbered (List ℕ) → Bool → Settled ByNumber
 number_reply c x true = record { settlements = []; client = c }
 number_reply c x false =

@@ -8,7 +8,7 @@ use Rattle.gc_world.specs.declared.event.Event.TheVariants as event
 use Rattle.gc_world.specs.Streams.{Streams, up_texts, down_texts}
 use Rattle.gc_world.specs.World.{Wire, World, Step, Up_deliver, Down_deliver}
 
--- of two, the one of this direction
+-- the first of two for `Up`, the second for `Down`
 abbrev pub pick : {A : Type 0} → Direction → A → A → A
 pick Up up down = up
 pick Down up down = down
@@ -37,6 +37,6 @@ module _ {Client State : Type 0} where
   abbrev pub gone : Direction → Streams Client State → ℕ
   gone d v = pick d v.up_gone v.down_gone
 
-  -- the streams with this world, and with so many bytes gone in this direction
+  -- the streams v, but with the world w, and with n bytes of the front line gone in this direction
   abbrev pub reaches : Direction → Streams Client State → World Client State → ℕ → Streams Client State
   reaches d v w n = record { world = w; up_gone = pick d n v.up_gone; down_gone = pick d v.down_gone n }

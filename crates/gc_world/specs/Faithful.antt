@@ -68,8 +68,8 @@ abbrev pub begun : {State : Type 0} → (State → State) → Bool → State →
 begun restarted false state = state
 begun restarted true state = restarted state
 
--- the states before each execution: the first is the restarted opening state, and the next is the one that carrying out the
--- call of the request leaves, restarted where `starts` has the number of executions so far
+-- `before j` is the state before execution j: at first the restarted opening state, then the one that execution j - 1 leaves,
+-- restarted where `starts` has the number j
 pub record AreBefore (opening : State) (r : Report) (before : ℕ → State) : Type 0 where
   pub first : before 0 ≡ restarted opening
   pub next :

@@ -8,7 +8,7 @@ abbrev pub Each : {A : Type 0} → (A → Type 0) → List A → Type 0
 Each P [] = Unit {0}
 Each P (x ∷ xs) = P x × Each P xs
 
--- numbers from one less than low on, that never fall
+-- the numbers never fall from one to the next, and none is below low - 1
 abbrev pub Rising : ℕ → List ℕ → Type 0
 Rising low [] = Unit {0}
 Rising low (n ∷ ns) = (low ≤ n + 1) × Rising (n + 1) ns

@@ -17,7 +17,7 @@ abbrev pub written : Direction → Report → ℕ → Option (List ℕ)
 written Up r place = option_map (λ (q : Sent). q.line.items) (slice_get r.sent place)
 written Down r place = option_map (λ (m : Made). m.line.items) (slice_get r.made place)
 
--- of the front line of a queue its last byte is still to go, and where there is none, nothing has gone
+-- `gone` counts bytes of the front line, never all of them; it is 0 where no line is under way
 abbrev pub IsPart : ℕ → List (List ℕ) → Type 0
 IsPart gone [] = gone ≡ 0
 IsPart gone (line ∷ lines) = gone < length line
@@ -33,7 +33,8 @@ pub record Carries (d : Direction) (r : Report) (s : Side) (texts : List (List �
   pub names : map (written d r) s.queue ≡ map Some texts
   pub flow : IsFlow s.assembler s.gone texts
 
--- line k is lost or comes twice, which leaves this queue, where it is one of which no byte has gone; else an event more was idle
+-- a loss or a repeat of line k, which leaves this queue: possible only where line k is under way and no byte of it has gone. Else the
+-- count of idle events grows by one
 pub record Changes (k : ℕ) (queue : List ℕ) (old new : Side) (before after : ℕ) : Type 0 where
   pub held : is_begun k old.gone ≡ true → (new ≡ old) × (after ≡ before + 1)
   pub done : is_begun k old.gone ≡ false → (new ≡ record old { queue = queue }) × (after ≡ (if nat_lt k (length old.queue) then before else before + 1))

@@ -23,7 +23,7 @@ pub record Numbered (Line : Type 0) : Type 0 where
   pub number : ℕ
   pub line : Line
 
--- all of the world but its client
+-- all of the world but its client: the line, the instrument's state, and the lists and counts of what has happened
 pub record Wire (State : Type 0) : Type 0 where
   -- the requests that were sent
   pub sent : List Sent

@@ -197,7 +197,7 @@ impl Entries<Settlement> {
     }
 }
 
-// Appends a line to that of an answer, which has no bytes.
+// Copies a line into an answer that was made with an empty one.
 #[inline]
 fn append_answer(outcome: &mut Outcome, line: &Line)
     requires { (reading : Reading) × (outcome.old ≡ Answered reading (record { items = [] })) }

@@ -19,7 +19,7 @@ pub data Event : Type 0 where
   Came : (line : List ℕ) → Event
   Went : (step : one.Step) → Event
 
--- a null procedure goes out where a line does
+-- the event of a line that goes out while it begins: a null procedure is asked for. Without a line there is no event
 abbrev pub asked_by : Option (List ℕ) → List Event
 asked_by None = []
 asked_by (Some line) = Asked ∷ []
