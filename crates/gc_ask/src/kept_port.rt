@@ -30,7 +30,7 @@ pub struct Keeping {
 }
 
 impl Keeping {
-    /// How many connections are served, in numbers.
+    /// How many connections are served: the number that was asked for, or else the greatest `u64`.
     pub(crate) fn most(self) -> u64
         ensures { result ≡ most_callers self.connections }
     {

@@ -30,8 +30,8 @@ pub(crate) trait Link {
     /// The references that it holds. No call changes them, so a caller knows behind a call what became of its ports.
     ghost held: { Self → Held };
 
-    /// Sends a request, the one at this place, and has it answered where the instrument's end is this program's, in so many reads
-    /// at most.
+    /// Sends the request at this place. Where this program answers at the other end, too, it has the request answered there,
+    /// in at most `reads` reads.
     fn send(&mut self, place: usize, request: &Line, reads: &mut u32) -> Result<(), RunFault>
         ensures takes { TakesRequest alone place (with_end request.now.items) (client self.old).taken (client self.new).taken result }
         ensures ends { BothStep (client self.old) (client self.new) (instrument self.old) (instrument self.new) result }
@@ -40,7 +40,7 @@ pub(crate) trait Link {
         ensures too_many { result ≡ Err RunFault.TooManyReads → reads.new ≡ 0 }
         ensures held { held self.new ≡ held self.old };
 
-    /// Reads the client's end once, in place of what was left of the last read, and says whether that wasn't the end.
+    /// Reads the client's end once, in place of what was left of the last read. Returns false at the end of the stream.
     fn read(&mut self, ahead: &mut Unheard) -> Result<bool, PortFailed>
         ensures few { length ahead.new ≤ 256 }
         ensures end { result ≡ Ok false → ahead.new ≡ [] }

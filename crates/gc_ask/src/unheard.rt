@@ -48,7 +48,7 @@ impl Unheard {
         &self.bytes[self.at..self.end]
     }
 
-    // Uses the first of them.
+    // Uses up the first `used` bytes.
     pub(crate) fn advance(&mut self, used: usize)
         requires { used ≤ length self.old }
         ensures { self.new ≡ drop used self.old }
@@ -56,7 +56,7 @@ impl Unheard {
         self.at += used;
     }
 
-    // Reads once, in place of what was left, and says whether that wasn't the end.
+    // Reads once, in place of what was left. Returns false at the end of the stream.
     pub(crate) fn read<S: Source>(&mut self, source: &mut S) -> Result<bool, PortFailed>
         ensures few { length self.new ≤ 256 }
         ensures end { result ≡ Ok false → self.new ≡ [] }

@@ -17,8 +17,8 @@ const REPLIES: [&[u8]; 8] = [
     b"%R1P,0,7:0,0.512345678901,1.512345678901,25.1252",
 ];
 
-/// Sends so many requests, each of which is answered before the next; the sum is of the lengths of the request lines and
-/// of the scales of the distances. One line serves for all sends, and one list for all settlements.
+/// Sends `count` requests, each answered before the next goes out, and returns the sum of the lengths of the request lines
+/// and of the scales of the distances. One line serves for all sends, and one list for all settlements.
 pub fn send<W: Window>(window: W, count: u32) -> u64 {
     let mut client = Client::new(window);
     let mut line = Line::new();

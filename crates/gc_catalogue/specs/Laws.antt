@@ -33,7 +33,7 @@ abbrev pub IsShown : ℕ → Value → Value → Type 0
 IsShown places (value.Double d) (value.Double shown) = IsRounded (fraction d) places shown.digits shown.scale
 IsShown places v shown = v ≡ shown
 
--- the same of values, one for one
+-- `IsShown` of values, one for one
 abbrev pub AreShown : ℕ → List Value → List Value → Type 0
 AreShown places [] [] = Unit {0}
 AreShown places [] (shown ∷ rest) = ⊥

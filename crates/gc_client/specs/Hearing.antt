@@ -21,7 +21,7 @@ HearsInto old line kind.Settled settlements new = fits old (heard line) ≡ true
 HearsInto old line kind.Stray settlements new = IsOk (reply_at line) × (fits old (heard line) ≡ false) × (settlements ≡ []) × (new ≡ old)
 HearsInto old line (kind.Unread fault) settlements new = (reply_at line ≡ Err fault) × (settlements ≡ []) × (new ≡ old)
 
--- the same, where the settlements are handed back; a stray and a line that is no reply change nothing
+-- the same where the settlements are handed back in the answer; a stray and a line that is no reply change nothing
 abbrev pub HearsAs : ById → List ℕ → Heard → ById → Type 0
 HearsAs old line (Settled settlements) new = fits old (heard line) ≡ true
 HearsAs old line Stray new = IsOk (reply_at line) × (fits old (heard line) ≡ false) × (new ≡ old)

@@ -17,7 +17,7 @@ pub record Asked : Type 0 where
   pub target : ℕ
   pub call : Call
 
--- of a request that is settled, and of one that waits
+-- whom and what a settled request asked, and the same of one that waits
 abbrev pub of_settled : Settlement → Asked
 of_settled s = record { target = s.target; call = s.call }
 
@@ -30,27 +30,27 @@ pub record Course : Type 0 where
   pub settlements : List Settlement
   pub client : ById
 
--- nothing has happened to a new client
+-- the course of a new client: nothing has happened
 abbrev pub begun : Course
 begun = record { sent = []; settlements = []; client = fresh }
 
--- a send that was refused, or was not
+-- the course behind a send, which was refused or wasn't
 abbrev pub sent_on : Course → ℕ → Call → Option (Sending ById) → Course
 sent_on x target call None = x
 sent_on x target call (Some s) = record { sent = x.sent ++ record { target = target; call = call } ∷ []; settlements = x.settlements; client = s.client }
 
--- these were settled
+-- the course behind these settlements
 abbrev pub settled_on : Course → Settled ById → Course
 settled_on x s = record { sent = x.sent; settlements = x.settlements ++ s.settlements; client = s.client }
 
--- one step, by the client's rule with a window of this width
+-- the course behind one step, by the client's rule with a window of this width
 abbrev pub goes : ℕ → Course → Step → Course
 goes width x (Send target call deadline) = sent_on x target call (sends width x.client target call deadline)
 goes width x (Hear line) = settled_on x (hears x.client line (heard line))
 goes width x (Expire now) = record { sent = x.sent; settlements = x.settlements; client = expires x.client now }
 goes width x Restart = settled_on x (restarts x.client)
 
--- all steps, in order
+-- the course behind all steps, in order
 abbrev pub course : ℕ → Course → List Step → Course
 course width x [] = x
 course width x (step ∷ steps) = course width (goes width x step) steps

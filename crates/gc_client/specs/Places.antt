@@ -7,6 +7,6 @@ abbrev pub place_heard : ℕ → ℕ → Option ℕ → Option ℕ
 place_heard next waiting None = None
 place_heard next waiting (Some id) = if nat_lt (place next waiting id) waiting then Some (place next waiting id) else None
 
--- so many from the oldest's place on, going round at the end
+-- `len` elements from the oldest's place on, going round at the end of the list
 abbrev pub waiting_in : {A : Type 0} → ℕ → ℕ → List A → List A
 waiting_in oldest len places = take len (drop oldest places ++ take oldest places)

@@ -15,7 +15,7 @@ pub record IsReplyWithId (line : List ℕ) : Type 0 where
 abbrev pub is_ours : List ℕ → Bool
 is_ours line = is_some (heard line)
 
--- these settlements first, and then those of a client that went on
+-- the settlements of a client that went on, with these in front
 abbrev pub first : List Settlement → Settled ById → Settled ById
 first settlements x = record { settlements = settlements ++ x.settlements; client = x.client }
 

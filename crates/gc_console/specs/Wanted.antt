@@ -9,12 +9,13 @@ use Rattle.gc_console.specs.declared.wanted.Wanted.{Wanted}
 abbrev pub behind_answer : Wanted → Wanted
 behind_answer w = record { since = None; heard = true; told = false }
 
--- one is wanted from now on, unless one was wanted already
+-- the moment since which an answer is wanted, where one is wanted at this moment: an earlier one stays
 abbrev pub wanted_from : Option Moment → Moment → Option Moment
 wanted_from None moment = Some moment
 wanted_from (Some since) moment = Some since
 
--- nothing is left to be asked in a cycle: if it had an answer, and the want of another wasn't told, that is over
+-- the want behind a cycle of which nothing is left to be asked: it is over if the cycle had an answer, and the message that
+-- no answer comes wasn't told
 abbrev pub behind_cycle : Wanted → Wanted
 behind_cycle w = record { since = if w.heard && not w.told then None else w.since; heard = false; told = w.told }
 
@@ -30,7 +31,7 @@ behind_look Unheard moment w = record w { since = wanted_from w.since moment }
 abbrev pub has_lasted : ℕ → ℕ → ℕ → Bool
 has_lasted from now least = not (nat_lt (now - from) least)
 
--- since when an answer is wanted, where that has lasted so long
+-- the moment since which an answer is wanted, if that is at least this long ago
 abbrev pub lasting : ℕ → ℕ → Option Moment → Option Moment
 lasting now least None = None
 lasting now least (Some since) = if has_lasted since.elapsed now least then Some since else None
@@ -40,7 +41,7 @@ pub record Look : Type 0 where
   pub health : LinkHealth
   pub moment : Moment
 
--- behind looks, none of which had an answer before it
+-- the want behind these looks, where no answer comes before any of them
 abbrev pub behind_looks : List Look → Wanted → Wanted
 behind_looks [] w = w
 behind_looks (look ∷ later) w = behind_looks later (behind_look look.health look.moment w)

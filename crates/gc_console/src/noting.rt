@@ -36,7 +36,7 @@ impl<'a, R> Noting<'a, R> {
         }
     }
 
-    // A path is had, or why it isn't.
+    // Notes the outcome of a call on a path: that it succeeded, or the system's error.
     fn note<T: Drop>(&self, path: &str, had: io::Result<T>) -> io::Result<T> {
         match had {
             Ok(had) => {
@@ -52,7 +52,7 @@ impl<'a, R> Noting<'a, R> {
         }
     }
 
-    // The same of an address.
+    // Notes the outcome of a call on an address, as `note` does on a path.
     fn note_at<T: Drop>(&self, address: SocketAddr, had: io::Result<T>) -> io::Result<T> {
         match had {
             Ok(had) => {

@@ -179,7 +179,7 @@ impl Signs {
         self.show(messages)
     }
 
-    // Notes how things stand, and since when.
+    // Notes the health of the link, and the moment since which it is so.
     fn stand(&mut self, health: LinkHealth, moment: Moment) {
         // Until the clock is read first the moment is the beginning of 1970.
         if self.health != health || self.since.utc == 0 {

@@ -18,7 +18,7 @@ pub(crate) struct Wanted {
 }
 
 impl Wanted {
-    /// None is wanted yet.
+    /// No answer is wanted yet.
     pub(crate) fn new() -> Wanted {
         Wanted {
             since: None,
@@ -27,7 +27,7 @@ impl Wanted {
         }
     }
 
-    /// A command was answered.
+    /// Notes that a command was answered: no answer is wanted.
     pub(crate) fn hear(&mut self)
         ensures { self.new ≡ behind_answer self.old }
     {
@@ -36,7 +36,7 @@ impl Wanted {
         self.told = false;
     }
 
-    /// Things stand so at this moment.
+    /// Notes by the health of the link at this moment whether an answer is wanted.
     pub(crate) fn look(&mut self, health: LinkHealth, moment: Moment)
         ensures { self.new ≡ behind_look health moment self.old }
     {
@@ -49,8 +49,8 @@ impl Wanted {
         }
     }
 
-    // Nothing is left to be asked in this cycle. If the cycle had an answer, no answer is wanted until the next cycle asks; but a want
-    // that was told stays until an answer comes.
+    // Ends a cycle, of which nothing is left to be asked. If the cycle had an answer, none is wanted until the next cycle
+    // asks; but a want that was told stays until an answer comes.
     fn end_cycle(&mut self)
         ensures { self.new ≡ behind_cycle self.old }
     {
@@ -60,7 +60,7 @@ impl Wanted {
         self.heard = false;
     }
 
-    // One is wanted from this moment on, unless one was wanted already.
+    // Notes that an answer is wanted from this moment on, unless one was wanted already.
     fn want(&mut self, moment: Moment)
         ensures { self.new ≡ record self.old { since = wanted_from self.old.since moment } }
     {

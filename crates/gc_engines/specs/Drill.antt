@@ -28,7 +28,7 @@ drill_text_on opening width events totals = wire_text (played width opening even
 abbrev pub drill_text : ℕ → List Event → Bool → List ℕ
 drill_text width events totals = drill_text_on simulator_opening width events totals
 
--- a sink took the front of this text, and not all of it
+-- a sink took the first bytes of this text, but not all of it
 abbrev pub TookPart : Option (List ℕ) → Option (List ℕ) → List ℕ → Type 0
 TookPart old new text = (n : ℕ) × (n < length text) × Appends old new (take n text)
 

@@ -27,7 +27,7 @@ struct Underway {
 }
 
 impl Underway {
-    // Nothing.
+    // A line of which no byte came yet.
     fn new() -> Underway
         ensures { KeepsLine result [] }
     {
@@ -153,7 +153,7 @@ fn said_of(kept: &Underway) -> Outgoing
     }
 }
 
-// That it is no log line.
+// Writes that a line is no line of a log.
 fn unread() -> Outgoing
     ensures { result.items ≡ codes "no log line\n" }
 {

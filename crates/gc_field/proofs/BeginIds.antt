@@ -21,6 +21,7 @@ pub record Model : Type 0 where
 
 -- What may happen.
 
+-- one step of a beginning, by the ids of the lines alone
 pub data Move : Type 0 where
   -- a null procedure goes out, with the id that is asked for now: the first time or again
   Ask : Move

@@ -31,6 +31,8 @@ IsNear p left i = (i ≡ p) ⊎ IsAsked i left
 abbrev pub IsOver : List ℕ → List Sent → Type 0
 IsOver left line = (p : ℕ) × Each (λ x. IsOwn x × IsNear p left x.id) line
 
+-- runs that were killed while they began: which ids of the word they have heard, and whether what is in flight still has to
+-- answer, or is over
 pub record IsTrying (z : ℕ) (word first left : List ℕ) (line : List Sent) : Type 0 where
   pub sound : IsLine z left line
   pub done : List ℕ

@@ -30,6 +30,7 @@ use Rattle.gc_field.proofs.Vouched.{KeptIs, True, Vouched}
 
 -- The course of a client, behind what was sent and settled before.
 
+-- course x is course y with these requests and these settlements in front
 record Behind (before : List Asked) (old : List Settlement) (x y : Course) : Type 0 where
   sent : x.sent ≡ before ++ y.sent
   settled : x.settlements ≡ old ++ y.settlements

@@ -33,6 +33,7 @@ rows_have_not_three u h s = three_within h.low h.numbers h.some h.rising h.few (
 
 -- The client that is told the numbers never restarts, and what it settled doesn't become less.
 
+-- a client that is told the numbers, of which the eight null procedures are settled, and that never restarted
 pub record IsBased (c : ByNumber) : Type 0 where
   pub since : c.since ≡ 0
   pub count : 8 ≤ c.count

@@ -164,6 +164,7 @@ cons_head x y xs ys e = cc
 cons_tail : {A : Type 0} (x y : A) (xs ys : List A) → x ∷ xs ≡ y ∷ ys → xs ≡ ys
 cons_tail x y xs ys e = cc
 
+-- the moves are cut behind those whose steps a client sees as xs
 record SplitSeen {State : Type 0} (ms : List (Move State)) (xs : List step.Step) : Type 0 where
   front : List (Move State)
   later : List (Move State)

@@ -12,11 +12,13 @@ use Rattle.gc_field.specs.Field.{Move, Sends, OnLine, Comes, ArePossible}
 use Rattle.gc_field.specs.Laws.{left, kept_of}
 use Rattle.gc_field.specs.Made.{WasMadeOn}
 
--- two requests go out, the first is lost, and the second has the reply that is kept
+-- the moves of a client that sends two requests at once: the first is lost, and the second has the reply that the instrument
+-- keeps
 abbrev pub two_at_once : List ℕ → List (Move State)
 two_at_once line = Sends 1 NullProc 9 ∷ Sends 2 NullProc 9 ∷ OnLine (Up_lose 0) ∷ OnLine Up_deliver ∷ Comes line ∷ []
 
--- it is booked as the second one's answer, and nothing was executed; so the line wasn't made on executing that
+-- that reply is booked as the second request's answer, though no request was executed: so it wasn't made on executing that
+-- one
 pub record IsBookedUnexecuted (state : State) (line : List ℕ) : Type 0 where
   pub possible : ArePossible ends IsFittingState kept_of (by_ids WINDOW ends) (two_at_once line) (ids_open state)
   pub settled : (left WINDOW ends state (two_at_once line)).wire.settled ≡ record { target = 1; call = NullProc; outcome = Lost } ∷ record { target = 2; call = NullProc; outcome = Answered line } ∷ []

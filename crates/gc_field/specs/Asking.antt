@@ -5,12 +5,13 @@ use Rattle.gc_links.specs.Acts.{Act, Put, Cut, Gave, Closed}
 use Rattle.gc_station.specs.Parts.{Turn, Asks, Hears}
 use Rattle.gc_station.specs.Model.{lines_behind, null_text}
 
--- these bytes are a line feed, which clears the receiver; or the line of the null procedure that is asked for, that of the first id that
--- isn't answered
+-- what goes out while a station begins: a line feed, which clears the receiver; or the line of the null procedure that is
+-- asked for, the first whose id isn't answered
 abbrev pub IsAskedFor : List ℕ → List ℕ → List Turn → Type 0
 IsAskedFor word bytes turns = ((bytes ≡ 10 ∷ []) × (turns ≡ [])) ⊎ ((bytes ≡ null_text word) × (turns ≡ Asks ∷ []))
 
--- a piece is heard, line by line, or it is dropped: then the lines that came are lost by the line
+-- what becomes of a piece that comes while a station begins: it is heard line by line, or it is dropped: then its lines
+-- count as lost by the line
 abbrev pub IsTaken : List ℕ → List ℕ → List Turn → List ℕ → Type 0
 IsTaken before piece turns behind = ((turns ≡ map Hears (lines_behind before piece)) × (behind ≡ rest_behind before piece)) ⊎ ((turns ≡ []) × (behind ≡ before))
 

@@ -20,7 +20,7 @@ pub record UnderWay (State : Type 0) : Type 0 where
   pub down : List (List ℕ)
   pub state : State
 
--- nothing is under way to this instrument, nor from it
+-- nothing is in flight to this instrument or from it
 abbrev pub none_under_way : {State : Type 0} → State → UnderWay State
 none_under_way state = record { up = []; down = []; state = state }
 
@@ -36,27 +36,29 @@ pub record AreLines {State : Type 0} (Good : State → Type 0) (u : UnderWay Sta
 
 -- The beginner.
 
--- a request under way, or a reply: whether the request, or the one that the reply was sent for, is from before this beginning
+-- a request or a reply in flight, marked old if the request, or the one that the reply was sent for, is from before this
+-- beginning
 pub record Aged (Line : Type 0) : Type 0 where
   pub old : Bool
   pub line : Line
 
--- all there is: what is under way, the instrument, and what isn't answered of the word
+-- the state of a beginning in the field: the lines in flight each way, the instrument, and the ids of the word that aren't
+-- answered
 pub record Model (State : Type 0) : Type 0 where
   pub up : List (Aged Request)
   pub down : List (Aged (List ℕ))
   pub state : State
   pub left : List ℕ
 
--- a beginning begins: all that is under way is from before
+-- the state at the start of a beginning: all that is in flight is old
 abbrev pub begins : {State : Type 0} → UnderWay State → Model State
 begins u = record { up = map (λ x. record { old = true; line = x }) u.up; down = map (λ x. record { old = true; line = x }) u.down; state = u.state; left = the_word }
 
--- what it leaves under way
+-- what a beginning leaves in flight
 abbrev pub leaves : {State : Type 0} → Model State → UnderWay State
 leaves s = record { up = map (λ x. x.line) s.up; down = map (λ x. x.line) s.down; state = s.state }
 
--- what may happen next
+-- one step of a beginning
 pub data Turn (State : Type 0) : Type 0 where
   -- the beginner's part: the null procedure that is asked for goes out, the first time or again, whole or in part; the reply in front comes; a
   -- line comes that is no reply with an id

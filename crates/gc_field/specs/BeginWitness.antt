@@ -16,7 +16,7 @@ use Rattle.gc_field.specs.Witness.{replies}
 
 -- Some runs.
 
--- under way are a reply with id 6 and two requests behind it, with ids 7 and 0
+-- in flight before the first run: a reply with id 6, and behind it two requests, with ids 7 and 0
 abbrev pub before : UnderWay State
 before =
     record {
@@ -25,7 +25,7 @@ before =
       state = simulator_opening;
     }
 
--- a run begins, and hears the reply from before for its first null procedure; it is killed behind its second
+-- the first run: it begins, hears the old reply as the answer to its first null procedure, and is killed behind its second
 abbrev pub killed : Run State
 killed = record { turns = Asks ∷ Comes ∷ Asks ∷ []; moves = [] }
 
@@ -52,11 +52,12 @@ next =
           ∷ [];
     }
 
--- what the second one had under way when it had begun
+-- what the second run had in flight once it had begun
 abbrev pub clean : UnderWay State
 clean = leaves (turned ends next.turns (begins (left_by_run WINDOW ends before killed)))
 
--- they meet the premises of `simulators_runs_are_their_own`; both commands are answered, and the first answer was made on its request
+-- these runs meet the premises of `simulators_runs_are_their_own`; both commands of the second are answered, and the first
+-- answer was made on executing its request
 pub record AreSomeRuns : Type 0 where
   pub lines : AreLines IsFittingState before
   pub row : IsRow before
@@ -70,7 +71,7 @@ pub record AreSomeRuns : Type 0 where
 
 -- The word.
 
--- where replies with the ids of the word are under way, and one with id 0 behind them
+-- in flight are replies with the ids of the word, and one with id 0 behind them
 abbrev pub with_the_word : UnderWay State
 with_the_word =
     record {
@@ -85,7 +86,7 @@ eight_come = Comes ∷ Comes ∷ Comes ∷ Comes ∷ Comes ∷ Comes ∷ Comes �
 abbrev pub one_more : List (Move State)
 one_more = Sends 7 InstrumentNo 100 ∷ field.Comes (codes "%R1P,0,0:0,654321") ∷ []
 
--- they answer all of it, and that one is booked for the first command, with nothing executed
+-- those replies answer the whole word, and the one behind them is booked for the first command, though nothing was executed
 pub record IsBookedFromBefore : Type 0 where
   pub begun : (turned ends eight_come (begins with_the_word)).left ≡ []
   pub possible : ArePossible ends IsFittingState kept_of (by_ids WINDOW ends) one_more (ids_begun (leaves (turned ends eight_come (begins with_the_word))))

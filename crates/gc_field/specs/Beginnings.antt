@@ -17,8 +17,8 @@ use Rattle.gc_field.specs.Laws.{kept_of}
 abbrev pub on_line : {State : Type 0} → Wire State → UnderWay State
 on_line w = record { up = map (λ x. x.line) w.up; down = map (λ x. x.line) w.down; state = w.state }
 
--- what a run that measures may have under way, or nothing: numbers from one less than low on that never fall, of which no more than seven are
--- unaccounted for, and whose ids go round at eight
+-- what a run that measures may have in flight, if anything: replies and then requests whose numbers never fall from one to
+-- the next; at most seven numbers are unaccounted for, and the ids are the numbers modulo 8
 pub record IsRow {State : Type 0} (u : UnderWay State) : Type 0 where
   pub low : ℕ
   pub numbers : List ℕ
@@ -27,11 +27,12 @@ pub record IsRow {State : Type 0} (u : UnderWay State) : Type 0 where
   pub few : Each (λ n. n < low + WINDOW) numbers
   pub ids : ids_under_way u ≡ map (λ n. n % 8) numbers
 
--- the word isn't in it: seven ids in a row upward and the repeat of the one before them have not even its first three
+-- no such row contains the word: seven ids that rise, and a repeat of the one before them, don't contain even the first
+-- three ids of the word
 abbrev pub RowsHaveNotTheWord : Type 0 → Type 0
 RowsHaveNotTheWord State = (u : UnderWay State) → IsRow u → IsSubsequence the_word (ids_under_way u) → ⊥
 
--- behind a beginning that has begun cleanly there is such a row at any time
+-- once a beginning has begun cleanly, what is in flight is such a row at any time
 abbrev pub RunsLeaveRows : Type 0 → Type 0
 RunsLeaveRows State =
     (ends : Ends State) (kept : State → Option KeptReply) → IsAnInstrument ends AnyState kept →

@@ -28,22 +28,23 @@ use Rattle.gc_field.specs.Instrument.{IsAnInstrument, AnyState}
 use Rattle.gc_field.specs.Runs.{IsInField}
 use Rattle.gc_field.specs.Witness.{asked, at, begun_with, eight, exchanged, plan_of}
 
--- seven at a time
+-- the plan of this run: seven requests at a time
 abbrev pub plan : Plan
 plan = plan_of 7
 
--- a request for the instrument's number, for each of eight targets
+-- a command for each of eight targets: a request for the instrument's number
 abbrev pub command : ℕ → Command
 command target = record { target = target; call = InstrumentNo }
 
 abbrev pub commands : List Task
 commands = map (λ target. record { command = command target; deadline = 100; chained = false }) (1 ∷ 2 ∷ 3 ∷ 4 ∷ 5 ∷ 6 ∷ 7 ∷ 8 ∷ [])
 
--- at most a hundred acts; what a reply says is this, as that to the last command does
+-- the scope of this run: at most a hundred acts; every reply is taken to say what the reply to the last command says
 abbrev pub scope : Scope
 scope = record { turns = 100; reads = λ call line. Value (Long (pos 45)) }
 
--- the requests that go out at once, and the replies to the first and the seventh of them: the instrument counts what it executes
+-- the lines of the seven requests that go out at once, and the replies to the first and the seventh of them: the instrument
+-- counts what it executes
 abbrev pub seven : List (List ℕ)
 seven =
     codes "%R1Q,5003,0:" ∷ codes "%R1Q,5003,1:" ∷ codes "%R1Q,5003,2:" ∷ codes "%R1Q,5003,3:" ∷ codes "%R1Q,5003,4:" ∷ codes "%R1Q,5003,5:"
@@ -65,12 +66,12 @@ replies =
 abbrev pub answer : List ℕ
 answer = codes "%R1P,0,0:0,45"
 
--- at this moment each of these goes out
+-- the acts by which each of these texts goes out at this moment
 abbrev pub put_all : ℕ → List (List ℕ) → List Act → List Act
 put_all now [] acts = acts
 put_all now (line ∷ others) acts = Put (with_end line) ∷ Told (at now) ∷ put_all now others acts
 
--- it begins; seven commands go out, and nothing comes until they are given up
+-- the acts until seven are given up: the station begins; seven commands go out, and nothing comes until their deadline
 abbrev pub given_up : List Act
 given_up = begun_with begun (Told (at 15) ∷ put_all 15 seven (Silent (at 115) ∷ []))
 
@@ -98,12 +99,13 @@ anew =
 abbrev pub acts : List Act
 acts = given_up ++ anew
 
--- at this moment a request goes out for each of these targets
+-- the moves by which a request goes out for each of these targets, at this moment
 abbrev pub send_all : ℕ → List ℕ → List (Move Counter) → List (Move Counter)
 send_all now [] ms = ms
 send_all now (target ∷ others) ms = Sends target InstrumentNo 115 ∷ Tells now ∷ send_all now others ms
 
--- of the seven the first reaches the instrument, the five behind it are lost, and the last stays under way
+-- what the line does meanwhile: the first of the seven reaches the instrument, the five behind it are lost, and the last
+-- stays in flight
 abbrev pub moves : List (Move Counter)
 moves =
     Tells 15
@@ -126,21 +128,21 @@ turns = Asks ∷ turn.Comes ∷ Reaches ∷ turn.Comes ∷ Asks ∷ Reaches ∷ 
 abbrev pub moves_anew : List (Move Counter)
 moves_anew = Sends 8 InstrumentNo 220 ∷ Tells 120 ∷ OnLine Up_deliver ∷ Tells 125 ∷ Comes answer ∷ []
 
--- what it was until it began anew, and from there on; behind the end nothing happens
+-- the run as two stretches: until it began anew, and from there on; behind the end nothing happens
 abbrev pub run : Run Counter
 run = record { turns = eight; moves = moves }
 
 abbrev pub runs : List (Run Counter)
 runs = run ∷ record { turns = turns; moves = moves_anew } ∷ record { turns = []; moves = [] } ∷ []
 
--- what is under way where it begins anew, and where it has begun again
+-- what is in flight where the run begins anew, and where it has begun again
 abbrev pub left : UnderWay Counter
 left = left_by_run WINDOW counting before run
 
 abbrev pub from : UnderWay Counter
 from = leaves (turned counting turns (begins left))
 
--- the first seven are lost, and the eighth has its answer
+-- the records of the run: the first seven commands are lost, and the eighth has its answer
 abbrev pub lost : ℕ → ℕ → Record
 lost place target = record { sent = Some 15; utc = 115; cycle = 1; place = place; command = command target; end = end.Lost }
 
@@ -156,8 +158,9 @@ records =
     ∷ record { sent = Some 120; utc = 125; cycle = 1; place = 7; command = command 8; end = end.Answered (Some (Long (pos 45))) answer }
     ∷ []
 
--- it is a run in the field, over an instrument, behind which no act follows. Where seven are given up it begins anew. Two lines of before are
--- under way then, of which the reply has the last command's id; and that command's answer was made on executing its request
+-- this is a run in the field, over an instrument, behind which no act follows. It begins anew where seven are given up. Two
+-- old lines are in flight then, of which the reply has the last command's id; and that command's answer was made on
+-- executing its request
 pub record IsAnsweredAnew : Type 0 where
   pub is : IsAnInstrument counting AnyState kept_by
   pub field : IsInField counting AnyState kept_by plan commands scope acts before runs

@@ -46,7 +46,7 @@ BeginsCleanly State =
 
 -- The client behind it.
 
--- what a beginning leaves that has begun cleanly
+-- the state that a beginning leaves once it has begun cleanly
 pub record IsClean {State : Type 0} (Good : State → Type 0) (kept : State → Option KeptReply) (u : UnderWay State) : Type 0 where
   pub good : Good u.state
   pub up : Each (λ x. x ≡ eighth) u.up
@@ -79,7 +79,7 @@ begun_wire u =
 abbrev pub ids_begun : {State : Type 0} → UnderWay State → World ById State
 ids_begun u = record { wire = begun_wire u; client = fresh }
 
--- and the client that is told the numbers
+-- the waiting requests of the client that is told the numbers
 abbrev pub nulls_pending : List Pending
 nulls_pending = map (λ id. record { target = 0; call = NullProc; deadline = 0; given_up = false }) the_word
 

@@ -28,25 +28,25 @@ use Rattle.gc_field.specs.Runs.{IsInField}
 use Rattle.gc_field.specs.Shown.{Stretch}
 use Rattle.gc_field.specs.Witness.{plan, at, begun_with, eight, replies}
 
--- a direction, in radians: horizontal, and vertical
+-- the direction of a target, in radians: horizontal and vertical
 abbrev pub hz : Decimal
 hz = decimal (pos 225) 2 refl
 
 abbrev pub v : Decimal
 v = decimal (pos 1625) 3 refl
 
--- the telescope is pointed there, a distance is measured, and angles and distance are read
+-- the calls of the three commands: to point the telescope there, to measure a distance, and to read angles and distance
 abbrev pub points : Call
 points = Position hz v (pos 0) (pos 0) false
 
--- command 1 starts a measurement; the simulator takes any mode
+-- the parameters of the measuring call: command 1 starts a measurement; the simulator takes any mode
 abbrev pub measures : Call
 measures = DoMeasure (pos 1) (pos 1)
 
 abbrev pub reads_all : Call
 reads_all = SimpleMea (pos 3000) (pos 1)
 
--- the three, of one chain
+-- the three commands, as one chain
 abbrev pub commands : List Task
 commands =
     record { command = record { target = 7; call = points }; deadline = 100; chained = false }
@@ -54,7 +54,7 @@ commands =
     ∷ record { command = record { target = 7; call = reads_all }; deadline = 100; chained = true }
     ∷ []
 
--- at most a hundred acts; what a reply says isn't looked at, but that it is a value
+-- the scope of this run: at most a hundred acts; every reply is taken to say a value, whichever
 abbrev pub scope : Scope
 scope = record { turns = 100; reads = λ call line. Value (Long (pos 0)) }
 
@@ -68,7 +68,8 @@ second = codes "%R1P,0,1:0"
 abbrev pub third : List ℕ
 third = codes "%R1P,0,2:0,2.25,1.625,110.0625"
 
--- it begins, with these replies; then one command goes out after the other, each with its reply; and it is closed
+-- the acts of the run, with these replies: it begins; then one command goes out after the other, each once the one before it
+-- is answered; and the connection is closed
 abbrev pub acts_with : List (List ℕ) → List ℕ → List ℕ → List ℕ → List Act
 acts_with answers a b c =
     begun_with answers (
@@ -86,7 +87,7 @@ acts_with answers a b c =
     ∷ []
     )
 
--- each request reaches the instrument, and each reply comes
+-- what the line does meanwhile: each request reaches the instrument, and each reply comes
 abbrev pub moves_with : {S : Type 0} → List ℕ → List ℕ → List ℕ → List (Move S)
 moves_with a b c =
     Tells 15
@@ -107,7 +108,7 @@ moves_with a b c =
     ∷ Comes c
     ∷ []
 
--- all three answers are written down
+-- the records of the run, with these replies: all three are answered
 abbrev pub records_with : List ℕ → List ℕ → List ℕ → List Record
 records_with a b c =
     record { sent = Some 15; utc = 20; cycle = 1; place = 0; command = record { target = 7; call = points }; end = end.Answered (Some (Long (pos 0))) a }
@@ -115,7 +116,7 @@ records_with a b c =
     ∷ record { sent = Some 25; utc = 30; cycle = 1; place = 2; command = record { target = 7; call = reads_all }; end = end.Answered (Some (Long (pos 0))) c }
     ∷ []
 
--- over the simulator as it is at the start, with nothing under way
+-- the acts of the run over the simulator as it is at the start, with nothing in flight
 abbrev pub acts : List Act
 acts = acts_with replies first second third
 
@@ -125,15 +126,16 @@ moves = moves_with first second third
 abbrev pub before : UnderWay State
 before = none_under_way simulator_opening
 
--- so it is one stretch, and nothing behind the end
+-- the run as one stretch, with nothing behind the end
 abbrev pub stretch : Stretch State
 stretch = record { from = leaves (turned ends eight (begins before)); moves = moves }
 
 abbrev pub runs : List (Run State)
 runs = record { turns = eight; moves = moves } ∷ record { turns = []; moves = [] } ∷ []
 
--- it is a run in the field, which has written the answers down; the third command is of the first one's chain, no command between turns the
--- telescope, and nothing disturbs the instrument. So when the third is executed, behind both others, the telescope points there
+-- this is a run in the field that wrote all three answers down; the third command is of the first one's chain, no command
+-- between the two turns the telescope, and nothing disturbs the instrument. So when the third is executed, behind both
+-- others, the telescope points where the first pointed it
 pub record IsPointedInField : Type 0 where
   pub field : IsInField ends IsFittingState kept_of plan commands scope acts before runs
   pub records : (stood plan commands scope acts).records ≡ records_with first second third

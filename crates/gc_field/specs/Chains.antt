@@ -34,7 +34,7 @@ use Rattle.gc_field.specs.Shown.{Stretch, stretches}
 
 -- What happens between two executions.
 
--- the instrument doesn't start anew at any of these moves
+-- no start of the instrument is among these moves
 abbrev pub HasNoStartBetween : {State : Type 0} → List (Move State) → Type 0
 HasNoStartBetween [] = Unit {0}
 HasNoStartBetween (Sends target call deadline ∷ ms) = HasNoStartBetween ms
@@ -46,7 +46,7 @@ HasNoStartBetween (Anew ∷ ms) = ⊥
 HasNoStartBetween (Changes state ∷ ms) = HasNoStartBetween ms
 HasNoStartBetween (Joins line ∷ ms) = HasNoStartBetween ms
 
--- it neither starts anew nor changes by itself
+-- the instrument neither starts anew nor changes by itself among these moves
 abbrev pub IsUndisturbed : {State : Type 0} → List (Move State) → Type 0
 IsUndisturbed [] = Unit {0}
 IsUndisturbed (Sends target call deadline ∷ ms) = IsUndisturbed ms
@@ -64,7 +64,7 @@ AreCalls sent [] [] = Unit {0}
 AreCalls sent (n ∷ ns) (call ∷ calls) = ((r : Sent) × (slice_get sent n ≡ Some r) × (r.call ≡ call)) × AreCalls sent ns calls
 AreCalls sent _ _ = ⊥
 
--- what these calls make of an instrument, one behind the other, where this is what one makes of it
+-- the instrument's state behind these calls, one after the other, where one call changes it by this function
 abbrev pub executing : {State : Type 0} → (State → Call → State) → State → List Call → State
 executing effect s [] = s
 executing effect s (call ∷ calls) = executing effect (effect s call) calls

@@ -22,12 +22,14 @@ use Rattle.gc_field.specs.Runs.{IsInField}
 use Rattle.gc_field.specs.Shown.{Stretch}
 use Rattle.gc_field.specs.Witness.{plan, eight}
 
--- its state: how many requests it has executed since it started, and what it keeps, the last one's id and the count by then
+-- the state of this instrument: how many requests it has executed since it started, and what it keeps: the last request's
+-- id, and the count by then
 pub record Counter : Type 0 where
   pub count : ℕ
   pub keeps : Keeper
 
--- what is kept for this id comes again; or the request is executed, and counted
+-- what the instrument does with a request: it sends again what it keeps for the request's id, or executes the request and
+-- counts it
 abbrev pub counted_or : Counter → ℕ → Option ℕ → Handed Counter
 counted_or s id (Some n) = record { state = s; reply = value id n; executed = false }
 counted_or s id None = record { state = record { count = suc s.count; keeps = Some (id, suc s.count) }; reply = value id (suc s.count); executed = true }
@@ -35,18 +37,18 @@ counted_or s id None = record { state = record { count = suc s.count; keeps = So
 abbrev pub counting : Ends Counter
 counting = record { handed = λ s id call. counted_or s id (held s.keeps id); restarted = λ s. record { count = 0; keeps = None }; heard = heard; joint = false }
 
--- the line that it keeps
+-- the reply that the instrument keeps
 abbrev pub kept_by : Counter → Option KeptReply
 kept_by s = kept s.keeps
 
--- its state apart from that, and what executing a call makes of it
+-- the state apart from what is kept, and the effect of a call on it
 abbrev pub bare : Counter → Counter
 bare s = record { count = s.count; keeps = None }
 
 abbrev pub counts : Counter → Call → Counter
 counts s call = record { count = suc s.count; keeps = s.keeps }
 
--- its replies to the eight null procedures and to the three commands: it had executed 27 requests before
+-- the replies to the eight null procedures and to the three commands: the instrument had executed 27 requests before
 abbrev pub begun : List (List ℕ)
 begun =
     codes "%R1P,0,6:0,28" ∷ codes "%R1P,0,5:0,29" ∷ codes "%R1P,0,4:0,30" ∷ codes "%R1P,0,3:0,31" ∷ codes "%R1P,0,2:0,32" ∷ codes "%R1P,0,1:0,33"
@@ -70,16 +72,17 @@ moves = moves_with first second third
 abbrev pub before : UnderWay Counter
 before = none_under_way (record { count = 27; keeps = None })
 
--- one stretch, and nothing behind the end
+-- the run as one stretch, with nothing behind the end
 abbrev pub stretch : Stretch Counter
 stretch = record { from = leaves (turned counting eight (begins before)); moves = moves }
 
 abbrev pub runs : List (Run Counter)
 runs = record { turns = eight; moves = moves } ∷ record { turns = []; moves = [] } ∷ []
 
--- all that the law of chains asks is so of it: it is an instrument in each of its states, one that keeps its reply, and that is what a call
--- makes of it. This is a run in the field, whose third command is of the first one's chain, and nothing disturbs the instrument. So the
--- answers were made on executing these two, and what it was at the third is what the first and the second made of it
+-- this run meets all premises of the law of chains: the instrument is one in each of its states, keeps its reply, and a call
+-- has that effect on it. The run is in the field, its third command is of the first one's chain, and nothing disturbs the
+-- instrument. So both answers were made on executing their requests, and the state at the third command is what the first
+-- and the second made of it
 pub record IsCountedInField : Type 0 where
   pub is : IsAnInstrument counting AnyState kept_by
   pub keeps : KeepsItsReply counting AnyState kept_by

@@ -27,7 +27,7 @@ use Rattle.gc_field.specs.Instrument.{IsAnInstrument, AnyState, nothing}
 use Rattle.gc_field.specs.Runs.{IsInField}
 use Rattle.gc_field.specs.Witness.{asked, at, eight, exchanged}
 
--- its state is what it measures, which it answers to whatever it is asked; behind a start that is 0
+-- the instrument: its state is the number that it measures, with which it answers every request; a start sets it to 0
 abbrev pub drifting : Ends ℕ
 drifting =
     record {
@@ -37,7 +37,7 @@ drifting =
       joint = false;
     }
 
--- one at a time, given up after 100 ms, one cycle, quiet after 10, and three new tries
+-- the plan of this run: one request at a time, deadlines of 100 ms, one cycle, a quiet time of 10 ms, and three new tries
 abbrev pub plan : Plan
 plan = record { width = 1; deadline = 100; every = 0; cycles = 1; quiet = 10; retries = 3 }
 
@@ -48,7 +48,7 @@ commands =
     ∷ record { command = record { target = 8; call = InstrumentNo }; deadline = 100; chained = false }
     ∷ []
 
--- at most a hundred acts; what a reply says is this, as that to the second command does
+-- the scope of this run: at most a hundred acts; every reply is taken to say what the reply to the second command says
 abbrev pub scope : Scope
 scope = record { turns = 100; reads = λ call line. Value (Long (pos 31)) }
 
@@ -61,8 +61,9 @@ begun =
 abbrev pub answer : List ℕ
 answer = codes "%R1P,0,1:0,31"
 
--- the first null procedure goes out again at its deadline, and the dead line is closed and made again; there the beginning goes on with it.
--- The first command is given up; the connection breaks, and the second command's reply comes over the next one
+-- the acts of the run: the first null procedure goes out again at its deadline, and the dead line is closed and connected
+-- again; the beginning goes on there. The first command is given up; the connection breaks, and the second command's reply
+-- comes over the next one
 abbrev pub acts : List Act
 acts =
     Opened
@@ -100,12 +101,13 @@ acts =
     ∷ []
     )
 
--- the first reply to the first null procedure is lost, and so is the second time that it goes out
+-- what the line does while the station begins: it loses the first reply to the first null procedure, and the second sending
+-- of that
 abbrev pub turns : List (Turn ℕ)
 turns = Asks ∷ Reaches ∷ turn.Down_lose 0 ∷ Asks ∷ turn.Up_lose 0 ∷ turn.Changes 12 ∷ eight
 
--- the first command is answered, and that reply is lost; the second command reaches it behind a start, and what it measures by then is the
--- answer, which comes over another connection
+-- what the line does then: the first command is answered, and that reply is lost; the second command reaches the instrument
+-- behind a start, and is answered with what it measures by then, over another connection
 abbrev pub moves : List (Move ℕ)
 moves =
     Tells 220
@@ -128,12 +130,12 @@ moves =
     ∷ Comes answer
     ∷ []
 
--- nothing happens behind the end
+-- the whole run, with nothing behind the end
 abbrev pub runs : List (Run ℕ)
 runs = record { turns = turns; moves = moves } ∷ record { turns = []; moves = [] } ∷ []
 
--- it is an instrument, and this a run in the field, behind which no act follows. It has written the first command down as lost, and the
--- second one's answer; and that was made on executing the second command's request
+-- the instrument is one, and this is a run in the field, behind which no act follows. It wrote the first command down as
+-- lost, and the second one's answer, which was made on executing the second command's request
 pub record IsAnsweredByDrifting : Type 0 where
   pub is : IsAnInstrument drifting AnyState nothing
   pub field : IsInField drifting AnyState nothing plan commands scope acts (none_under_way 5) runs

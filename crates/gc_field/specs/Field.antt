@@ -10,7 +10,7 @@ use Rattle.gc_world.specs.Clients.{by_ids, ids_open}
 use Rattle.gc_world.specs.World.{Numbered, Request, Wire, Ends, Rule, World, Step, Send, Up_deliver, Up_lose, Up_repeat, Down_deliver, Down_lose, Down_repeat, Expire, Restart_client, Restart_instrument, Nothing, started, on_wire, happens}
 use Rattle.gc_field.specs.Instrument.{MayBecome}
 
--- what may happen next
+-- one step in the field
 pub data Move (State : Type 0) : Type 0 where
   -- the client's part: a request goes out, whole or in part; a moment is told; a reply comes; a line comes that is no reply with an id
   Sends : (target : ℕ) (call : Call) (deadline : ℕ) → Move State
@@ -27,7 +27,7 @@ pub data Move (State : Type 0) : Type 0 where
   -- is its reply
   Joins : (line : List ℕ) → Move State
 
--- the client has no part in it, and nothing starts anew
+-- a step of the line alone: the client has no part in it, and nothing starts anew
 abbrev pub IsOfLine : Step → Type 0
 IsOfLine (Send target call deadline) = ⊥
 IsOfLine Up_deliver = Unit {0}
@@ -41,7 +41,7 @@ IsOfLine Restart_client = ⊥
 IsOfLine Restart_instrument = ⊥
 IsOfLine Nothing = Unit {0}
 
--- two requests reach the instrument as one line, which has this reply
+-- the wire once two requests reached the instrument as one line, which has this reply
 abbrev pub joined : {State : Type 0} → Wire State → List (Numbered Request) → List ℕ → Wire State
 joined w (x ∷ y ∷ rest) line =
     let reply : Numbered (List ℕ) = record { number = x.number; line = line } in
@@ -82,7 +82,7 @@ module _ {Client State : Type 0} where
   ArePossible ends Good kept rule [] w = Unit {0}
   ArePossible ends Good kept rule (m ∷ ms) w = IsPossible Good kept w m × ArePossible ends Good kept rule ms (moves ends rule w m)
 
--- what the moves are to the client: those of the line are nothing to it
+-- the client's steps among these moves; moves of the line are nothing to it
 abbrev pub seen : {State : Type 0} → List (Move State) → List client.Step
 seen [] = []
 seen (Sends target call deadline ∷ ms) = client.Send target call deadline ∷ seen ms
@@ -94,7 +94,7 @@ seen (Anew ∷ ms) = seen ms
 seen (Changes state ∷ ms) = seen ms
 seen (Joins line ∷ ms) = seen ms
 
--- the first request goes out alone: no other before a reply came. It is told whether the first went out
+-- the first request goes out alone: no other one before a reply came. The flag says whether the first one went out already
 abbrev pub IsFirstAlone : {State : Type 0} → Bool → List (Move State) → Type 0
 IsFirstAlone out [] = Unit {0}
 IsFirstAlone false (Sends target call deadline ∷ ms) = IsFirstAlone true ms

@@ -9,7 +9,7 @@ use Rattle.gc_catalogue.specs.declared.call.Call.{Call}
 use Rattle.gc_catalogue.specs.Texts.{request_line}
 use Rattle.gc_instrument.specs.Laws.{HasNoRequest}
 
--- the bytes of a request
+-- the bytes of a request, with its CR LF
 abbrev pub request_bytes : ℕ → Call → List ℕ
 request_bytes id call = with_end (request_line (Some id) call)
 

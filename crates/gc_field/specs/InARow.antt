@@ -18,7 +18,7 @@ use Rattle.gc_field.specs.Laws.{kept_of}
 use Rattle.gc_field.specs.Runs.{IsRunFaithful}
 use Rattle.gc_field.specs.Shown.{AreShownAs}
 
--- a station and its run, with what happens on the line meanwhile, for each of its parts
+-- a station with its plan, its commands and its acts, and what happens on the line in each part of its run
 pub record Program (State : Type 0) : Type 0 where
   pub plan : Plan
   pub commands : List Task

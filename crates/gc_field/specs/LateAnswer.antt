@@ -27,14 +27,15 @@ commands =
     ∷ record { command = record { target = 8; call = InstrumentNo }; deadline = 100; chained = false }
     ∷ []
 
--- the replies to the two
+-- the replies to the two requests
 abbrev pub late : List ℕ
 late = codes "%R1P,0,0:0,123456"
 
 abbrev pub answer : List ℕ
 answer = codes "%R1P,0,1:0,123456"
 
--- it begins; then nothing comes until the first command's deadline; the second one goes out, and then both replies come
+-- the acts of the run: the station begins; then nothing comes until the first command's deadline; the second one goes out,
+-- and then both replies come
 abbrev pub acts : List Act
 acts =
     begun_with replies (
@@ -50,7 +51,8 @@ acts =
     ∷ []
     )
 
--- each request reaches the simulator as it is at the start, and each reply comes, that of the first command behind its deadline
+-- what the line does meanwhile: each request reaches the simulator, and each reply comes, that of the first command behind
+-- its deadline
 abbrev pub moves : List (Move State)
 moves =
     Tells 15
@@ -67,7 +69,7 @@ moves =
     ∷ Comes answer
     ∷ []
 
--- behind the end nothing; and nothing is under way at the start
+-- the whole run: nothing is in flight at the start, and nothing happens behind the end
 abbrev pub runs : List (Run State)
 runs = record { turns = eight; moves = moves } ∷ record { turns = []; moves = [] } ∷ []
 
@@ -77,8 +79,8 @@ before = none_under_way simulator_opening
 abbrev pub from : UnderWay State
 from = leaves (turned ends eight (begins before))
 
--- it is a run in the field, behind which no act follows. It has written the first command down as late, and the second one's answer; and
--- each of these lines was made on executing its own request
+-- this is a run in the field, behind which no act follows. It wrote the first command down as late, and the second one's
+-- answer; and each of these lines was made on executing its own request
 pub record IsLateInField : Type 0 where
   pub field : IsInField ends IsFittingState kept_of plan commands scope acts before runs
   pub over : is_over (stood plan commands scope acts).progress ≡ true

@@ -16,7 +16,7 @@ use Rattle.gc_field.specs.Once.{ActsOnce, IsInOrder}
 abbrev pub asked : Sent → Asked
 asked r = record { target = r.target; call = r.call }
 
--- the request was executed here
+-- the request with this number is among those that were executed
 abbrev pub WasExecuted : List ℕ → ℕ → Type 0
 WasExecuted executed m = (j : ℕ) × (slice_get executed j ≡ Some m)
 
@@ -69,7 +69,7 @@ AnswersAreTheirOwn State =
     (ends : Ends State) (kept : State → Option KeptReply) → IsAnInstrument ends AnyState kept →
     (width : ℕ) → width ≤ WINDOW → (state : State) (ms : List (Move State)) → IsField width ends AnyState kept state ms → IsFaithful width ends state ms AnyState kept
 
--- what the simulator keeps
+-- the reply that the simulator keeps
 abbrev pub kept_of : State → Option KeptReply
 kept_of s = s.kept
 
@@ -79,7 +79,7 @@ pub record SimulatorIsAnInstrument : Type 0 where
   pub is : IsAnInstrument ends IsFittingState kept_of
   pub keeps : KeepsItsReply ends IsFittingState kept_of
 
--- the same for it, in any state that fits
+-- the same for the simulator, in any state that fits
 abbrev pub SimulatorsAnswersAreTheirOwn : Type 0
 SimulatorsAnswersAreTheirOwn =
     (width : ℕ) → width ≤ WINDOW → (state : State) → IsFittingState state → (ms : List (Move State)) → IsField width ends IsFittingState kept_of state ms

@@ -17,23 +17,23 @@ use Rattle.gc_field.specs.Begun.{ids_begun}
 use Rattle.gc_field.specs.Field.{Move, Sends, Comes, OnLine, Joins, ArePossible}
 use Rattle.gc_field.specs.Laws.{kept_of}
 
--- the reply to what doesn't read, with the id of the request that was cut
+-- the reply to a line that doesn't read, with the id of the request that was cut
 abbrev pub refusal : List ℕ
 refusal = codes "%R1P,3080,1:0"
 
--- the front of that one and the whole of the next, as one line
+-- the front of the cut request and the whole next request, as one line
 abbrev pub joint : List ℕ
 joint = codes "%R1Q,5003,1:%R1Q,0,2:"
 
--- once it has begun, two requests are under way, of which the first was cut
+-- the moves before: a client that has begun sends two requests, of which the first is cut
 abbrev pub before : List (Move State)
 before = Sends 0 NullProc 9 ∷ OnLine Up_deliver ∷ Comes (codes "%R1P,0,0:0") ∷ Sends 7 InstrumentNo 9 ∷ Sends 8 NullProc 9 ∷ []
 
--- its front and the second one come as one line, and are answered
+-- the moves behind: the front of the first and the second come as one line, which is answered
 abbrev pub behind : List (Move State)
 behind = Joins refusal ∷ Comes refusal ∷ []
 
--- all before that is possible, and the reply to that line is booked for the request that was cut
+-- the moves before are possible, and the reply to that one line is booked for the request that was cut
 pub record IsBookedJoined : Type 0 where
   -- twelve bytes of the one and the whole of the other are one line, and a request with the id of the first
   pub line : lines (take 12 (with_end (codes "%R1Q,5003,1:")) ++ with_end (codes "%R1Q,0,2:")) ≡ joint ∷ []

@@ -13,7 +13,7 @@ use Rattle.gc_links.specs.declared.link.Moment.{Moment}
 use Rattle.gc_links.specs.Acts.{Act, Told, Untold, Put, Cut, Gave, Silent, Ended, Broke, Closed, Opened, Unopened}
 use Rattle.gc_station.specs.Model.{lines_behind}
 
--- these bytes are the line of a request that the client sends
+-- these bytes are the line of a request that the client sends by this step
 pub record IsRequest (client : ById) (bytes : List ℕ) (steps : List Step) : Type 0 where
   pub target : ℕ
   pub call : Call
@@ -23,17 +23,19 @@ pub record IsRequest (client : ById) (bytes : List ℕ) (steps : List Step) : Ty
   pub text : bytes ≡ with_end (request_line (Some sending.id) call)
   pub step : steps ≡ Send target call deadline ∷ []
 
--- or a line feed, which clears the receiver and is no request
+-- what bytes that are put mean to the client: a request that it sends; or a line feed, which clears the receiver and is no
+-- request
 abbrev pub IsPut : ById → List ℕ → List Step → Type 0
 IsPut client bytes steps = ((bytes ≡ 10 ∷ []) × (steps ≡ [])) ⊎ IsRequest client bytes steps
 
--- a piece is heard: the moment gives up what has reached its deadline, and then each line that the piece completes is heard, behind
--- these bytes since the last line feed
+-- a piece that is heard: the moment gives up what has reached its deadline, and then each line that the piece completes is
+-- heard, behind these bytes since the last line feed
 pub record IsHeard (before piece : List ℕ) (m : Moment) (steps : List Step) (behind : List ℕ) : Type 0 where
   pub lines : steps ≡ Expire m.elapsed ∷ map Hear (lines_behind before piece)
   pub rest : behind ≡ rest_behind before piece
 
--- or it is dropped, as while a connection is drained: the moment is told, and the lines that came are lost by the line
+-- a piece that is dropped, as while a connection is drained: the moment is told, and the lines that came count as lost by
+-- the line
 pub record IsDropped (before : List ℕ) (m : Moment) (steps : List Step) (behind : List ℕ) : Type 0 where
   pub lines : steps ≡ Expire m.elapsed ∷ []
   pub rest : behind ≡ before
@@ -61,7 +63,7 @@ abbrev pub client_after : ById → List Step → ById
 client_after client [] = client
 client_after client (step ∷ steps) = client_after (stepped client step) steps
 
--- acts are these steps of a client, from where it stands
+-- these acts are these steps of the client, from this client on
 abbrev pub Amount : ById → List ℕ → List Act → List Step → Type 0
 Amount client before [] steps = steps ≡ []
 Amount client before (act ∷ acts) steps =

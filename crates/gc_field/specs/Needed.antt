@@ -20,7 +20,7 @@ use Rattle.gc_field.specs.Instrument.{IsAnInstrument, AnyState, nothing}
 use Rattle.gc_field.specs.Laws.{WasExecuted}
 use Rattle.gc_field.specs.Once.{ActsOnce}
 
--- the clauses
+-- the clauses of what is asked of an instrument
 pub data Clause : Type 0 where
   Hears : Clause
   Replies : Clause
@@ -30,7 +30,7 @@ pub data Clause : Type 0 where
   StaysGood : Clause
   StartsGood : Clause
 
--- it is as an instrument has to be, but perhaps for this clause
+-- this instrument meets every clause, but perhaps this one
 pub record IsAllBut {State : Type 0} (x : Clause) (ends : Ends State) (Good : State → Type 0) (kept : State → Option KeptReply) : Type 0 where
   pub hears : (x ≡ Hears) ⊎ ((line : List ℕ) → ends.heard line ≡ heard line)
   pub replies : (x ≡ Replies) ⊎ ((state : State) (id : ℕ) (call : Call) → Good state → id < IDS → heard (ends.handed state id call).reply ≡ Some id)
@@ -56,14 +56,14 @@ pub record IsBookedUnexecuted {State : Type 0} (ends : Ends State) (Good : State
   pub settled : slice_get (behind WINDOW ends (none_under_way state) ms).wire.settled m ≡ Some (record { target = 7; call = call; outcome = Answered line })
   pub executed : WasExecuted (behind WINDOW ends (none_under_way state) ms).wire.executed m → ⊥
 
--- so this clause is needed
+-- this clause is needed: the instrument meets every other one, and has an answer booked for a request that it never executed
 pub record IsNeeded {State : Type 0} (x : Clause) (ends : Ends State) (Good : State → Type 0) (kept : State → Option KeptReply) (state : State)
     (ms : List (Move State)) (m : ℕ) (call : Call) (line : List ℕ) : Type 0 where
   pub all_but : IsAllBut x ends Good kept
   pub good : Good state
   pub booked : IsBookedUnexecuted ends Good kept state ms m call line
 
--- a reply with a number, and a refusal
+-- a reply with this id that gives a number, and one that refuses
 abbrev pub value : ℕ → ℕ → List ℕ
 value id n = reply_text (record { rc_com = 0; id = Some id; rc = 0; params = decimal n })
 
@@ -80,7 +80,7 @@ asks_two line = Sends 7 NullProc 9 ∷ Sends 7 InstrumentNo 9 ∷ OnLine Up_deli
 
 -- Instruments that keep a reply.
 
--- their state is that, the id of a request and the number in its reply; or nothing
+-- the state of such an instrument: the id of a request and the number in its reply, or nothing
 abbrev pub Keeper : Type 0
 Keeper = Option (ℕ × ℕ)
 
@@ -89,21 +89,23 @@ abbrev pub kept : Keeper → Option KeptReply
 kept None = None
 kept (Some x) = Some (record { id = x.0; line = value x.0 x.1 })
 
--- the number that is kept for an id
+-- the number that is kept for this id, if one is
 abbrev pub held : Keeper → ℕ → Option ℕ
 held None id = None
 held (Some x) id = if nat_eq x.0 id then Some x.1 else None
 
--- the number that is kept for this id comes again; or the request is dealt with, and its line is kept
+-- what such an instrument does with a request: it sends the number again that it keeps for this id, or deals with the
+-- request and keeps its reply
 abbrev pub again_or : ℕ → Keeper → Option ℕ → Handed Keeper
 again_or id k (Some n) = record { state = k; reply = value id n; executed = false }
 again_or id k None = record { state = Some (id, 0); reply = value id 0; executed = true }
 
--- one that is as it has to be
+-- an instrument that meets every clause
 abbrev pub keeper : Ends Keeper
 keeper = record { handed = λ k id call. again_or id k (held k id); restarted = λ k. None; heard = heard; joint = true }
 
--- one that refuses what it doesn't know, here all but the null procedure, and still keeps an older line: at the ninth request that comes again
+-- what an instrument does that refuses what it doesn't know, here all but the null procedure, and still keeps an older
+-- reply, which comes again at the ninth request
 abbrev pub refuses_or : Bool → Keeper → ℕ → Handed Keeper
 refuses_or true k id = again_or id k (held k id)
 refuses_or false k id = record { state = k; reply = refusal id; executed = true }
@@ -117,26 +119,26 @@ nine =
     asks NullProc (value 0 0) (asks InstrumentNo (refusal 1) (asks InstrumentNo (refusal 2) (asks InstrumentNo (refusal 3) (asks InstrumentNo (refusal 4)
     (asks InstrumentNo (refusal 5) (asks InstrumentNo (refusal 6) (asks InstrumentNo (refusal 7) (asks NullProc (value 0 0) []))))))))
 
--- one that behind a start has a line of long ago
+-- an instrument that has a line of long ago behind a start
 abbrev pub remembers : Ends Keeper
 remembers = record keeper { restarted = λ k. Some (1, 27) }
 
--- it starts between two requests
+-- its moves: it starts between two requests
 abbrev pub started : List (Move Keeper)
 started = asks NullProc (value 0 0) (Anew ∷ asks InstrumentNo (value 1 27) [])
 
--- one to which another client sends, too, so that what it keeps changes by itself
+-- the moves of an instrument to which another client sends, too, so that what it keeps changes by itself
 abbrev pub shared : List (Move Keeper)
 shared = asks NullProc (value 0 0) (Changes (Some (1, 27)) ∷ asks InstrumentNo (value 1 27) [])
 
 -- Instruments that keep none: their state says whether they are in order.
 
--- another id, but for 0
+-- an id that differs from this one, unless that is 0
 abbrev pub turned : ℕ → ℕ
 turned zero = 0
 turned (suc id) = id + 2
 
--- the id of its reply: another one, where it is out of order
+-- the id of a reply to a request with this id: another one where the instrument is out of order
 abbrev pub id_of : Bool → ℕ → ℕ
 id_of false id = id
 id_of true id = turned id
@@ -145,23 +147,24 @@ id_of true id = turned id
 abbrev pub answers_in : Bool → ℕ → Bool → Handed Bool
 answers_in broken id behind = record { state = behind; reply = value (id_of broken id) 0; executed = true }
 
--- its good states
+-- the good states: the instrument is in order
 abbrev pub InOrder : Bool → Type 0
 InOrder broken = broken ≡ false
 
--- one that is always out of order
+-- an instrument that is always out of order
 abbrev pub mistaken : Ends Bool
 mistaken = record { handed = λ b id call. answers_in true id b; restarted = λ b. b; heard = heard; joint = true }
 
--- one that is read by another grammar
+-- an instrument whose lines are read by another grammar
 abbrev pub misheard : Ends Bool
 misheard = record mistaken { handed = λ b id call. answers_in false id b; heard = λ line. option_map turned (heard line) }
 
--- one that answers without having dealt with the request
+-- an instrument that answers without having dealt with the request
 abbrev pub idle : Ends Bool
 idle = record mistaken { handed = λ b id call. record { state = b; reply = value id 0; executed = false } }
 
--- one that a request puts out of order, one that a start does, and one that is as it has to be in its good states
+-- three instruments: one that a request puts out of order, one that a start does, and one that meets every clause in its
+-- good states
 abbrev pub wears_out : Ends Bool
 wears_out = record mistaken { handed = λ b id call. answers_in b id true; restarted = λ b. false }
 
@@ -173,15 +176,15 @@ sound = record mistaken { handed = λ b id call. answers_in b id b }
 
 -- Acts once.
 
--- a request that comes twice
+-- the moves of a request that comes twice
 abbrev pub comes_twice : {State : Type 0} → List (Move State)
 comes_twice = asks NullProc (value 0 0) (Sends 7 InstrumentNo 9 ∷ OnLine (Up_repeat 0) ∷ OnLine Up_deliver ∷ OnLine Up_deliver ∷ [])
 
--- one that keeps its reply, and deals with each request anew
+-- an instrument that keeps its reply, and deals with each request anew
 abbrev pub deals_anew : Ends Keeper
 deals_anew = record keeper { handed = λ k id call. again_or id k None }
 
--- one that keeps none
+-- an instrument that keeps no reply
 abbrev pub forgets : Ends Bool
 forgets = record mistaken { handed = λ b id call. answers_in false id b }
 

@@ -30,22 +30,22 @@ use Rattle.gc_field.specs.Shown.{Stretch, stretches}
 abbrev pub behind_call : State → Call → State
 behind_call s call = (exec s call).state
 
--- its state apart from what it keeps
+-- the simulator's state apart from what it keeps
 abbrev pub bare : State → State
 bare s = with_kept None s
 
--- a call that may turn the telescope
+-- whether a call may turn the telescope
 abbrev pub turns : Call → Bool
 turns (Position hz v pos_mode atr_mode dummy) = true
 turns (ChangeFace pos_mode atr_mode dummy) = true
 turns (FineAdjust area_hz area_v dummy) = true
 turns _ = false
 
--- no command of the places between these turns it
+-- no command from place a up to place b turns the telescope
 abbrev pub AreStill : List Task → ℕ → ℕ → Type 0
 AreStill commands a b = (p : ℕ) (task : Task) → a < p → p < b → slice_get commands p ≡ Some task → turns task.command.call ≡ false
 
--- of two states of an instrument: the telescope points to the same direction, in the same face
+-- in two states of an instrument the telescope points in the same direction, in the same face
 pub record PointsAs (s t : State) : Type 0 where
   pub pointing : s.pointing ≡ t.pointing
   pub face : s.face ≡ t.face

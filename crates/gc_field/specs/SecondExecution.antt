@@ -12,7 +12,8 @@ use Rattle.gc_field.specs.Begun.{behind, ids_begun}
 use Rattle.gc_field.specs.Field.{Move, Sends, Comes, OnLine, Anew, ArePossible}
 use Rattle.gc_field.specs.Laws.{kept_of}
 
--- once it has begun, the client's third request comes twice, its first reply is lost, and the instrument starts before it comes again
+-- the moves: the third request of a client that has begun comes twice, its first reply is lost, and the instrument starts
+-- before it comes again
 abbrev pub moves : List (Move State)
 moves =
     Sends 0 NullProc 100
@@ -30,7 +31,7 @@ moves =
     ∷ Comes (codes "%R1P,0,2:0,0")
     ∷ []
 
--- it is executed twice, and its answer is the second execution's, in the state behind the start
+-- the third request is executed twice, and its answer is the second execution's, in the state behind the start
 pub record IsExecutedAgain : Type 0 where
   pub possible : ArePossible ends IsFittingState kept_of (by_ids WINDOW ends) moves (ids_begun (none_under_way simulator_opening))
   pub executed : (behind WINDOW ends (none_under_way simulator_opening) moves).wire.executed ≡ 8 ∷ 9 ∷ 10 ∷ 10 ∷ []

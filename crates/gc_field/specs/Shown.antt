@@ -9,7 +9,7 @@ use Rattle.gc_field.specs.Begin.{Aged, Model, Turn, Asks, Comes, Foreign, Reache
 use Rattle.gc_field.specs.Beginnings.{Run, left_by_run}
 use Rattle.gc_field.specs.Field.{Move, seen}
 
--- the reply in front is heard
+-- the turn at which the reply in front is heard
 abbrev pub first_heard : List (Aged (List ℕ)) → List part.Turn
 first_heard [] = []
 first_heard (x ∷ rest) = part.Hears x.line ∷ []

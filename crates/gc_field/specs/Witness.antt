@@ -25,19 +25,19 @@ use Rattle.gc_field.specs.Field.{Move, Sends, Tells, Comes, OnLine}
 use Rattle.gc_field.specs.Laws.{kept_of}
 use Rattle.gc_field.specs.Runs.{IsInField}
 
--- so many at a time, given up after 100 ms, one cycle, quiet after 10, and one new try
+-- a plan with requests in flight up to this width, deadlines of 100 ms, one cycle, a quiet time of 10 ms, and one new try
 abbrev pub plan_of : ℕ → Plan
 plan_of width = record { width = width; deadline = 100; every = 0; cycles = 1; quiet = 10; retries = 1 }
 
--- one at a time
+-- the plan of this run: one request at a time
 abbrev pub plan : Plan
 plan = plan_of 1
 
--- a request for the instrument's number
+-- the command: a request for the instrument's number
 abbrev pub commands : List Task
 commands = record { command = record { target = 7; call = InstrumentNo }; deadline = 100; chained = false } ∷ []
 
--- at most a hundred acts; what a reply says is this, as that to the command does
+-- the scope of this run: at most a hundred acts; every reply is taken to say what the reply to the command says
 abbrev pub scope : Scope
 scope = record { turns = 100; reads = λ call line. Value (Long (pos 123456)) }
 
@@ -51,31 +51,31 @@ asked = codes "%R1Q,0,6:" ∷ codes "%R1Q,0,5:" ∷ codes "%R1Q,0,4:" ∷ codes 
 abbrev pub replies : List (List ℕ)
 replies = codes "%R1P,0,6:0" ∷ codes "%R1P,0,5:0" ∷ codes "%R1P,0,4:0" ∷ codes "%R1P,0,3:0" ∷ codes "%R1P,0,2:0" ∷ codes "%R1P,0,1:0" ∷ codes "%R1P,0,0:0" ∷ codes "%R1P,0,7:0" ∷ []
 
--- at this moment each of these goes out, and has its reply
+-- the acts by which each of these lines goes out at this moment and has its reply
 abbrev pub exchanged : ℕ → List (List ℕ) → List (List ℕ) → List Act → List Act
 exchanged now (line ∷ others) (reply ∷ later) acts = Put (with_end line) ∷ Told (at now) ∷ Gave (with_end reply) (at now) ∷ exchanged now others later acts
 exchanged now _ _ acts = acts
 
--- a connection is made and cleared, and all eight are answered at once
+-- the acts of a beginning: a connection is made and cleared, and all eight null procedures are answered at once
 abbrev pub begun_with : List (List ℕ) → List Act → List Act
 begun_with answers acts = Opened ∷ Put (10 ∷ []) ∷ Told (at 0) ∷ exchanged 10 asked answers acts
 
--- meanwhile each reaches the instrument, and its reply comes
+-- what the line does meanwhile: each null procedure reaches the instrument, and its reply comes
 abbrev pub eight : {S : Type 0} → List (Turn S)
 eight =
     Asks ∷ Reaches ∷ turn.Comes ∷ Asks ∷ Reaches ∷ turn.Comes ∷ Asks ∷ Reaches ∷ turn.Comes ∷ Asks ∷ Reaches ∷ turn.Comes
     ∷ Asks ∷ Reaches ∷ turn.Comes ∷ Asks ∷ Reaches ∷ turn.Comes ∷ Asks ∷ Reaches ∷ turn.Comes ∷ Asks ∷ Reaches ∷ turn.Comes ∷ []
 
--- at the start a reply with id 0 is under way, and a request with that id, the first command's
+-- in flight at the start: a reply with id 0, and a request with that id, which the first command will have too
 abbrev pub before : UnderWay State
 before = record { up = record { id = 0; call = InstrumentNo } ∷ []; down = codes "%R1P,0,0:0,654321" ∷ []; state = simulator_opening }
 
--- the reply to the command, and that to the request of before
+-- the reply to the command, and that to the request from before
 abbrev pub answer : List ℕ
 answer = codes "%R1P,0,0:0,123456"
 
--- a connection is made and cleared; the first null procedure goes out, and both lines of before come, which are dropped; all eight are
--- answered; then the command goes out and is answered; and it is closed
+-- the acts of the run: a connection is made and cleared; the first null procedure goes out, and both old replies come, which
+-- are dropped; all eight are answered; then the command goes out and is answered, and the connection is closed
 abbrev pub acts : List Act
 acts =
     Opened
@@ -95,19 +95,20 @@ acts =
     ∷ []
     )
 
--- what happens on the line meanwhile: each request reaches the simulator as it is at the start, that of before first, and each reply comes
+-- what the line does meanwhile: each request reaches the simulator as it is at the start, the old one first, and each reply
+-- comes
 abbrev pub turns : List (Turn State)
 turns = Asks ∷ turn.Comes ∷ Reaches ∷ turn.Comes ∷ Reaches ∷ turn.Comes ∷ drop 3 eight
 
 abbrev pub moves : List (Move State)
 moves = Tells 15 ∷ Sends 7 InstrumentNo 115 ∷ Tells 15 ∷ OnLine Up_deliver ∷ Tells 20 ∷ Comes answer ∷ []
 
--- and behind the end nothing
+-- the whole run, with nothing behind the end
 abbrev pub runs : List (Run State)
 runs = record { turns = turns; moves = moves } ∷ record { turns = []; moves = [] } ∷ []
 
--- it is a run in the field, behind which no act follows; it has written the command's answer down, and that was made on executing the
--- command's request
+-- this is a run in the field, behind which no act follows; it wrote the command's answer down, which was made on executing
+-- the command's request
 pub record IsAnsweredInField : Type 0 where
   pub field : IsInField ends IsFittingState kept_of plan commands scope acts before runs
   pub over : is_over (stood plan commands scope acts).progress ≡ true

@@ -23,7 +23,8 @@ pub fn simulators_answers_are_their_own_once_begun()
     ensures { SimulatorsAnswersAreTheirOwnOnceBegun }
 {}
 
-/// What a run that measures has under way has not the word: so a new beginning within a run, or behind one that had begun, has no premise.
+/// What a run has under way once it has begun doesn't contain the word as a subsequence of its ids. So a beginning within a
+/// run, or behind a run that had begun, needs no premise.
 pub fn rows_have_not_the_word<State>()
     ensures { RowsHaveNotTheWord State }
 {}

@@ -97,8 +97,8 @@ pub fn keeping_nothing_suffices<State>()
     ensures { KeepingNothingSuffices State }
 {}
 
-/// Each clause of what is asked of an instrument is needed: one that lacks that alone has an answer booked for a request that it never
-/// executed, or executes a request twice.
+/// Each clause of what is asked of an instrument is needed: there is an instrument that fails that clause alone and a run in
+/// which it has an answer booked for a request that it never executed, or executes a request twice.
 pub fn what_is_asked_is_needed()
     ensures { IsAllNeeded }
 {}

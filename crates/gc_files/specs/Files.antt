@@ -18,7 +18,7 @@ stepped held (Append bytes) = held ++ bytes
 stepped held (Cut size) = take size held
 stepped held Sync = held
 
--- what it holds behind these
+-- what a file holds behind these steps
 abbrev pub behind : List ℕ → List Step → List ℕ
 behind held [] = held
 behind held (step ∷ steps) = behind (stepped held step) steps
@@ -29,7 +29,7 @@ InPart held (Append bytes) left = (k : ℕ) × (left ≡ held ++ take k bytes)
 InPart held (Cut size) left = (k : ℕ) × (size ≤ k) × (left ≡ take k held)
 InPart held Sync left = left ≡ held
 
--- a sync is among them
+-- whether a sync is among these steps
 abbrev pub has_sync : List Step → Bool
 has_sync [] = false
 has_sync (Sync ∷ steps) = true
@@ -49,11 +49,11 @@ content life = behind life.start life.steps
 abbrev pub IsKept : Life → Type 0
 IsKept life = (left : List ℕ) → MayLeave life.start life.steps left → left ≡ content life
 
--- the same life, some steps later
+-- the same life with these steps behind it
 abbrev pub later_by : List Step → Life → Life
 later_by steps life = record { start = life.start; steps = life.steps ++ steps }
 
--- what is known of a file came to be by these steps
+-- what is known of a file behind these steps, if anything was known before
 abbrev pub Adds : Option Life → Option Life → List Step → Type 0
 Adds old new steps = (life : Life) → old ≡ Some life → new ≡ Some (later_by steps life)
 
@@ -62,7 +62,7 @@ abbrev pub Makes : {X E : Type 0} → Option Life → Option Life → Result X E
 Makes old new (Ok x) step = Adds old new (step x ∷ [])
 Makes old new (Err _) step = new ≡ old
 
--- the n bytes at the front of buf stand behind the first so many, and there are none only at the end
+-- the n bytes at the front of buf are those behind the first `at` bytes of the file; n is 0 only at its end
 pub record ReadsAt (life : Life) (at n : ℕ) (buf : List ℕ) : Type 0 where
   pub bytes : take n buf ≡ take n (drop at (content life))
   pub within : n ≡ 0 → length (content life) ≤ at

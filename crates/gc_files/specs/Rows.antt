@@ -16,13 +16,13 @@ whole (b ∷ bs) = if has_feed (b ∷ bs) then b ∷ whole bs else []
 abbrev pub line : List ℕ → List ℕ
 line row = row ++ 10 ∷ []
 
--- one begins with the other: as far as both go, they are the same
+-- whether one list begins with the other: as far as both go, they are the same
 abbrev pub fits : List ℕ → List ℕ → Bool
 fits [] held = true
 fits (a ∷ sign) [] = true
 fits (a ∷ sign) (b ∷ held) = (a == b) && fits sign held
 
--- nothing is in it
+-- whether a list is empty
 abbrev pub is_none : List ℕ → Bool
 is_none [] = true
 is_none (b ∷ bs) = false
@@ -39,14 +39,14 @@ table head held = whole held ++ start_of head held
 abbrev pub mended : List ℕ → List Step
 mended held = if length (whole held) == length held then [] else Cut (length (whole held)) ∷ Sync ∷ []
 
--- nothing is cut
+-- whether none of these steps is a cut
 abbrev pub cuts_none : List Step → Bool
 cuts_none [] = true
 cuts_none (Append bytes ∷ steps) = cuts_none steps
 cuts_none (Sync ∷ steps) = cuts_none steps
 cuts_none (Cut size ∷ steps) = false
 
--- what they append
+-- the bytes that these steps append
 abbrev pub appended : List Step → List ℕ
 appended [] = []
 appended (Append bytes ∷ steps) = bytes ++ appended steps
@@ -69,20 +69,20 @@ pub record Mending (held : List ℕ) (steps : List Step) : Type 0 where
   pub count : ℕ
   pub is : steps ≡ take count (mended held)
 
--- bytes went out as far as these
+-- these bytes are a front of all of them
 pub record IsFront (front all : List ℕ) : Type 0 where
   pub rest : List ℕ
   pub split : all ≡ front ++ rest
 
--- a run, as far as it came, which had these bytes to append behind what it found
+-- what a run did to a file that held this, as far as it came, with these bytes to append
 abbrev pub ComesTo : List ℕ → List ℕ → List Step → Type 0
 ComesTo held all steps = Mending held steps ⊎ ((bytes : List ℕ) × Ran held steps bytes × IsFront bytes all)
 
--- an opening: the file is mended, and has its head
+-- an opening mended the file, which then has its head
 abbrev pub Opens : List ℕ → Option Life → Option Life → Type 0
 Opens head old new = (life : Life) → old ≡ Some life → (steps : List Step) × (new ≡ Some (later_by steps life)) × Ran (content life) steps (start_of head (content life))
 
--- an opening that failed, as far as it came
+-- an opening failed, and did a part of that
 abbrev pub OpensInPart : List ℕ → Option Life → Option Life → Type 0
 OpensInPart head old new = (life : Life) → old ≡ Some life → (steps : List Step) × (new ≡ Some (later_by steps life)) × ComesTo (content life) (start_of head (content life)) steps
 

@@ -52,7 +52,7 @@ abbrev pub Ended : Life → Run → Option (List ℕ) → Type 0
 Ended life run None = Unit {0}
 Ended life run (Some left) = MayLeave life.start (life.steps ++ run.steps) left
 
--- runs one after the other
+-- these runs happened to the file, one after the other
 abbrev pub Happen : List ℕ → Life → List Run → Type 0
 Happen head life [] = Unit {0}
 Happen head life (run ∷ runs) = IsRun head (content life) run × Ended life run run.left × Happen head (lived life run run.left) runs
@@ -61,13 +61,13 @@ abbrev pub life_after : Life → List Run → Life
 life_after life [] = life
 life_after life (run ∷ runs) = life_after (lived life run run.left) runs
 
--- of each run's rows the first so many
+-- the first rows of each run, by these counts
 abbrev pub rows_of : List Run → List ℕ → List ℕ
 rows_of [] counts = []
 rows_of (run ∷ runs) [] = []
 rows_of (run ∷ runs) (n ∷ counts) = lines (take n run.rows) ++ rows_of runs counts
 
--- so many of each run, at least those that were kept, and no more than there are
+-- a count for each run: at least the rows that were kept, and at most those that there are
 abbrev pub Counts : List Run → List ℕ → Type 0
 Counts [] [] = Unit {0}
 Counts [] (n ∷ counts) = ⊥
@@ -85,7 +85,7 @@ TablesLast = (head held : List ℕ) → IsHead head → (runs : List Run) → Ha
     → (left : List ℕ) → MayLeave (life_after (record { start = held; steps = [] }) runs).start (life_after (record { start = held; steps = [] }) runs).steps left
     → HasRows head (table head held) runs left
 
--- the first so many rows went out whole, the head before them
+-- the first `count` rows went out whole, the head before them
 abbrev pub WereWritten : List ℕ → List ℕ → List (List ℕ) → ℕ → List Step → Type 0
 WereWritten head held rows count steps =
     (count ≡ 0)
@@ -99,7 +99,7 @@ pub record IsKilled (head held : List ℕ) (run : Run) : Type 0 where
   pub written : WereWritten head held run.rows run.kept run.steps
   pub killed : run.left ≡ None
 
--- such runs one after the other
+-- these runs happened to the file, one after the other, each ended by itself or by a kill
 abbrev pub AreKilled : List ℕ → Life → List Run → Type 0
 AreKilled head life [] = Unit {0}
 AreKilled head life (run ∷ runs) = IsKilled head (content life) run × AreKilled head (later_by run.steps life) runs

@@ -9,7 +9,7 @@ abbrev pub known_content : Option Life → Option (List ℕ)
 known_content None = None
 known_content (Some life) = Some (content life)
 
--- a sync was made, or nothing
+-- either a sync was made, or nothing
 abbrev pub KeepsAll : Option Life → Option Life → Type 0
 KeepsAll old new = (new ≡ old) ⊎ Adds old new (Sync ∷ [])
 
@@ -17,31 +17,31 @@ KeepsAll old new = (new ≡ old) ⊎ Adds old new (Sync ∷ [])
 abbrev pub life_in : {F : Type 0} {D : Ghosts F} → RowsFile F D → Option Life
 life_in {F} {D} sink = D.life sink.file
 
--- it has failed
+-- whether the sink has failed
 abbrev pub has_failed : {F : Type 0} {D : Ghosts F} → RowsFile F D → Bool
 has_failed sink = sink.broken
 
--- it was opened so that `keep` syncs
+-- whether the sink was opened so that each `keep` syncs
 abbrev pub asks_sync : {F : Type 0} {D : Ghosts F} → RowsFile F D → Bool
 asks_sync sink = sink.sync
 
--- what it was opened with: what a new file gets first, and what such a file begins with
+-- the head and the sign that the sink was opened with: what a new file gets first, and what such a file begins with
 abbrev pub head_in : {F : Type 0} {D : Ghosts F} → RowsFile F D → List ℕ
 head_in sink = sink.head.now
 
 abbrev pub sign_in : {F : Type 0} {D : Ghosts F} → RowsFile F D → List ℕ
 sign_in sink = sink.sign.now
 
--- how many bytes of a torn row its opening cut off
+-- how many bytes of a torn row the opening of this sink cut off
 abbrev pub torn_in : {F : Type 0} {D : Ghosts F} → RowsFile F D → ℕ
 torn_in sink = sink.torn
 
--- it was opened as it was asked to: with this head and this sign, and synced or not
+-- the sink was opened as it was asked to: with this head and this sign, and to sync or not
 pub record IsOpenedAs {F : Type 0} {D : Ghosts F} (head sign : List ℕ) (sync : Bool) (sink : RowsFile F D) : Type 0 where
   pub begins : head_in sink ≡ head
   pub known : sign_in sink ≡ sign
   pub kept : asks_sync sink ≡ sync
 
--- what it took is on the disk, or needs not be
+-- whether what the sink took is on the disk, or needn't be
 abbrev pub is_durable : {F : Type 0} {D : Ghosts F} → RowsFile F D → Bool
 is_durable sink = if sink.sync then not sink.unkept else true

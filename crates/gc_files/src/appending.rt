@@ -24,7 +24,7 @@ pub trait Appending {
         ensures room { IfOk result (λ n. n ≤ length buf.new) }
         ensures bytes { IfOk result (λ n. (known : Life) → life self.now ≡ Some known → ReadsAt known at n buf.new) };
 
-    /// Cuts it to its first `len` bytes. It holds at least so many.
+    /// Cuts it to its first `len` bytes; it holds at least that many.
     fn cut(&mut self, len: u64) -> Result<(), PortFailed>
         requires { (known : Life) → life self.old ≡ Some known → len ≤ length (content known) }
         ensures { Makes (life self.old) (life self.new) result (λ _. Cut len) };

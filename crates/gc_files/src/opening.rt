@@ -25,7 +25,7 @@ pub enum Refused {
     Failed,
 }
 
-// What stands behind the first so many bytes.
+// What is behind the first `at` bytes.
 fn behind(bytes: &[u8], at: usize) -> &[u8]
     requires { at ≤ length bytes.now }
     ensures { result.now ≡ drop at bytes.now }

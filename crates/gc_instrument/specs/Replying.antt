@@ -43,11 +43,11 @@ abbrev pub kept_after : Option KeptReply → Option ℕ → List ℕ → Option 
 kept_after kept None line = kept
 kept_after kept (Some id) line = Some (record { id = id; line = line })
 
--- the state that keeps this
+-- the state with this reply kept
 abbrev pub with_kept : Option KeptReply → State → State
 with_kept kept s = record s { kept = kept }
 
--- what came of a call, where this is kept
+-- the outcome of a call, with this reply kept
 abbrev pub executed_with : Option KeptReply → Executed → Executed
 executed_with kept x = record x { state = with_kept kept x.state }
 

@@ -11,6 +11,7 @@ use Rattle.gc_lines.proofs.Known.{Consumes-append}
 use Rattle.gc_lines.proofs.InOrder.{all_then, part_then}
 use Rattle.gc_lines.proofs.Passing.{frames-append, rest_behind-append}
 
+-- what the loop has done so far: the bytes that the source gave, and that all of their frames were answered
 pub record Given {State : Type 0} (rule : AnswerRule State) (source_old source_new sink_old sink_new : Option (List ℕ)) (kept : Kept) (from to : State) (reads count : ℕ) : Type 0 where
   pub given : List ℕ
   pub gave : Consumes source_old source_new given

@@ -28,6 +28,7 @@ pub record IsRequest (line : List ℕ) (fields : RequestFields) : Type 0 where
   pub whole : line ≡ request_signature ++ (number ++ (id_text fields.id ++ 58 ∷ fields.params))
 
 -- the first field of a request from the left that has not its form; any bytes are parameters
+-- the first field of a request, from the left, that doesn't have its form; parameters may be any bytes
 abbrev pub FirstBadOfRequest : List ℕ → LineFault → Type 0
 FirstBadOfRequest line fault = FirstBadField request_signature (λ _. Unit {0}) line fault
 

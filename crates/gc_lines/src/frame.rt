@@ -36,7 +36,7 @@ pub enum Lent<'a> {
 ghost use Rattle.gc_lines.specs.Lent.{lent_seen, IsLineWithin};
 
 impl Lent<'_> {
-    // The frame, its line copied.
+    // The same frame with a copy of its line.
     pub(crate) fn to_frame(self) -> Frame
         requires { IsLineWithin self }
         ensures { result ≡ lent_seen self.entry }

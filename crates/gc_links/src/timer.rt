@@ -36,12 +36,13 @@ impl<'a, R: Clock> Timer<'a, R> {
         })
     }
 
-    /// Rests so many milliseconds.
+    /// Sleeps for `millis` milliseconds.
     pub(crate) fn rest(&self, millis: u64) {
         thread::sleep(self.rt, Duration::from_millis(millis));
     }
 
-    /// Waits so long where there is no connection to read from. Nothing came.
+    /// Waits for `millis` milliseconds, where there is no connection to read from: the outcome of a read of which nothing
+    /// came.
     pub(crate) fn wait(&self, millis: u64) -> Came
         ensures { (buf : List ℕ) → IsWithin result buf }
     {
@@ -52,7 +53,7 @@ impl<'a, R: Clock> Timer<'a, R> {
         }
     }
 
-    /// What a read of so many bytes came to. None are the end.
+    /// The outcome of a read that gave `n` bytes, with the moment after it; `n` is 0 at the end of the stream.
     pub(crate) fn came(&self, n: usize) -> Came
         ensures { (buf : List ℕ) → n ≤ length buf → IsWithin result buf }
     {

@@ -86,7 +86,7 @@ impl<K: Sink> Log<K> {
         }
     }
 
-    // These bytes went.
+    // Logs bytes that went.
     pub(crate) fn went(&mut self, bytes: &[u8])
         ensures took { Takes (K.taken self.old.sink) (K.taken self.new.sink) (K.failed self.old.sink) (K.failed self.new.sink) (log_text_of self.old.utc (entries Went self.old.went bytes.now)) }
         ensures went { self.new.went ≡ pending_behind self.old.went bytes.now }
@@ -96,7 +96,7 @@ impl<K: Sink> Log<K> {
         log_bytes(&mut self.sink, self.utc, Way::Went, &mut self.went, bytes);
     }
 
-    // These bytes came.
+    // Logs bytes that came.
     pub(crate) fn came(&mut self, bytes: &[u8])
         ensures took { Takes (K.taken self.old.sink) (K.taken self.new.sink) (K.failed self.old.sink) (K.failed self.new.sink) (log_text_of self.old.utc (entries Came self.old.came bytes.now)) }
         ensures went { self.new.went ≡ self.old.went }
@@ -106,7 +106,7 @@ impl<K: Sink> Log<K> {
         log_bytes(&mut self.sink, self.utc, Way::Came, &mut self.came, bytes);
     }
 
-    // No more comes or goes: what is pending is written as it is.
+    // Writes what is pending of both ways, as it is: no more of these lines comes or goes.
     pub(crate) fn cut(&mut self)
         ensures took { Takes (K.taken self.old.sink) (K.taken self.new.sink) (K.failed self.old.sink) (K.failed self.new.sink)
             (log_text_of self.old.utc (entries_of_pending Went self.old.went.bytes.items ++ entries_of_pending Came self.old.came.bytes.items)) }
@@ -118,7 +118,7 @@ impl<K: Sink> Log<K> {
         log_pending(&mut self.sink, self.utc, Way::Came, &mut self.came);
     }
 
-    // Something became of the connection.
+    // Logs what became of the connection, in words.
     pub(crate) fn says(&mut self, word: &[u8])
         requires { length word.now ≤ 514 }
         ensures took { Takes (K.taken self.old.sink) (K.taken self.new.sink) (K.failed self.old.sink) (K.failed self.new.sink) (log_text_of self.old.utc (entry mark.Link word.now ∷ [])) }

@@ -43,7 +43,7 @@ csv_field text = if list_any is_special text then codes "\"" ++ flat_map within_
 abbrev pub field_text : List ℕ → List ℕ
 field_text bytes = csv_field (escaped bytes)
 
--- the same behind a comma, and many of them
+-- a field behind a comma, and all of these fields so
 abbrev pub behind_comma : List ℕ → List ℕ
 behind_comma bytes = 44 ∷ field_text bytes
 
@@ -95,7 +95,7 @@ abbrev pub quantity_fields : Call → End → List (List ℕ)
 quantity_fields call (Answered (Some answer) line) = spread (column_of call answer) (map quantity_text (answer_fields answer).values)
 quantity_fields call _ = replicate 24 []
 
--- the same where there is a column for each, and none where there isn't
+-- the fields of the quantities if a row has columns for them, else none
 abbrev pub more_fields : Bool → Call → End → List (List ℕ)
 more_fields true call end = quantity_fields call end
 more_fields false call end = []

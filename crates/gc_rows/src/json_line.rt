@@ -176,7 +176,7 @@ fn append_texts<const N: usize>(line: &mut ArrayVec<u8, N>, reply: &Line)
     append_text(line, b"values", texts.values);
 }
 
-// The same, where there is one.
+// Appends what a reply's line says, where there is a reply: its communication code, its return code, and its values.
 fn append_reply<const N: usize>(line: &mut ArrayVec<u8, N>, reply: Option<&Line>)
     requires { array_vec_len line.old + 5346 ≤ N }
     ensures text { line.new.items ≡ line.old.items ++ members_text (reply_members (option_map (λ l. l.now.items) reply.entry)) }

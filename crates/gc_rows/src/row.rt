@@ -117,7 +117,7 @@ fn append_next<const N: usize>(row: &mut ArrayVec<u8, N>, bytes: &[u8])
     append_field(row, bytes);
 }
 
-// Appends so many empty fields, each behind a comma.
+// Appends `count` empty fields, each behind a comma.
 fn append_blanks<const N: usize>(row: &mut ArrayVec<u8, N>, count: usize)
     requires few { count ≤ 24 }
     requires room { array_vec_len row.old + count ≤ N }

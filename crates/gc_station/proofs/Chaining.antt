@@ -149,6 +149,7 @@ begun_there : (plan : Plan) (commands : List Task) (scope : Scope) (before behin
 begun_there plan commands scope before behind all q action there begun =
     ap (λ (x : Model). has_begun x.progress) (sym (ap (stood plan commands scope) action ∙ after_all-append plan commands (opening plan scope) before behind)) ∙ ap has_begun there ∙ begun
 
+-- what the two fields on chains mean: whether the next command is chained, and that the chain is unbroken
 record Chain (plan : Plan) (commands : List Task) (scope : Scope) (acts : List Act) (p : Progress) : Type 0 where
   next_is_chained : 0 < place_next commands p → p.next_is_chained ≡ (p.missed || is_chained (drop (place_next commands p) commands))
   chain_unbroken : p.chain_unbroken ≡ true → Whole plan commands scope acts p
@@ -310,6 +311,7 @@ chain_stood plan commands scope acts runs = chain_along plan commands scope [] a
 
 -- What the last record says.
 
+-- the last of these records is an answer that was answered well
 record Last (reads : Call → List ℕ → Reading) (records : List Record) : Type 0 where
   earlier : List Record
   answer : Record

@@ -122,6 +122,7 @@ acting_mark plan commands s o act n mark =
     either (λ (p : Part). slice_get p.marks n ≡ Some (Some mark) → IsSend plan commands s o n mark) (doing plan commands s o act) (beginning s o act) (has_begun s.progress)
     (λ begun e. doing_mark plan commands s o act n mark e) (λ begins e. absurd (beginning_mark s o act n mark e))
 
+-- among these acts the command with this mark is sent, as request n of part i
 pub record SentAt (plan : Plan) (commands : List Task) (s : Model) (acts : List Act) (i n : ℕ) (mark : Mark) : Type 0 where
   pub before : List Act
   pub act : Act

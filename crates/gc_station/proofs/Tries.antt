@@ -198,6 +198,8 @@ none_more : (plan : Plan) (commands : List Task) (s : Model) (xs : List Act) (ac
 none_more plan commands s [] act none here = (here, tt)
 none_more plan commands s (x ∷ xs) act none here = (none.0, none_more plan commands (after plan commands s x) xs act none.1 here)
 
+-- how many tries are left: since the last act that settled a command, or from the start, each connection that ended or
+-- couldn't be made has taken one
 record Trying (plan : Plan) (commands : List Task) (scope : Scope) (tries : ℕ) (up : Bool) (acts : List Act) : Type 0 where
   before : List Act
   behind : List Act

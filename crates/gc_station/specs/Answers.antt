@@ -27,7 +27,7 @@ abbrev pub first_deadline : List Task → ℕ
 first_deadline [] = 0
 first_deadline (task ∷ others) = task.deadline
 
--- the deadline of the next command, where its request goes out behind these acts
+-- the deadline of the next command, if its request goes out directly behind these acts
 abbrev pub deadline_behind : Plan → List Task → Scope → List Act → ℕ
 deadline_behind plan commands scope acts =
     let p = (stood plan commands scope acts).progress in
@@ -68,6 +68,6 @@ answer_of Lost = None
 answer_of Skipped = None
 answer_of Missed = None
 
--- a record of an answer is of such a line
+-- if the record is of an answer, its line is such a line
 abbrev pub IsTrueRecord : Plan → List Task → Scope → List Act → Record → Type 0
 IsTrueRecord plan commands scope acts r = (line : List ℕ) → answer_of r.end ≡ Some line → IsAnsweredIn plan commands scope acts r line

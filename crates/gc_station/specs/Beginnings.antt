@@ -21,12 +21,12 @@ abbrev pub heard_at : Model → Act → List (List ℕ)
 heard_at s (Gave piece m) = if is_heard s.progress.phase then lines_behind s.rest piece else []
 heard_at s act = []
 
--- the lines that these acts bring, in order, from where a station stands
+-- the lines that are heard among these acts, in order, from this model on
 abbrev pub heard_behind : Plan → List Task → Model → List Act → List (List ℕ)
 heard_behind plan commands s [] = []
 heard_behind plan commands s (act ∷ acts) = heard_at s act ++ heard_behind plan commands (after plan commands s act) acts
 
--- what isn't answered of a beginning behind these lines
+-- the ids of a beginning that aren't answered behind these lines
 abbrev pub left_behind : List ℕ → List (List ℕ) → List ℕ
 left_behind word [] = word
 left_behind word (line ∷ others) = left_behind (left_by word (heard line)) others
@@ -59,7 +59,8 @@ pub record IsAnew (plan : Plan) (commands : List Task) (scope : Scope) (acts : L
   pub word : (stood plan commands scope (acts ++ act ∷ [])).progress.word ≡ the_word
   pub client : (stood plan commands scope (acts ++ act ∷ [])).client ≡ fresh
 
--- A run begins with all eight null procedures; each act while it begins is so; and behind that it begins anew only so
+-- a run begins with all eight null procedures; each act while it begins is `IsOfBeginning`; and where it begins anew, that
+-- is by `IsAnew`
 pub record BeginsSo (plan : Plan) (commands : List Task) (scope : Scope) (acts : List Act) (act : Act) : Type 0 where
   pub starts : (stood plan commands scope []).progress.word ≡ the_word
   pub begins : has_begun (stood plan commands scope acts).progress ≡ false → IsOfBeginning plan commands scope acts act

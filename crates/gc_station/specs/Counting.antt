@@ -4,7 +4,7 @@ use Rattle.gc_texts.specs.Endings.{End, Answered, Unreadable, Late, Lost, Skippe
 use Rattle.gc_station.specs.Records.{Record}
 use Rattle.gc_station.specs.Tallies.{none_yet, tallied}
 
--- how many of these records ended so
+-- how many of these records have an ending of this kind
 abbrev pub how_many : (End → Bool) → List Record → ℕ
 how_many so [] = 0
 how_many so (r ∷ others) = if so r.end then suc (how_many so others) else how_many so others
@@ -33,11 +33,11 @@ abbrev pub is_missed : End → Bool
 is_missed Missed = true
 is_missed _ = false
 
--- so many, or as many as a count holds
+-- this number, or the greatest that a count holds
 abbrev pub at_most : ℕ → ℕ
 at_most n = min n 18446744073709551615
 
--- each count of a tally is that of the records that ended so
+-- each count of a tally is the number of the records with its ending
 pub record TalliesCountRecords : Type 0 where
   pub answered : (records : List Record) → (tallied none_yet records).answered ≡ at_most (how_many is_answered records)
   pub unreadable : (records : List Record) → (tallied none_yet records).unreadable ≡ at_most (how_many is_unreadable records)

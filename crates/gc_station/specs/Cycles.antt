@@ -22,12 +22,12 @@ Rises now (Gave bytes m ∷ acts) = (now ≤ m.elapsed) × (m.elapsed ≤ 184467
 Rises now (Silent m ∷ acts) = (now ≤ m.elapsed) × (m.elapsed ≤ 18446744073709551615) × Rises m.elapsed acts
 Rises now (act ∷ acts) = Rises now acts
 
--- when a cycle is due that has so many before it, where the first began then
+-- the due moment of the cycle that has n cycles before it, where the first one began at `first`
 abbrev pub due_behind : ℕ → ℕ → ℕ → ℕ
 due_behind first every zero = first
 due_behind first every (suc n) = due_behind first every n + every
 
--- among these acts one reads the clock at this moment, and begins a cycle, which has so many before it
+-- among these acts one reads the clock at this moment and begins a cycle, and n cycles began before it
 pub record BeginsAt (plan : Plan) (commands : List Task) (scope : Scope) (acts : List Act) (n : ℕ) (m : Moment) : Type 0 where
   pub before : List Act
   pub behind : List Act
@@ -35,14 +35,14 @@ pub record BeginsAt (plan : Plan) (commands : List Task) (scope : Scope) (acts :
   pub begins : action_at plan (stood plan commands scope before) ≡ Begin
   pub number : cycles_begun plan (stood plan commands scope before).progress ≡ n
 
--- among these acts a cycle begins at this moment, which has so many before it, and so long behind its due moment
+-- among these acts a cycle begins at this moment, `late` milliseconds after its due moment, and n cycles began before it
 pub record BeginsLate (plan : Plan) (commands : List Task) (scope : Scope) (acts : List Act) (n : ℕ) (m : Moment) (late : ℕ) : Type 0 where
   pub first : Moment
   pub first_begins : BeginsAt plan commands scope acts 0 first
   pub begins : BeginsAt plan commands scope acts n m
   pub grid : due_behind first.elapsed plan.every n + late ≡ m.elapsed
 
--- the cycle that began last among these acts began so long behind its due moment
+-- of these acts: which cycle began last, at which moment, and how long after its due moment
 pub record LastBegan (plan : Plan) (commands : List Task) (scope : Scope) (acts : List Act) : Type 0 where
   pub n : ℕ
   pub moment : Moment
@@ -94,7 +94,7 @@ pub record IsSkippedIn (plan : Plan) (commands : List Task) (scope : Scope) (act
   pub sent : r.sent ≡ None
   pub utc : r.utc ≡ moment.utc
 
--- a record that is missed, or skipped, is so
+-- if the record is of a missed or a skipped command, that command was missed, or skipped, for its cause
 abbrev pub IsTrulyUnsent : Plan → List Task → Scope → List Act → Record → Type 0
 IsTrulyUnsent plan commands scope acts r = (r.end ≡ Missed → IsMissedIn plan commands scope acts r) × (r.end ≡ Skipped → IsSkippedIn plan commands scope acts r)
 

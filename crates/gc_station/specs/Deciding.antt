@@ -16,7 +16,7 @@ use Rattle.gc_station.specs.declared.progress.Waiting.{Waiting}
 abbrev pub width_of : Plan → ℕ
 width_of plan = min (max plan.width 1) 7
 
--- so much later than a moment, or the last moment that there is
+-- the moment that lies `wait` after `moment`, or the greatest `u64` if that is past it
 abbrev pub later : ℕ → ℕ → ℕ
 later moment wait = min (moment + wait) 18446744073709551615
 
@@ -30,15 +30,15 @@ is_up phase.Ready = true
 is_up (phase.Closing cause) = true
 is_up (phase.Over cause) = false
 
--- whether so long has passed since bytes came or went, or a connection was closed or couldn't be made
+-- whether `wait` milliseconds have passed since bytes last came or went, or a connection was closed or couldn't be made
 abbrev pub is_past : ℕ → Progress → Bool
 is_past wait p = nat_le wait (p.moment.elapsed - p.since)
 
--- whether the quiet time has
+-- whether the plan's quiet time has passed, as `is_past` counts it
 abbrev pub is_quiet : Plan → Progress → Bool
 is_quiet plan p = is_past plan.quiet p
 
--- whether it has begun: no null procedure of its beginning is left that isn't answered
+-- whether a beginning is over: none of its null procedures is left unanswered
 abbrev pub is_none_left : List ℕ → Bool
 is_none_left [] = true
 is_none_left (asked ∷ others) = false
@@ -55,7 +55,8 @@ patience_of plan = later plan.deadline plan.deadline
 abbrev pub is_dead : Plan → Progress → Waiting → Bool
 is_dead plan p w = (nat_lt 0 w.all || nat_lt 0 p.again) && nat_le (patience_of plan) (p.moment.elapsed - p.alive)
 
--- nothing may go out: a reply may still come, unless the line is dead; and where all that wait are given up, it begins anew
+-- the next action where nothing may go out: to read, as a reply may still come; to close a dead line; or to begin anew,
+-- where all requests that wait are given up
 abbrev pub action_waiting : Plan → Progress → Waiting → Action
 action_waiting plan p w = if is_dead plan p w then Close Dead else if nat_eq w.current 0 then Renew else Read Limit
 
@@ -75,7 +76,8 @@ goes_on plan p = nat_lt 0 p.unsent || is_due plan p
 abbrev pub is_finished : ℕ → Progress → Bool
 is_finished commands p = nat_eq p.left 0 && nat_eq p.unsent 0 && nat_eq commands 0
 
--- it begins: the null procedure that is asked for goes out, and again at its deadline, unless nothing is left to be asked behind it
+-- the next action while the station begins: the null procedure that is asked for goes out, and again at its deadline, unless
+-- nothing is left to be asked behind it
 abbrev pub action_beginning : Plan → Progress → Waiting → Action
 action_beginning plan p w =
     if is_finished w.commands p then Close Done
@@ -84,7 +86,7 @@ action_beginning plan p w =
     else if nat_le p.again p.moment.elapsed then Ask
     else Read Limit
 
--- each command of the cycle is settled
+-- the next action where each command of the cycle is settled
 abbrev pub action_done : Plan → Progress → Action
 action_done plan p = if nat_eq p.left 0 then Close Done else if is_due plan p then Begin else Read Due
 
@@ -92,7 +94,7 @@ action_done plan p = if nat_eq p.left 0 then Close Done else if is_due plan p th
 abbrev pub has_room : Plan → Waiting → Bool
 has_room plan w = nat_lt w.current (width_of plan) && nat_lt w.all WINDOW
 
--- a request is to be sent, as soon as there is room
+-- this action, which sends a request, if there is room for one; else the action of a station that waits
 abbrev pub action_room : Plan → Progress → Waiting → Action → Action
 action_room plan p w action = if has_room plan w then action else action_waiting plan p w
 
@@ -101,30 +103,31 @@ action_room plan p w action = if has_room plan w then action else action_waiting
 abbrev pub may_go : Progress → Waiting → Bool
 may_go p w = w.well && p.chain_unbroken
 
--- each command that was sent is settled
+-- the next action where each command that was sent is settled
 abbrev pub action_settled : Plan → Progress → Waiting → Action
 action_settled plan p w =
     if nat_eq p.unsent 0 then action_done plan p
     else if may_go p w then action_room plan p w Send
     else Skip
 
--- each command of the cycle was sent, or the next one goes out only behind those that were: where some wait, and all that wait are
--- given up, a null procedure goes out, whose reply settles them
+-- the next action where no command may go out before those that wait are settled: each of the cycle was sent, or the next
+-- one is chained. Where some wait, and all that wait are given up, it is a null procedure, whose reply settles them
 abbrev pub action_sent : Plan → Progress → Waiting → Action
 action_sent plan p w =
     if nat_eq w.commands 0 then action_settled plan p w
     else if nat_eq w.current 0 then action_room plan p w Flush
     else action_waiting plan p w
 
--- it has begun: commands go out
+-- the next action once the station has begun
 abbrev pub action_begun : Plan → Progress → Waiting → Action
 action_begun plan p w = if nat_lt 0 p.unsent && not p.next_is_chained then action_room plan p w Send else action_sent plan p w
 
--- the null procedures of its beginning go out first
+-- the next action on a connection that is ready: the beginning's until its eighth null procedure is answered, then the
+-- commands'
 abbrev pub action_ready : Plan → Progress → Waiting → Action
 action_ready plan p w = if has_begun p then action_begun plan p w else action_beginning plan p w
 
--- with turns left, and a moment that was told after all that was done
+-- the next action in a phase, where turns are left and the moment was read behind all that was done
 abbrev pub action_told : Plan → Phase → Progress → Waiting → Action
 action_told plan phase.Down p w = Open
 action_told plan phase.Pausing p w = Read Limit
@@ -134,12 +137,12 @@ action_told plan phase.Ready p w = action_ready plan p w
 action_told plan (phase.Closing cause) p w = Close cause
 action_told plan (phase.Over cause) p w = Stop cause
 
--- where all turns are used up
+-- the next action where all turns are used up, with a connection or without one
 abbrev pub action_up : Bool → Action
 action_up true = Close Turns
 action_up false = Stop Turns
 
--- where the end isn't decided
+-- the next action where the end isn't decided yet
 abbrev pub action_on : Plan → Progress → Waiting → Action
 action_on plan p w =
     if nat_eq p.turns 0 then action_up (is_up p.phase)
@@ -151,6 +154,6 @@ action_in (phase.Over cause) plan p w = Stop cause
 action_in (phase.Closing cause) plan p w = Close cause
 action_in _ plan p w = action_on plan p w
 
--- what is next
+-- the next action
 abbrev pub action_of : Plan → Progress → Waiting → Action
 action_of plan p w = action_in p.phase plan p w

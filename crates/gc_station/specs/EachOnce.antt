@@ -22,7 +22,7 @@ pub record Request : Type 0 where
   pub place : ℕ
   pub asked : Asked
 
--- requests of one cycle, the first of them at this place
+-- the requests of one cycle, of which the first has this place
 abbrev pub requests : ℕ → ℕ → List Asked → List Request
 requests cycle place [] = []
 requests cycle place (a ∷ others) = record { cycle = cycle; place = place; asked = a } ∷ requests cycle (place + 1) others
@@ -34,12 +34,13 @@ of_command c = record { target = c.target; call = c.call }
 abbrev pub of_task : Task → Asked
 of_task task = of_command task.command
 
--- all commands of so many cycles, which are counted from 1
+-- all commands of the first `n` cycles, which are counted from 1
 abbrev pub all_cycles : List Task → ℕ → List Request
 all_cycles commands zero = []
 all_cycles commands (suc n) = all_cycles commands n ++ requests (suc n) 0 (map of_task commands)
 
--- so many cycles began, and of the last of them so many commands were sent, or written down without being sent
+-- the commands that were sent, or written down unsent, where this many cycles began, and of the last of them this many
+-- commands had their turn
 abbrev pub sent_by : List Task → ℕ → ℕ → List Request
 sent_by commands zero place = []
 sent_by commands (suc n) place = all_cycles commands n ++ requests (suc n) 0 (map of_task (take place commands))

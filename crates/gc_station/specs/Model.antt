@@ -43,7 +43,7 @@ pub record Model : Type 0 where
   pub records : List Record
   pub reads : Call → List ℕ → Reading
 
--- nothing was done
+-- the model of a station that has done nothing
 abbrev pub opening : Plan → Scope → Model
 opening plan scope = record { progress = at_start plan scope.turns; rest = []; client = fresh; marks = []; records = []; reads = scope.reads }
 
@@ -57,11 +57,11 @@ waiting_of s = record {
   well = last_well s.reads false s.records;
 }
 
--- what is next
+-- the next action
 abbrev pub action_at : Plan → Model → Action
 action_at plan s = action_of plan s.progress (waiting_of s)
 
--- a command of the cycle, counted from 0
+-- the place in its cycle of the next command, counted from 0
 abbrev pub place_next : List Task → Progress → ℕ
 place_next commands p = length commands - p.unsent
 
@@ -69,7 +69,7 @@ place_next commands p = length commands - p.unsent
 abbrev pub cycles_begun : Plan → Progress → ℕ
 cycles_begun plan p = plan.cycles - p.left
 
--- the next command, the cycle that it is of, and the moment told last
+-- the mark of the next command: its cycle, its place, and the moment told last
 abbrev pub mark_next : Plan → List Task → Progress → Mark
 mark_next plan commands p = record { cycle = cycles_begun plan p; place = place_next commands p; sent = p.moment.utc }
 
@@ -141,11 +141,11 @@ Performs commands s (Stop cause) act = ⊥
 
 -- What an act does.
 
--- how far the station is changes, and nothing else
+-- the same model, with another progress
 abbrev pub with_progress : (Progress → Progress) → Model → Model
 with_progress f s = record s { progress = f s.progress }
 
--- a moment gives up what has reached its deadline
+-- the model at a later moment: requests whose deadline has come are given up
 abbrev pub with_moment : Moment → Model → Model
 with_moment m s = record s { client = expires s.client m.elapsed }
 
@@ -154,27 +154,27 @@ abbrev pub client_sent : ById → Option (Sending ById) → ById
 client_sent client None = client
 client_sent client (Some x) = x.client
 
--- a request is sent, which waits so long behind the moment that was told last; it has this mark
+-- the model once a request was sent with this mark; it waits for `wait` milliseconds from the moment told last
 abbrev pub asks : ℕ → ℕ → Call → Option Mark → Model → Model
 asks wait target call mark s = record s {
   client = client_sent s.client (sends WINDOW s.client target call (later s.progress.moment.elapsed wait));
   marks = s.marks ++ mark ∷ [];
 }
 
--- a null procedure of the station's own is sent
+-- the model once a null procedure of the station's own was sent
 abbrev pub asks_null : Plan → Model → Model
 asks_null plan s = asks plan.deadline 0 NullProc None s
 
--- the first of these commands is sent, with this mark
+-- the model once the first of these commands was sent, with this mark
 abbrev pub asks_first : Mark → List Task → Model → Model
 asks_first mark [] s = s
 asks_first mark (task ∷ others) s = asks task.deadline task.command.target task.command.call (Some mark) s
 
--- the next command is sent
+-- the model once the next command was sent
 abbrev pub asks_next : Plan → List Task → Model → Model
 asks_next plan commands s = asks_first (mark_next plan commands s.progress) (drop (place_next commands s.progress) commands) s
 
--- the client is another
+-- the same model, with another client
 abbrev pub with_client : ById → Model → Model
 with_client client s = record s { client = client }
 
@@ -189,7 +189,7 @@ abbrev pub skips : Plan → List Task → Progress → Act → List Record
 skips plan commands p (Told m) = skips_first p m (mark_next plan commands p) (drop (place_next commands p) commands)
 skips plan commands p _ = []
 
--- these are written down, too
+-- the model with these records behind those that it has
 abbrev pub with_records : List Record → Model → Model
 with_records records s = record s { records = s.records ++ records }
 
@@ -200,11 +200,11 @@ with_settled settlements s = record s {
   marks = drop (length settlements) s.marks;
 }
 
--- what was settled, and the client behind it
+-- the model behind what a client settled: the records of that, and the client as it then is
 abbrev pub settles : Settled ById → Model → Model
 settles x s = with_client x.client (with_settled x.settlements s)
 
--- a line came
+-- the model behind a line that came
 abbrev pub line_came : Model → List ℕ → Model
 line_came s line = with_progress (noted (is_reply line)) (settles (hears s.client line (heard line)) s)
 
@@ -219,15 +219,15 @@ lines_behind rest piece = filter_map line_in (frames_behind rest piece)
 abbrev pub with_rest : List ℕ → Model → Model
 with_rest rest s = record s { rest = rest }
 
--- the lines of a piece are heard, in order
+-- the model behind a piece whose lines are heard, in order
 abbrev pub piece_came : List ℕ → Model → Model
 piece_came piece s = lines_came (with_rest (rest_behind s.rest piece) s) (lines_behind s.rest piece)
 
--- the lines of a piece are heard while it begins, in order
+-- the model behind a piece whose lines are heard while the station begins, in order
 abbrev pub piece_asked : List ℕ → Model → Model
 piece_asked piece s = with_progress (λ p. lines_asked p (lines_behind s.rest piece)) (with_rest (rest_behind s.rest piece) s)
 
--- what comes is heard where requests go out, and is dropped before that
+-- whether what comes in a phase is heard: it is where requests go out, and is dropped before that
 abbrev pub is_heard : Phase → Bool
 is_heard phase.Down = false
 is_heard phase.Pausing = false
@@ -237,22 +237,24 @@ is_heard phase.Ready = true
 is_heard (phase.Closing cause) = false
 is_heard (phase.Over cause) = false
 
--- whether a piece is heard, and what isn't answered of a beginning: what is behind the last answer in its piece is dropped
+-- the model behind a piece that is heard, or is dropped; while a station begins, with these ids unanswered, what comes
+-- behind the last answer in its piece is dropped
 abbrev pub came : Bool → List ℕ → List ℕ → Model → Model
 came true [] piece s = piece_came piece s
 came true (asked ∷ others) piece s = piece_asked piece s
 came false word piece s = s
 
--- how far a station is once it heard a piece, before which so many commands waited
+-- the model behind a piece that was heard, where `before` commands waited before it
 abbrev pub reckoned : Plan → Until → ℕ → Model → Model
 reckoned plan until before s = with_progress (λ p. reckoned_early plan (commands_in s.marks) (gave plan until before (waiting_of s) p)) s
 
--- a piece came, and then it was this moment: it gives up what has reached its deadline, and then hears
+-- the model behind a piece that came by this moment: requests whose deadline has come are given up first, and then the piece
+-- is heard
 abbrev pub piece_at : Plan → Until → List ℕ → Moment → Model → Model
 piece_at plan until piece m s =
     reckoned plan until (commands_in s.marks) (came (is_heard s.progress.phase) s.progress.word piece (with_moment m (with_progress (told m) s)))
 
--- what was read
+-- the model behind a read
 abbrev pub after_read : Plan → Until → Model → Act → Model
 after_read plan until s (Gave bytes m) = piece_at plan until bytes m s
 after_read plan until s (Silent m) = with_moment m (with_progress (silent plan until m) s)
@@ -260,26 +262,27 @@ after_read plan until s Ended = with_progress (failing cause.End) s
 after_read plan until s Broke = with_progress (failing cause.Read) s
 after_read plan until s _ = with_progress (failing cause.Clock) s
 
--- the clock was read
+-- the model behind a reading of the clock, which does this to its progress
 abbrev pub after_clock : (Moment → Progress → Progress) → Model → Act → Model
 after_clock f s (Told m) = with_moment m (with_progress (f m) s)
 after_clock f s _ = with_progress (failing cause.Clock) s
 
--- bytes were put, which does this; where they were cut, the connection is to be closed, behind so many requests
+-- the model behind a write, which does this where all bytes went out; where they were cut, the connection is to be closed,
+-- and this many requests count as sent
 abbrev pub after_put : ℕ → (Model → Model) → Model → Act → Model
 after_put requests f s (Cut bytes count) = with_progress (failing (cause.Write requests count)) (f s)
 after_put requests f s _ = f s
 
--- a connection was asked for
+-- the model behind an attempt to connect
 abbrev pub after_open : Plan → Model → Act → Model
 after_open plan s Opened = with_progress opened s
 after_open plan s _ = with_progress (again plan (commands_in s.marks) cause.Open) s
 
--- the connection was closed: bytes of a line are forgotten; what waits goes on waiting
+-- the model behind a close: the bytes of a line are forgotten, and what waits goes on waiting
 abbrev pub after_close : Plan → Cause → Model → Model
 after_close plan cause s = with_progress (closed plan (waiting_of s) cause) (with_rest [] s)
 
--- what an act of this action does, apart from the turn
+-- the model behind an act of this action, apart from the turn that it takes
 abbrev pub moved : Plan → List Task → Action → Model → Act → Model
 moved plan commands ReadClock s act = after_clock (λ m p. reckoned_early plan (commands_in s.marks) (told m p)) s act
 moved plan commands Renew s act = after_clock (λ m p. reckoned_early plan 0 (renewed plan m p)) s act
@@ -295,20 +298,20 @@ moved plan commands (Read until) s act = after_read plan until s act
 moved plan commands (Close cause) s act = after_close plan cause s
 moved plan commands (Stop cause) s act = s
 
--- all that wait are lost, and ids begin anew, or not
+-- the model with all that wait lost and the ids begun anew, if that is asked for; else the model as it is
 abbrev pub losing : Bool → Model → Model
 losing true s = settles (restarts s.client) s
 losing false s = s
 
--- all that wait are lost where the station begins anew, and where no act follows
+-- the model where the station begins anew or no act follows: all that wait are lost; else the model as it is
 abbrev pub ended : Model → Model
 ended s = losing (loses_all s.progress) s
 
--- an act takes a turn, and does what it does by the action that it performs
+-- the model behind an act: it takes a turn, and does what an act of the next action does
 abbrev pub after : Plan → List Task → Model → Act → Model
 after plan commands s act = ended (moved plan commands (action_at plan s) (with_progress turned s) act)
 
--- after all acts, in order
+-- the model behind acts, in order
 abbrev pub after_all : Plan → List Task → Model → List Act → Model
 after_all plan commands s [] = s
 after_all plan commands s (act ∷ acts) = after_all plan commands (after plan commands s act) acts

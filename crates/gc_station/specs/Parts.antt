@@ -42,7 +42,7 @@ nothing = only []
 abbrev pub joined : Part → Part → Part
 joined p q = record { turns = p.turns ++ q.turns; steps = p.steps ++ q.steps; marks = p.marks ++ q.marks }
 
--- a request goes out; and the first of these commands does
+-- the part of a request that goes out, and of the first of these commands as one
 abbrev pub asking : ℕ → Call → ℕ → Option Mark → Part
 asking target call deadline mark = record { turns = []; steps = Send target call deadline ∷ []; marks = mark ∷ [] }
 
@@ -50,20 +50,22 @@ abbrev pub asking_first : ℕ → Mark → List Task → Part
 asking_first now mark [] = nothing
 asking_first now mark (task ∷ others) = asking task.command.target task.command.call (later now task.deadline) (Some mark)
 
--- bytes are put by this action, all of them or a part: the line of a request with which a station settles others, or of the
--- next command; a line feed is no request
+-- the part of an action that puts bytes, all of them or some: the request that settles those before it, or the next command;
+-- a line feed is no request
 abbrev pub putting : Plan → List Task → Model → Action → Part
 putting plan commands s action.Flush = asking 0 NullProc (later s.progress.moment.elapsed plan.deadline) None
 putting plan commands s action.Send =
     asking_first s.progress.moment.elapsed (mark_next plan commands s.progress) (drop (place_next commands s.progress) commands)
 putting plan commands s _ = nothing
 
--- a piece is heard line by line, behind these bytes since the last line feed; or it is dropped, and its lines are lost by the line
+-- the part of a piece behind these bytes since the last line feed: it is heard line by line, or it is dropped, and its lines
+-- count as lost by the line
 abbrev pub hearing : Bool → List ℕ → List ℕ → List Step
 hearing true rest piece = map Hear (lines_behind rest piece)
 hearing false rest piece = []
 
--- an act of this action once it has begun. A moment gives up what has reached its deadline, before the piece that came with it is heard
+-- the part of an act of this action once the station has begun. A moment gives up what has reached its deadline before the
+-- piece that came with it is heard
 abbrev pub doing : Plan → List Task → Model → Action → Act → Part
 doing plan commands s action (Told m) = only (Expire m.elapsed ∷ [])
 doing plan commands s action (Silent m) = only (Expire m.elapsed ∷ [])
@@ -72,14 +74,15 @@ doing plan commands s action (Put bytes) = putting plan commands s action
 doing plan commands s action (Cut bytes count) = putting plan commands s action
 doing plan commands s action _ = nothing
 
--- an act of this action while it begins: the null procedure that is asked for is put, all of it or a part; a piece is heard line by line
+-- the part of an act of this action while the station begins: the null procedure that is asked for is put, all of it or
+-- some; a piece is heard line by line
 abbrev pub beginning : Model → Action → Act → Part
 beginning s action.Ask (Put bytes) = only_turns (Asks ∷ [])
 beginning s action.Ask (Cut bytes count) = only_turns (Asks ∷ [])
 beginning s (action.Read until) (Gave piece m) = only_turns (if is_heard s.progress.phase then map Hears (lines_behind s.rest piece) else [])
 beginning s action act = nothing
 
--- an act of this action
+-- the part of an act of this action
 abbrev pub acting : Plan → List Task → Model → Action → Act → Part
 acting plan commands s action act = if has_begun s.progress then doing plan commands s action act else beginning s action act
 
@@ -87,13 +90,13 @@ acting plan commands s action act = if has_begun s.progress then doing plan comm
 abbrev pub ends_part : Plan → List Task → Model → Act → Bool
 ends_part plan commands s act = has_begun s.progress && loses_all (after plan commands s act).progress
 
--- an act in front of the parts behind it
+-- the parts of an act and of those behind it, of which it is in the first or ends its own
 abbrev pub in_front : Part → Bool → List Part → List Part
 in_front p true parts = p ∷ parts
 in_front p false [] = p ∷ []
 in_front p false (q ∷ parts) = joined p q ∷ parts
 
--- acts, from where a station stands, in parts
+-- the parts of acts, from this model on
 abbrev pub parts_of : Plan → List Task → Model → List Act → List Part
 parts_of plan commands s [] = nothing ∷ []
 parts_of plan commands s (act ∷ acts) =
@@ -104,7 +107,7 @@ abbrev pub IsOf : List Task → Option Mark → Asked → Type 0
 IsOf commands None a = a ≡ record { target = 0; call = NullProc }
 IsOf commands (Some mark) a = (task : Task) × (slice_get commands mark.place ≡ Some task) × (a ≡ of_task task)
 
--- the same of requests, one for one
+-- each request asks what its mark says, one for one
 abbrev pub AreOf : List Task → List (Option Mark) → List Asked → Type 0
 AreOf commands [] [] = Unit {0}
 AreOf commands (mark ∷ marks) (a ∷ others) = IsOf commands mark a × AreOf commands marks others

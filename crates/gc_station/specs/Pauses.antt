@@ -14,7 +14,7 @@ use Rattle.gc_station.specs.declared.progress.Progress.{Progress}
 use Rattle.gc_station.specs.declared.progress.Until.{Until}
 use Rattle.gc_station.specs.declared.progress.Waiting.{Waiting}
 
--- a time that was doubled so often
+-- a time that was doubled `n` times
 abbrev pub doubled : ℕ → ℕ → ℕ
 doubled zero time = time
 doubled (suc n) time = 2 * doubled n time
@@ -25,7 +25,7 @@ abbrev pub pause_behind : Plan → ℕ → ℕ
 pause_behind plan zero = 0
 pause_behind plan (suc n) = max (min (doubled n plan.quiet) 60000) plan.quiet
 
--- other actions than these touch neither the tries nor the pause
+-- any action but these touches neither the tries nor the pause
 abbrev pub LeavesTries : Action → Type 0
 LeavesTries Open = ⊥
 LeavesTries (Read until) = ⊥

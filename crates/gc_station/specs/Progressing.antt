@@ -16,7 +16,7 @@ use Rattle.gc_station.specs.Deciding.{later, is_up, is_past, is_quiet, is_due, g
 pub use Rattle.gc_station.specs.Deciding.{is_idle, is_finished}
 use Rattle.gc_station.specs.Lines.{is_reply}
 
--- nothing was done, and no null procedure of the beginning is answered
+-- the progress of a station that has done nothing: no null procedure of the beginning is answered
 abbrev pub at_start : Plan → ℕ → Progress
 at_start plan turns = record {
   phase = phase.Down;
@@ -40,7 +40,7 @@ at_start plan turns = record {
   turns = turns;
 }
 
--- a turn was made
+-- the progress behind a turn
 abbrev pub turned : Progress → Progress
 turned p = record p { turns = p.turns - 1 }
 
@@ -49,12 +49,12 @@ turned p = record p { turns = p.turns - 1 }
 abbrev pub told : Moment → Progress → Progress
 told m p = record p { moment = m; since = m.elapsed; alive = min p.alive m.elapsed; began = min p.began m.elapsed; stale = false }
 
--- when a cycle begins that begins at this moment. The first one, and each where cycles have no due moment: now. Any other: when it was
--- due, and now at the latest
+-- the moment that counts as the beginning of a cycle that is begun at this moment. For the first cycle, and where cycles
+-- have no due moment, it is this one; for any other the moment at which the cycle was due, and this one at the latest
 abbrev pub beginning : Plan → Moment → Progress → ℕ
 beginning plan m p = if nat_eq p.left plan.cycles || nat_eq plan.every 0 then m.elapsed else min (later p.began plan.every) m.elapsed
 
--- a cycle that would begin at this moment is missed where the one behind it is due by now
+-- whether a cycle that would begin at this moment is missed: the one behind it is due by now
 abbrev pub is_missing : Plan → Moment → Progress → Bool
 is_missing plan m p = nat_lt 0 plan.every && nat_le plan.every (m.elapsed - beginning plan m p)
 
@@ -62,7 +62,7 @@ is_missing plan m p = nat_lt 0 plan.every && nat_le plan.every (m.elapsed - begi
 abbrev pub due_of : Plan → Moment → Progress → ℕ
 due_of plan m p = m.utc - (m.elapsed - beginning plan m p)
 
--- a cycle of so many commands began. Where it is missed, none of them goes out
+-- the progress behind the beginning of a cycle of `count` commands. Where it is missed, none of them goes out
 abbrev pub begun : Plan → ℕ → Moment → Progress → Progress
 begun plan count m p =
     let q = told m p in
@@ -81,15 +81,16 @@ begun plan count m p =
 abbrev pub skipped_at : Moment → Progress → ℕ
 skipped_at m p = if p.missed then p.due else m.utc
 
--- the next command isn't sent. `next_is_chained`: the one behind it goes out only once this one was answered well
+-- the progress behind a command that isn't sent. `next_is_chained`: the one behind it goes out only once this one was
+-- answered well
 abbrev pub skipped : Bool → Moment → Progress → Progress
 skipped next_is_chained m p = let q = told m p in record q { unsent = p.unsent - 1; next_is_chained = next_is_chained; chain_unbroken = false }
 
--- it can't go on, for this cause: the connection is to be closed, and where there is none it is over
+-- the progress behind a failure for this cause: the connection is to be closed, and without a connection the run is over
 abbrev pub failing : Cause → Progress → Progress
 failing cause p = record p { phase = if is_up p.phase then phase.Closing cause else phase.Over cause }
 
--- a connection was made
+-- the progress behind a connection that was made
 abbrev pub opened : Progress → Progress
 opened p = record p { phase = phase.Clearing }
 
@@ -98,19 +99,20 @@ abbrev pub is_spared : Plan → Cause → Progress → Bool
 is_spared plan cause.Open p = false
 is_spared plan _ p = is_idle plan p
 
--- where a station is that has no connection, while so many commands wait: it is done, tries again, or is over for this cause
+-- the phase behind the loss of a connection, or behind an attempt that failed, while `commands` commands wait: the run is
+-- done, or it tries again, or without a try left it is over for this cause
 abbrev pub phase_again : Plan → ℕ → Cause → Progress → Phase
 phase_again plan commands why p =
     if is_finished commands p then phase.Over cause.Done
     else if is_spared plan why p || nat_lt 0 p.tries then phase.Pausing
     else phase.Over why
 
--- how long the pause before the next connection is: the quiet time, and at each further failure twice as long as the last one, up to a
--- minute and never below the quiet time. Where none is wanted: as long as the last one
+-- the length of the next pause: the quiet time behind a first failure, and behind each further one twice the last pause, up
+-- to a minute and never below the quiet time. Where no connection is wanted the last pause stays
 abbrev pub pause_again : Plan → Cause → Progress → ℕ
 pause_again plan why p = if is_spared plan why p then max p.pause plan.quiet else max (min (later p.pause p.pause) 60000) plan.quiet
 
--- no connection could be made, or one was closed: the next one takes a try, unless it is spared
+-- the progress behind a connection that was closed or couldn't be made: the next attempt takes a try, unless it is spared
 abbrev pub again : Plan → ℕ → Cause → Progress → Progress
 again plan commands why p = record p {
   phase = phase_again plan commands why p;
@@ -120,15 +122,15 @@ again plan commands why p = record p {
   chain_unbroken = false;
 }
 
--- the line feed went out. A connection is drained, unless a beginning goes on with it
+-- the progress behind the line feed: a connection is drained next, unless a beginning goes on with it
 abbrev pub cleared : Progress → Progress
 cleared p = record p { phase = if has_begun p then phase.Draining else phase.Ready; again = 0; asked = false; stale = true }
 
--- a request went out. Where none did since the last reply line, the time of a dead line begins
+-- the progress behind a request: the time of a dead line begins with the first one behind a reply line
 abbrev pub asking : Progress → Progress
 asking p = record p { alive = if p.asked then p.alive else p.moment.elapsed; asked = true; stale = true }
 
--- the null procedure that is asked for went out: it goes out again at its deadline
+-- the progress behind the null procedure that is asked for: it goes out again at its deadline
 abbrev pub null_sent : Plan → Progress → Progress
 null_sent plan p = let q = asking p in record q { again = later p.moment.elapsed plan.deadline }
 
@@ -137,11 +139,11 @@ null_sent plan p = let q = asking p in record q { again = later p.moment.elapsed
 abbrev pub renewed : Plan → Moment → Progress → Progress
 renewed plan m p = let q = told m p in record q { word = the_word; again = 0; asked = p.asked && goes_on plan q; chain_unbroken = false }
 
--- the next command went out. `next_is_chained`: the one behind it goes out only once this one was answered well
+-- the progress behind the next command. `next_is_chained`: the one behind it goes out only once this one was answered well
 abbrev pub sent : Bool → Progress → Progress
 sent next_is_chained p = let q = asking p in record q { unsent = p.unsent - 1; next_is_chained = next_is_chained; chain_unbroken = true }
 
--- a line was heard. A reply line shows that the line is alive
+-- the progress behind a line that was heard: a reply line shows that the line is alive
 abbrev pub noted : Bool → Progress → Progress
 noted is_reply p = record p { alive = if is_reply then p.moment.elapsed else p.alive; asked = if is_reply then false else p.asked }
 
@@ -171,15 +173,15 @@ gave plan until before after p = record p {
   pause = if nat_lt after.commands before then 0 else p.pause;
 }
 
--- the pause was long enough: it connects again, where a connection is wanted
+-- the progress at the end of a pause that was long enough: the next action connects, if a connection is wanted
 abbrev pub pause_ended : Plan → Progress → Progress
 pause_ended plan p = record p { phase = if is_past p.pause p && not (is_idle plan p) then phase.Down else p.phase }
 
--- the connection was drained until it was quiet: requests go out at once
+-- the progress at the end of draining, once the connection was quiet: requests go out at once
 abbrev pub drained : Progress → Progress
 drained p = record p { phase = phase.Ready; alive = p.moment.elapsed; asked = false }
 
--- nothing came until this moment: a pause, or a drain, that was long enough ends
+-- the progress behind a read of which nothing came: a pause, or a draining, that was long enough ends
 abbrev pub quieted : Plan → Phase → Progress → Progress
 quieted plan phase.Pausing p = pause_ended plan p
 quieted plan phase.Draining p = if is_quiet plan p then drained p else p
@@ -197,26 +199,27 @@ time_passed until m p = record p {
   early = early_behind until p.early;
 }
 
--- a read gave nothing
+-- the progress behind a read that gave nothing until this moment
 abbrev pub silent : Plan → Until → Moment → Progress → Progress
 silent plan until m p = quieted plan p.phase (time_passed until m p)
 
--- so many commands wait. Where the cycle is done, and the next isn't due yet, it was done early
+-- the progress where `commands` commands wait: the cycle was done early if nothing of it is left and the next one isn't due
+-- yet
 abbrev pub reckoned_early : Plan → ℕ → Progress → Progress
 reckoned_early plan commands p = record p { early = p.early || (nat_eq commands 0 && nat_eq p.unsent 0 && not (is_due plan p)) }
 
--- no other connection is made
+-- the progress at the end of a run, for this cause: no other connection is made
 abbrev pub ended_for : Cause → Progress → Progress
 ended_for why p = record p { phase = phase.Over why; chain_unbroken = false }
 
--- the connection was closed: for these causes for good, and for any other to be made again
+-- the progress behind a close: for these causes no other connection is made, and for any other one is
 abbrev pub closed : Plan → Waiting → Cause → Progress → Progress
 closed plan w cause.Done p = ended_for cause.Done p
 closed plan w cause.Clock p = ended_for cause.Clock p
 closed plan w cause.Turns p = ended_for cause.Turns p
 closed plan w why p = again plan w.commands why p
 
--- the end is decided
+-- whether the end is decided in a phase
 abbrev pub is_over_in : Phase → Bool
 is_over_in phase.Down = false
 is_over_in phase.Pausing = false
@@ -226,10 +229,10 @@ is_over_in phase.Ready = false
 is_over_in (phase.Closing cause) = false
 is_over_in (phase.Over cause) = true
 
--- no act follows: the end is decided, or there is no connection and no turn is left
+-- whether no act follows: the end is decided, or there is no connection and no turn is left
 abbrev pub is_over : Progress → Bool
 is_over p = is_over_in p.phase || (not (is_up p.phase) && nat_eq p.turns 0)
 
--- all that wait are lost: where it begins anew, and where no act follows
+-- whether all that wait are lost: the station begins anew, or no act follows
 abbrev pub loses_all : Progress → Bool
 loses_all p = not (has_begun p) || is_over p

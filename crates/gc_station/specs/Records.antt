@@ -20,7 +20,7 @@ pub record Record : Type 0 where
   pub command : Command
   pub end : End
 
--- a record by its bytes
+-- a record as contracts see it: a command and its ending by their bytes
 abbrev pub record_seen : Stamp → Command → Ending → Record
 record_seen stamp command ending = record { sent = stamp.sent; utc = stamp.utc; cycle = stamp.cycle; place = stamp.place; command = command; end = ending_seen ending }
 

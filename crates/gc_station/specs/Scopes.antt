@@ -1,4 +1,5 @@
--- What a run of a station is looked at with, this project's own: how many acts it makes at most, and what each reply says of its call.
+-- What the laws on a run are told of it beside its plan and its commands, this project's own: how many acts it makes at
+-- most, and what each reply says of its call.
 use Rattle.std.specs.Prelude.{◌≡◌, ℕ, List}
 use Rattle.gc_catalogue.specs.declared.answer.Reading.{Reading}
 use Rattle.gc_catalogue.specs.declared.call.Call.{Call}

@@ -54,7 +54,8 @@ Took text start taken s = AreReadings s.reads → Appends start taken (texts_of 
 abbrev pub TookPart : (Record → List ℕ) → List Record → Option (List ℕ) → Option (List ℕ) → Model → Type 0
 TookPart text before start taken s = AreReadings s.reads → WritesPart text before s.records start taken
 
--- what is seen of a station at a time: what its link told, how its book writes a record and which bytes it took, and the station itself
+-- what is seen of a run at a moment: what its link told, how its book writes a record and which bytes that took, and the
+-- station
 pub record Seen : Type 0 where
   pub acts : Option (List Act)
   pub text : Record → List ℕ
@@ -78,7 +79,7 @@ pub record Breaks (commands : List Task) (action : Action) (next : Model → Act
   pub goes : (s : Model) (start : Option (List ℕ)) → Refines old.station s → Took old.text start old.taken s
       → Performs commands s action act × TookPart old.text s.records start taken (next s act)
 
--- one or the other
+-- an act of this action was made, and its records are in the book; or the book failed at one of them
 abbrev pub Made : {X E : Type 0} → List Task → Action → (Model → Act → Model) → Seen → Seen → Result X E → Type 0
 Made commands action next old new (Ok _) = Makes commands action next old new
 Made commands action next old new (Err _) = Breaks commands action next old new.acts new.taken
@@ -91,7 +92,7 @@ Does plan commands action old new = Makes commands action (moved plan commands a
 abbrev pub stepped : Plan → List Task → Action → Model → Act → Model
 stepped plan commands action s act = ended (moved plan commands action (with_progress turned s) act)
 
--- where a write was cut
+-- the progress where a write was cut
 abbrev pub cut_progress : Result (Unit {0}) ℕ → ℕ → Progress → Progress
 cut_progress (Ok _) requests p = p
 cut_progress (Err n) requests p = failing (cause.Write requests n) p
@@ -109,7 +110,7 @@ abbrev pub ComesTo : {X E : Type 0} → (Record → List ℕ) → List Record �
 ComesTo text before station start taken s (Ok _) = Refines station s × Took text start taken s
 ComesTo text before station start taken s (Err _) = TookPart text before start taken s
 
--- of each action but the last
+-- a fact that holds of each action but `Stop`
 abbrev pub OnCall : Action → Type 0 → Type 0
 OnCall (Stop cause) claim = Unit {0}
 OnCall _ claim = claim

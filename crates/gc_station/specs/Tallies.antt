@@ -12,7 +12,7 @@ none_yet = record { answered = 0; late = 0; lost = 0; skipped = 0; unreadable = 
 abbrev pub one_more : ℕ → ℕ
 one_more n = later n 1
 
--- with one more that ended so
+-- a tally in which a command with this ending is counted
 abbrev pub counted : End → Tally → Tally
 counted (Answered answer line) t = record t { answered = one_more t.answered }
 counted Late t = record t { late = one_more t.late }
@@ -21,7 +21,7 @@ counted Skipped t = record t { skipped = one_more t.skipped }
 counted (Unreadable line fault) t = record t { unreadable = one_more t.unreadable }
 counted Missed t = record t { missed = one_more t.missed }
 
--- with these records, in order
+-- a tally in which the commands of these records are counted
 abbrev pub tallied : Tally → List Record → Tally
 tallied t [] = t
 tallied t (r ∷ others) = tallied (counted r.end t) others

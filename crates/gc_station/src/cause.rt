@@ -28,7 +28,7 @@ pub enum Cause {
 }
 
 impl Cause {
-    /// The fault of a run that ends so, or `None` where it is done.
+    /// The fault of a run that stopped for this cause; `None` where the run is done.
     pub fn fault(self) -> Option<RunFault>
         ensures { result ≡ fault_of self }
     {

@@ -14,7 +14,7 @@ pub(crate) struct Mark {
     pub sent: u64,
 }
 
-// How many of these are commands. The others are null procedures.
+// How many of these marks are of commands; a null procedure has no mark.
 pub(crate) fn commands_in(marks: &[Option<Mark>]) -> usize
     ensures { result ≡ commands_in marks.now }
 {

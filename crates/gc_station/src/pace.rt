@@ -14,21 +14,22 @@ use crate::progressing::later;
 use crate::station::Station;
 
 impl Progress {
-    // When the line is dead.
+    // The moment from which on the line counts as dead.
     fn dead_at(&self, plan: &Plan) -> u64
         ensures { result ≡ dead_at plan.now self.now }
     {
         later(self.alive, patience_of(plan))
     }
 
-    // When the next cycle is due.
+    // The moment at which the next cycle is due.
     fn due_at(&self, plan: &Plan) -> u64
         ensures { result ≡ due_at plan.now self.now }
     {
         later(self.began, plan.every)
     }
 
-    // When the next connection is tried: the pause is over, and one is wanted.
+    // The moment of the next attempt to connect: the end of the pause, or the moment at which a connection is wanted again
+    // if that is later.
     fn retry_at(&self, plan: &Plan) -> u64
         ensures { result ≡ retry_at plan.now self.now }
     {
@@ -78,7 +79,7 @@ impl Progress {
         }
     }
 
-    // The cycle that began last.
+    // The number of the cycle that began last.
     fn cycle(&self, plan: &Plan) -> u64
         ensures { result ≡ cycle_of plan.now self.now }
     {
@@ -117,7 +118,7 @@ impl Station {
             .min(60_000)
     }
 
-    // How things stand.
+    // The health of the link, as a book is told it before each act.
     fn health(&self, plan: &Plan) -> LinkHealth {
         match self.progress.phase {
             Phase::Down | Phase::Pausing if self.progress.is_idle(plan) => LinkHealth::Idle,

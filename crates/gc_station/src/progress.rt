@@ -186,7 +186,7 @@ impl Phase {
         }
     }
 
-    // Whether what comes is heard.
+    // Whether bytes that come are heard in this phase; in the others they are dropped.
     pub(crate) fn is_heard(self) -> bool
         ensures { result ≡ is_heard self }
     {
@@ -203,7 +203,7 @@ impl Phase {
 }
 
 impl Progress {
-    // Nothing was done, and no null procedure of the beginning is answered.
+    // The progress of a station that has done nothing: no null procedure of its beginning is answered.
     pub(crate) fn at_start(plan: &Plan, max_turns: u64) -> Progress
         ensures { result ≡ at_start plan.now max_turns }
     {
@@ -237,7 +237,7 @@ impl Progress {
         wait <= self.moment.elapsed.saturating_sub(self.since)
     }
 
-    // Whether the plan's quiet time has passed since then, as `is_past` counts it.
+    // Whether the plan's quiet time has passed without an event that `is_past` counts from.
     pub(crate) fn is_quiet(&self, plan: &Plan) -> bool
         ensures { result ≡ is_quiet plan.now self.now }
     {
@@ -276,7 +276,7 @@ impl Progress {
         self.unsent > 0 || self.is_due(plan)
     }
 
-    // What is next, where so many requests wait.
+    // The next action, where `waiting` counts the requests that wait.
     pub(crate) fn action(&self, plan: &Plan, waiting: Waiting) -> Action
         ensures { result ≡ action_of plan.now self.now waiting }
     {
@@ -312,7 +312,7 @@ impl Progress {
         }
     }
 
-    // Commands go out, once the null procedures of its beginning are answered.
+    // The next action of the phase `Ready`: the beginning's until its eighth null procedure is answered, then the commands'.
     fn action_ready(&self, plan: &Plan, waiting: Waiting) -> Action
         ensures { result ≡ action_ready plan.now self.now waiting }
     {
@@ -330,8 +330,8 @@ impl Progress {
         self.left == 0 && self.unsent == 0 && commands == 0
     }
 
-    // It begins: the null procedure that is asked for goes out, and again at its deadline. Between cycles nothing goes out, nor where
-    // nothing is left to be asked behind it.
+    // The next action while the station begins: to send the null procedure that is asked for, the first time or since its
+    // deadline passed. Between cycles nothing goes out, nor where nothing is left to be asked behind it.
     fn action_beginning(&self, plan: &Plan, waiting: Waiting) -> Action
         ensures { result ≡ action_beginning plan.now self.now waiting }
     {
@@ -348,7 +348,7 @@ impl Progress {
         }
     }
 
-    // It has begun: commands go out.
+    // The next action once the station has begun: to send the next command, if that needn't wait for the answer before it.
     fn action_begun(&self, plan: &Plan, waiting: Waiting) -> Action
         ensures { result ≡ action_begun plan.now self.now waiting }
     {
@@ -359,7 +359,8 @@ impl Progress {
         }
     }
 
-    // Each command of the cycle was sent, or the next one goes out only behind those that were.
+    // The next action where no command may go out before those that wait are settled: each of the cycle was sent, or the
+    // next one is chained.
     fn action_sent(&self, plan: &Plan, waiting: Waiting) -> Action
         ensures { result ≡ action_sent plan.now self.now waiting }
     {
@@ -372,7 +373,7 @@ impl Progress {
         }
     }
 
-    // Each command that was sent is settled.
+    // The next action where each command that was sent is settled.
     fn action_settled(&self, plan: &Plan, waiting: Waiting) -> Action
         ensures { result ≡ action_settled plan.now self.now waiting }
     {
@@ -385,15 +386,15 @@ impl Progress {
         }
     }
 
-    // Whether the next command of a chain goes out: the one before it was answered well, and since it went out no connection was
-    // closed, and it didn't begin anew.
+    // Whether the next command of a chain may go out: the one before it was answered well, and since that went out no
+    // connection was closed, and the station didn't begin anew.
     fn may_go(&self, waiting: Waiting) -> bool
         ensures { result ≡ may_go self.now waiting }
     {
         waiting.well && self.chain_unbroken
     }
 
-    // A request is to be sent, as soon as there is room.
+    // This action, which sends a request, if there is room for one; else the action of a station that waits.
     fn action_room(&self, plan: &Plan, waiting: Waiting, action: Action) -> Action
         ensures { result ≡ action_room plan.now self.now waiting action }
     {
@@ -404,7 +405,7 @@ impl Progress {
         }
     }
 
-    // Each command of the cycle is settled.
+    // The next action where each command of the cycle is settled.
     fn action_done(&self, plan: &Plan) -> Action
         ensures { result ≡ action_done plan.now self.now }
     {
@@ -417,7 +418,7 @@ impl Progress {
         }
     }
 
-    // Nothing may go out.
+    // The next action where nothing may go out.
     fn action_waiting(&self, plan: &Plan, waiting: Waiting) -> Action
         ensures { result ≡ action_waiting plan.now self.now waiting }
     {

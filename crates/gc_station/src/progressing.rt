@@ -54,16 +54,16 @@ pub(crate) fn is_reply(hearing: Hearing) -> bool
 }
 
 impl Progress {
-    // A turn was made.
+    // Counts a turn.
     pub(crate) fn turn(&mut self)
         ensures { self.new ≡ turned self.old }
     {
         self.turns = self.turns.saturating_sub(1);
     }
 
-    // The moment was told, behind bytes that went or came, or a connection that was closed or not made: the quiet time begins now.
-    // Where the clock went back, the cycle began now at the latest, so that the next one isn't put off, and the line was alive now at
-    // the latest.
+    // Notes the moment that was read behind bytes that went or came, or behind a connection that was closed or couldn't be
+    // made: the quiet time begins now. Where the clock went back, the cycle is taken to have begun now at the latest, so
+    // that the next one isn't put off, and the line to have been alive now at the latest.
     pub(crate) fn tell(&mut self, moment: Moment)
         ensures { self.new ≡ told moment self.old }
     {
@@ -102,7 +102,7 @@ impl Progress {
         moment.utc.saturating_sub(late)
     }
 
-    // A cycle of so many commands began. Where it is missed, none of them goes out.
+    // Begins a cycle of `commands` commands at this moment. Where the cycle is missed, none of them goes out.
     pub(crate) fn begin(&mut self, plan: &Plan, count: usize, moment: Moment)
         ensures { self.new ≡ begun plan.now count moment self.old }
     {
@@ -120,14 +120,16 @@ impl Progress {
         self.chain_unbroken = false;
     }
 
-    // The moment that stands in the record of a command that isn't sent: that of the cycle, where it is missed, and else this one.
+    // The moment in the record of a command that isn't sent: where its cycle is missed, the moment at which that was due;
+    // else this moment.
     pub(crate) fn skipped_at(&self, moment: Moment) -> u64
         ensures { result ≡ skipped_at moment self.now }
     {
         if self.missed { self.due } else { moment.utc }
     }
 
-    // The next command isn't sent. `next_is_chained`: the one behind it goes out only once this one was answered well.
+    // Passes over the next command, which isn't sent. `next_is_chained`: the one behind it goes out only once this one was
+    // answered well.
     pub(crate) fn skip(&mut self, next_is_chained: bool, moment: Moment)
         ensures { self.new ≡ skipped next_is_chained moment self.old }
     {
@@ -137,7 +139,7 @@ impl Progress {
         self.chain_unbroken = false;
     }
 
-    // It can't go on, for this cause: the connection is to be closed, and where there is none it is over.
+    // Notes why the run can't go on: its connection is to be closed, and without a connection the run is over.
     pub(crate) fn fail(&mut self, cause: Cause)
         ensures { self.new ≡ failing cause self.old }
     {
@@ -148,21 +150,22 @@ impl Progress {
         };
     }
 
-    // A connection was made.
+    // Notes that a connection was made.
     pub(crate) fn open(&mut self)
         ensures { self.new ≡ opened self.old }
     {
         self.phase = Phase::Clearing;
     }
 
-    // Whether no connection is wanted: the cycle was done before the next was due, and that isn't due yet.
+    // Whether no connection is wanted: the cycle was done early, and the next one isn't due yet.
     pub(crate) fn is_idle(&self, plan: &Plan) -> bool
         ensures { result ≡ is_idle plan.now self.now }
     {
         self.early && !self.is_due(plan)
     }
 
-    // Whether the next connection takes no try: one was closed while none is wanted. That none could be made takes one.
+    // Whether the next attempt to connect takes no try: a connection was closed while none is wanted. An attempt that failed
+    // always takes one.
     fn is_spared(&self, plan: &Plan, cause: Cause) -> bool
         ensures { result ≡ is_spared plan.now cause self.now }
     {
@@ -172,7 +175,8 @@ impl Progress {
         }
     }
 
-    // Where a station is that has no connection, while so many commands wait: it is done, tries again, or is over for this cause.
+    // The phase behind the loss of a connection, or behind an attempt that failed, while `commands` commands wait: the run
+    // is done, or it tries again, or without a try left it is over for this cause.
     fn phase_again(&self, plan: &Plan, commands: usize, cause: Cause) -> Phase
         ensures { result ≡ phase_again plan.now commands cause self.now }
     {
@@ -185,8 +189,8 @@ impl Progress {
         }
     }
 
-    // How long the pause before the next connection is: the quiet time, and at each further failure twice as long as the last one, up to a
-    // minute and never below the quiet time. Where none is wanted: as long as the last one.
+    // The length of the next pause: the quiet time behind a first failure, and behind each further one twice the last pause,
+    // up to a minute and never below the quiet time. Where no connection is wanted the last pause stays.
     fn pause_again(&self, plan: &Plan, cause: Cause) -> u64
         ensures { result ≡ pause_again plan.now cause self.now }
     {
@@ -197,7 +201,7 @@ impl Progress {
         }
     }
 
-    // No connection could be made, or one was closed: the next one takes a try, unless it is spared.
+    // Notes that a connection was closed, or couldn't be made: the next attempt takes a try, unless it is spared.
     pub(crate) fn try_again(&mut self, plan: &Plan, commands: usize, cause: Cause)
         ensures { self.new ≡ again plan.now commands cause self.old }
     {
@@ -211,7 +215,7 @@ impl Progress {
         }
     }
 
-    // The line feed went out. A connection is drained, unless a beginning goes on with it.
+    // Notes that the line feed went out: the connection is drained next, unless a beginning goes on with it.
     pub(crate) fn clear(&mut self)
         ensures { self.new ≡ cleared self.old }
     {
@@ -225,7 +229,7 @@ impl Progress {
         self.stale = true;
     }
 
-    // A request went out. Where none did since the last reply line, the time of a dead line begins.
+    // Notes that a request went out. The time of a dead line begins with the first one behind a reply line.
     pub(crate) fn ask(&mut self)
         ensures { self.new ≡ asking self.old }
     {
@@ -236,7 +240,7 @@ impl Progress {
         self.stale = true;
     }
 
-    // The null procedure that is asked for went out: it goes out again at its deadline.
+    // Notes that the null procedure that is asked for went out: it goes out again at its deadline.
     pub(crate) fn ask_null(&mut self, plan: &Plan)
         ensures { self.new ≡ null_sent plan.now self.old }
     {
@@ -244,8 +248,8 @@ impl Progress {
         self.again = later(self.moment.elapsed, plan.deadline);
     }
 
-    // It begins anew at this moment. Where nothing more is asked before the next cycle is due, the time of a dead line begins with the
-    // first null procedure.
+    // Begins anew at this moment. Where nothing more is asked before the next cycle is due, the time of a dead line begins
+    // with the first null procedure.
     pub(crate) fn renew(&mut self, plan: &Plan, moment: Moment)
         ensures { self.new ≡ renewed plan.now moment self.old }
     {
@@ -256,7 +260,7 @@ impl Progress {
         self.chain_unbroken = false;
     }
 
-    // While it begins a line came. Where it answers, the next null procedure goes out at once.
+    // Hears a line while the station begins. Where it answers, the next null procedure goes out at once.
     pub(crate) fn hear(&mut self, line: &[u8])
         requires { length line.now ≤ 512 }
         ensures { self.new ≡ line_asked self.old line.now }
@@ -267,7 +271,8 @@ impl Progress {
         self.note(reads(line));
     }
 
-    // The next command went out. `next_is_chained`: the one behind it goes out only once this one was answered well.
+    // Notes that the next command went out. `next_is_chained`: the one behind it goes out only once this one was answered
+    // well.
     pub(crate) fn send(&mut self, next_is_chained: bool)
         ensures { self.new ≡ sent next_is_chained self.old }
     {
@@ -277,7 +282,7 @@ impl Progress {
         self.chain_unbroken = true;
     }
 
-    // A line was heard. A reply line shows that the line is alive.
+    // Notes that a line was heard: a reply line shows that the line is alive.
     pub(crate) fn note(&mut self, is_reply: bool)
         ensures { self.new ≡ noted is_reply self.old }
     {
@@ -287,8 +292,8 @@ impl Progress {
         }
     }
 
-    // Bytes came: `before` commands waited before them, and `after` is what waits now. Where a command was settled, all tries are left
-    // again, and the next pause is the quiet time.
+    // Notes that a read gave bytes: `before` commands waited before it, and `after` counts what waits now. Where a command
+    // was settled, all tries are left again, and the next pause is the quiet time.
     pub(crate) fn give(&mut self, plan: &Plan, until: Until, before: usize, after: Waiting)
         ensures { self.new ≡ gave plan.now until before after self.old }
     {
@@ -299,7 +304,7 @@ impl Progress {
         self.early = early_behind(until, self.early);
     }
 
-    // The pause was long enough: it connects again, where a connection is wanted.
+    // Ends a pause that was long enough, where a connection is wanted: the next action connects.
     fn end_pause(&mut self, plan: &Plan)
         ensures { self.new ≡ pause_ended plan.now self.old }
     {
@@ -308,7 +313,7 @@ impl Progress {
         }
     }
 
-    // The connection was drained until it was quiet: requests go out at once.
+    // Ends the draining of a connection that was quiet for long enough: requests go out at once.
     fn end_drain(&mut self)
         ensures { self.new ≡ drained self.old }
     {
@@ -317,7 +322,7 @@ impl Progress {
         self.asked = false;
     }
 
-    // Nothing came until this moment: a pause, or a drain, that was long enough ends.
+    // Ends a pause, or a draining, in which nothing came for long enough.
     fn quiet(&mut self, plan: &Plan)
         ensures { self.new ≡ quieted plan.now self.old.phase self.old }
     {
@@ -332,8 +337,8 @@ impl Progress {
         }
     }
 
-    // The moment was told behind a read that gave nothing: the quiet time goes on. Where the clock went back, the quiet time, and the
-    // cycle, began now at the latest, and the line was alive now at the latest.
+    // Notes the moment behind a read that gave nothing: the quiet time goes on. Where the clock went back, the quiet time
+    // and the cycle are taken to have begun now at the latest, and the line to have been alive now at the latest.
     fn pass_time(&mut self, until: Until, moment: Moment)
         ensures { self.new ≡ time_passed until moment self.old }
     {
@@ -345,7 +350,7 @@ impl Progress {
         self.early = early_behind(until, self.early);
     }
 
-    // A read gave nothing.
+    // Notes that a read gave nothing until this moment.
     pub(crate) fn be_silent(&mut self, plan: &Plan, until: Until, moment: Moment)
         ensures { self.new ≡ silent plan.now until moment self.old }
     {
@@ -353,14 +358,15 @@ impl Progress {
         self.quiet(plan);
     }
 
-    // So many commands wait. Where the cycle is done, and the next isn't due yet, it was done early.
+    // Notes whether the cycle was done early, where `commands` commands wait: nothing of it is left, and the next one isn't
+    // due yet.
     pub(crate) fn reckon_early(&mut self, plan: &Plan, commands: usize)
         ensures { self.new ≡ reckoned_early plan.now commands self.old }
     {
         self.early = self.early || (commands == 0 && self.unsent == 0 && !self.is_due(plan));
     }
 
-    // The connection was closed: for `Done`, `Clock` and `Turns` for good, and for any other cause to be made again.
+    // Notes that the connection was closed: for `Done`, `Clock` and `Turns` no other one is made.
     pub(crate) fn close(&mut self, plan: &Plan, waiting: Waiting, cause: Cause)
         ensures { self.new ≡ closed plan.now waiting cause self.old }
     {
@@ -370,7 +376,7 @@ impl Progress {
         }
     }
 
-    // No other connection is made.
+    // Ends the run for this cause: no other connection is made.
     fn end(&mut self, cause: Cause)
         ensures { self.new ≡ ended_for cause self.old }
     {
@@ -388,7 +394,7 @@ impl Progress {
         }
     }
 
-    // Whether all that wait are lost: where it begins anew, and where no act follows.
+    // Whether all requests that wait are lost: the station begins anew, or no act follows.
     pub(crate) fn loses_all(&self) -> bool
         ensures { result ≡ loses_all self.now }
     {

@@ -86,7 +86,7 @@ impl Station {
         }
     }
 
-    // How many of them are commands.
+    // How many of the requests that wait are commands.
     pub(crate) fn commands(&self) -> usize
         ensures { result ≡ commands_in self.now.marks.items }
     {
@@ -227,7 +227,7 @@ impl Station {
         }
     }
 
-    // Writes the next command down, which isn't sent: it is skipped, or its cycle is missed.
+    // Writes the record of the next command, which isn't sent: it is skipped, or its cycle is missed.
     fn write_skipped<B: Book>(
         &mut self,
         book: &mut B,
@@ -267,7 +267,7 @@ impl Station {
         Ok(())
     }
 
-    // Writes down what was settled, by the marks of the oldest that waited, which go.
+    // Writes the records of what was settled, and takes out the marks of the requests that those settle, the oldest first.
     fn write<B: Book>(&mut self, book: &mut B) -> Result<(), PortFailed>
         requires { All (λ s. IsWellRead s.call s.outcome) self.old.settled.items }
         ensures wrote { WritesNews (B.text book.old) (B.taken book.old) (B.taken book.new) (λ reads. records_of reads self.old.progress.moment.utc self.old.marks.items (map settlement_seen self.old.settled.items)) result }
@@ -305,7 +305,7 @@ impl Station {
         self.progress.close(plan, waiting, cause);
     }
 
-    // Makes the one call of an action, and does what comes of it.
+    // Makes the one call of an action, and takes in what came of it.
     fn perform<L: Link, B: Book>(
         &mut self,
         link: &mut L,
@@ -365,7 +365,7 @@ impl Station {
         }
     }
 
-    // Writes all that wait down as lost, where the station begins anew and where no act follows.
+    // Writes all requests that wait down as lost, where the station begins anew or no act follows.
     fn end<B: Book>(&mut self, book: &mut B) -> Result<(), PortFailed>
         ensures ends { (s : Model) (start : Option (List ℕ)) → Refines self.old s → Took (B.text book.old) start (B.taken book.old) s
             → ComesTo (B.text book.old) s.records self.new start (B.taken book.new) (ended s) result }

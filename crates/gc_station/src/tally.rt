@@ -38,7 +38,7 @@ impl Tally {
         }
     }
 
-    /// A command ended so: its count grows by one, unless it is the greatest.
+    /// Counts a command by its ending: that count grows by one, unless it is the greatest `u64`.
     pub fn count(&mut self, ending: Ending<'_>)
         ensures { self.new ≡ counted (ending_seen ending.entry) self.old }
     {

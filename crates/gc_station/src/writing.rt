@@ -22,7 +22,7 @@ use gc_client::{Outcome, Settlement, WINDOW};
 use gc_lines::PortFailed;
 use gc_texts::{Command, Ending, Stamp};
 
-// The mark of the oldest request that waits, which goes.
+// Takes out the mark of the oldest request that waits.
 fn take_mark(marks: &mut ArrayVec<Option<Mark>, WINDOW>) -> Option<Mark>
     ensures goes { marks.new.items ≡ drop 1 marks.old.items }
     ensures records { (reads : Call → List ℕ → Reading) (utc : ℕ) (settlement : Rule.Settlement)
@@ -96,7 +96,7 @@ fn write_one<B: Book>(
     Ok(())
 }
 
-// Writes settlements of the oldest requests that wait, by their marks, which go.
+// Writes the records of settlements of the oldest requests that wait, and takes out the marks of these.
 pub(crate) fn write_settlements<B: Book>(
     book: &mut B,
     tally: &mut Tally,

@@ -2,7 +2,7 @@
 use Rattle.std.specs.Prelude.{◌≡◌, ℕ, ◌+◌, ◌*◌, ◌<◌, [], ◌∷◌, ◌++◌, codes}
 use Rattle.gc_texts.specs.Stamps.{next_day, date_of, two_digits, three_digits, date_text, stamp_text}
 
--- the milliseconds of so many days, hours, minutes and seconds, and of so many more
+-- the milliseconds of these days, hours, minutes, seconds and milliseconds together
 abbrev pub millis_of : ℕ → ℕ → ℕ → ℕ → ℕ → ℕ
 millis_of days hours minutes seconds more = days * 86400000 + hours * 3600000 + minutes * 60000 + seconds * 1000 + more
 
@@ -10,8 +10,8 @@ millis_of days hours minutes seconds more = days * 86400000 + hours * 3600000 + 
 abbrev pub digit : ℕ → ℕ
 digit n = 48 + n
 
--- a stamp has its day, its hour, minute and second, and the milliseconds behind them, each in digits that count it; the day with which
--- moments begin is 1 January 1970, and each other one follows the one before it
+-- the text of a stamp gives its date, hour, minute, second and millisecond, each in digits of its value; day 0 is 1 January
+-- 1970, and each other day is the one after the day before
 pub record StampsAreMoments : Type 0 where
   pub moment : (days hours minutes seconds more : ℕ) → hours < 24 → minutes < 60 → seconds < 60 → more < 1000
       → stamp_text (millis_of days hours minutes seconds more)

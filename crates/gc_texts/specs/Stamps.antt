@@ -3,7 +3,7 @@ use Rattle.std.specs.Prelude.{ℕ, zero, suc, ◌+◌, ◌/◌, ◌%◌, ◌==�
 use Rattle.std.specs.Fmt.{decimal}
 use Rattle.gc_texts.specs.declared.stamp.Date.{Date}
 
--- every fourth year, but of the centuries only every fourth
+-- whether a year is a leap year: each fourth one, but of the years that begin a century only each fourth
 abbrev pub is_leap : ℕ → Bool
 is_leap year = (year % 4 == 0) && (not (year % 100 == 0) || (year % 400 == 0))
 
@@ -17,7 +17,7 @@ month_days year month =
 abbrev pub year_days : ℕ → ℕ
 year_days year = if is_leap year then 366 else 365
 
--- the days of the first so many months of a year
+-- how many days the first `months` months of a year have
 unfoldable pub days_of_months : ℕ → ℕ → ℕ
 days_of_months year zero = 0
 days_of_months year (suc n) = days_of_months year n + month_days year (n + 1)
@@ -28,12 +28,12 @@ next_day d =
     if nat_lt d.day (month_days d.year d.month) then record { year = d.year; month = d.month; day = d.day + 1 }
     else (if nat_lt d.month 12 then record { year = d.year; month = d.month + 1; day = 1 } else record { year = d.year + 1; month = 1; day = 1 })
 
--- the day that so many days later is
+-- the date this many days after a date
 unfoldable pub days_after : ℕ → Date → Date
 days_after zero d = d
 days_after (suc n) d = days_after n (next_day d)
 
--- the day on which so many days have gone by since 1 January 1970
+-- the date this many days after 1 January 1970
 abbrev pub date_of : ℕ → Date
 date_of days = days_after days (record { year = 1970; month = 1; day = 1 })
 
@@ -55,6 +55,6 @@ time_text millis =
     two_digits (millis / 3_600_000) ++ codes ":" ++ two_digits (millis / 60_000 % 60) ++ codes ":"
     ++ two_digits (millis / 1_000 % 60) ++ codes "." ++ three_digits (millis % 1_000)
 
--- the moment so many milliseconds after the beginning of 1970, as 2026-11-22T23:08:27.123Z
+-- the moment this many milliseconds after the beginning of 1970, as 2026-11-22T23:08:27.123Z
 abbrev pub stamp_text : ℕ → List ℕ
 stamp_text utc = date_text (date_of (utc / 86_400_000)) ++ codes "T" ++ time_text (utc % 86_400_000) ++ codes "Z"

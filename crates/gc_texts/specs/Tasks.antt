@@ -12,11 +12,11 @@ use Rattle.gc_texts.specs.declared.tasks.Mode.{Mode}
 use Rattle.gc_texts.specs.declared.tasks.Task.{Task}
 use Rattle.gc_texts.specs.declared.text.TheConstants.{TEXT_LIMIT}
 
--- what holds before any line: a deadline, a mode, and no row
+-- the mode before any line: this deadline, chained or not, and no row
 abbrev pub opening : ℕ → Bool → Mode
 opening deadline chained = record { deadline = deadline; chained = chained; row = None }
 
--- what holds behind a line: a command's row is its target's, a line of the mode breaks the row, and a name changes nothing
+-- the mode behind a line: a command's row is its target's, a line of the mode breaks the row, and a name changes nothing
 abbrev pub behind : Mode → TaskLine → Mode
 behind mode (says.Command command) = record { deadline = mode.deadline; chained = mode.chained; row = Some command.target }
 behind mode (says.Deadline deadline) = record { deadline = deadline; chained = mode.chained; row = mode.row }
@@ -24,7 +24,7 @@ behind mode says.Chained = record { deadline = mode.deadline; chained = true; ro
 behind mode says.Unchained = record { deadline = mode.deadline; chained = false; row = None }
 behind mode (says.Naming name) = mode
 
--- whether a command of this target goes on a row
+-- whether a command for this target continues the row
 abbrev pub goes_on : Option ℕ → ℕ → Bool
 goes_on (Some before) target = before == target
 goes_on None target = false

@@ -39,11 +39,11 @@ IsCallTrouble rpc params (trouble.Wants n count) = IsListTrouble rpc params (tro
 IsCallTrouble rpc params trouble.Parameters = IsListTrouble rpc params trouble.Parameters
 IsCallTrouble rpc params _ = ⊥
 
--- no number up to the greatest stands there
+-- no number up to this maximum is at the front
 abbrev pub NoNumber : List ℕ → ℕ → Type 0
 NoNumber text max = (n : ℕ) → IsNumber text n max → ⊥
 
--- the fields of a line: its first word, the second, and what stands behind that
+-- the fields of a line: its first word, its second word, and the rest of the line
 abbrev pub first_word : List ℕ → List ℕ
 first_word line = before 32 line
 

@@ -54,8 +54,9 @@ pub fn commands_go_out_as_their_lines_say()
     ensures { CommandsGoOutSo }
 {}
 
-/// A stamp has its day, hour, minute and second, and the milliseconds behind them, each in the digits that count it. The days are
-/// those that follow 1 January 1970.
+/// The text of a stamp reads as its moment: its date and its hour, minute, second and millisecond make up the milliseconds
+/// since 1970, each written in digits of its value. The date of day 0 is 1 January 1970, and that of each other day is the
+/// day after the one before.
 pub fn stamps_are_moments()
     ensures { StampsAreMoments }
 {}

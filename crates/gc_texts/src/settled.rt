@@ -11,7 +11,7 @@ use gc_lines::{Sink, append, write_whole};
 use itoa::Buffer;
 use std::alloc::AllocError;
 
-/// Appends the lines of settlements, the first of them at place 0. Behind a want of memory a part of them stands there.
+/// Appends the lines of settlements, the first of them at place 0. Where memory is wanting a part of them was appended.
 pub fn append_settlements(text: &mut Vec<u8>, settlements: &[Settlement]) -> Result<(), AllocError>
     ensures { OnOk result (text.new.items ≡ text.old.items ++ settlement_lines (map settlement_seen settlements.now)) }
 {
@@ -58,8 +58,8 @@ pub fn write_settlements<K: Sink>(
 // The most bytes of a settlement's line: a place and a target, the words, and the reply's line.
 const LINE_ROOM: usize = 20 + 1 + 10 + 10 + 512 + 1;
 
-// Writes the line of the settlement at a place over another one: a line that is kept for all of them is blanked by as many bytes
-// as it has.
+// Writes the line of the settlement at a place into `line`, in place of what is there. (Clearing a line costs as much as it
+// has bytes, so one is kept for all settlements.)
 fn write_line(line: &mut ArrayVec<u8, LINE_ROOM>, place: usize, settlement: &Settlement)
     ensures { line.new.items ≡ settlement_line place (settlement_seen settlement.now) }
 {

@@ -57,7 +57,7 @@ fn is_leap(year: u64) -> bool
     year % 4 == 0 && (year % 100 != 0 || year % 400 == 0)
 }
 
-// The day on which so many days have gone by since 1 January 1970.
+// The date `days` days after 1 January 1970.
 fn date_of(days: u64) -> Date
     requires { days < 2 ^ 63 }
     ensures date { result ≡ date_of days }
@@ -73,7 +73,7 @@ fn date_of(days: u64) -> Date
     day_of_year(year, left)
 }
 
-// The day of a year before which `days` days of that year have gone by. The year has more days than that.
+// The date of a day of this year, where `days` days of the year come before it.
 fn day_of_year(year: u64, days: u64) -> Date
     requires { days < year_days year }
     ensures date { result ≡ days_after days (record { year = year; month = 1; day = 1 }) }
@@ -145,7 +145,7 @@ fn time_text(millis: u64) -> ArrayVec<u8, 12>
 /// The most bytes of a stamp: a date, `T`, a time and `Z`.
 pub const STAMP_ROOM: usize = 26 + 1 + 12 + 1;
 
-/// The moment so many milliseconds after the beginning of 1970, as 2026-11-22T23:08:27.123Z.
+/// The moment `utc` milliseconds after the beginning of 1970, as 2026-11-22T23:08:27.123Z.
 pub fn stamp_text(utc: u64) -> ArrayVec<u8, STAMP_ROOM>
     ensures { result.items ≡ stamp_text utc }
 {

@@ -60,7 +60,7 @@ struct Mode {
     row: Option<u32>,
 }
 
-// What holds behind a line.
+// The deadline, the mode and the row that hold behind a line.
 fn behind(mode: Mode, said: &TaskLine) -> Mode
     ensures { result ≡ behind mode said.now }
 {
@@ -87,7 +87,7 @@ fn behind(mode: Mode, said: &TaskLine) -> Mode
     }
 }
 
-// Whether a command of this target goes on a row.
+// Whether a command for this target continues the row, in which all commands have one target.
 fn goes_on(row: Option<u32>, target: u32) -> bool
     ensures { result ≡ goes_on row target }
 {
@@ -97,7 +97,8 @@ fn goes_on(row: Option<u32>, target: u32) -> bool
     }
 }
 
-// Whether a line may stand behind those that gave these names.
+// Whether a line may follow lines that gave these names: if it names a target, that target has no name yet, and there are
+// fewer than 64 names.
 fn may_stand(names: &[Name], said: &TaskLine) -> bool
     ensures { result ≡ may_stand names.now said.now }
 {
@@ -107,7 +108,7 @@ fn may_stand(names: &[Name], said: &TaskLine) -> bool
     }
 }
 
-// Keeps the task or the name of a line.
+// Appends the task or the name that a line gives, if it gives one.
 fn keep(
     tasks: &mut Vec<Task>,
     names: &mut Vec<Name>,

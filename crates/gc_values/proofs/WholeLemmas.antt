@@ -24,6 +24,7 @@ counted_more text i cap value more c within here e = record {
   value_is = capped_step (number (take i text)) (get_or text i 0 - 48) cap value more (number (take (i + 1) text)) c.value_is (number-take_more text i within) e;
 }
 
+-- the value is the number that a text of digits writes, or the cap where that is above it
 pub record Counted (text : List ℕ) (cap value : ℕ) : Type 0 where
   pub names : NamesNumber text (number text)
   pub value_is : value ≡ min cap (number text)

@@ -6,23 +6,23 @@ use Rattle.gc_values.specs.declared.fault.ValueFault.TheVariants.{Count}
 use Rattle.gc_values.specs.declared.value.Kind.{Kind}
 use Rattle.gc_values.specs.declared.value.Value.{Value}
 
--- no item had a fault, and those from the place on are read as the values
+-- no parameter asked for so far had a fault, and the items from this place on read as these values
 pub record AreLeft (items : List (List ℕ)) (place : ℕ) (fault : Option ValueFault) (vs : List Value) : Type 0 where
   pub well : fault ≡ None
   pub within : place ≤ length items
   pub read : AreItems (drop place items) vs
 
--- the first fault, be it kept or one of the items from the place on
+-- the first fault: the one that was found so far, or the first of the items from this place on
 abbrev pub IsFirst : Option ValueFault → List Kind → List (List ℕ) → ValueFault → Type 0
 IsFirst (Some kept) ks items e = e ≡ kept
 IsFirst None ks items e = FirstFault ks items e
 
--- why the items aren't of these kinds from the place on: another count, else the first fault
+-- why the items from this place on aren't of these kinds: there are more or fewer, or else the first fault
 pub data IsFaultFrom (items : List (List ℕ)) (place : ℕ) (fault : Option ValueFault) (ks : List Kind) (e : ValueFault) : Type 0 where
   wrong_count : e ≡ Count → length ks + place ≢ length items → IsFaultFrom items place fault ks e
   first_fault : length ks + place ≡ length items → IsFirst fault ks (drop place items) e → IsFaultFrom items place fault ks e
 
--- the same where the list may have been refused as a whole
+-- `AreLeft` or `IsFaultFrom`, where the list may have been refused as a whole
 abbrev pub ReadsFrom : Result (List (List ℕ)) ValueFault → ℕ → Option ValueFault → List Value → Type 0
 ReadsFrom (Ok items) place fault vs = AreLeft items place fault vs
 ReadsFrom (Err refusal) place fault vs = ⊥

@@ -31,6 +31,7 @@ SameSend (Some x) (Some y) = SameSending x y
 SameSend None (Some y) = ⊥
 SameSend (Some x) None = ⊥
 
+-- both clients settle the same, and are alike then
 pub record SameSettled (a : Settled ById) (b : Settled ByNumber) : Type 0 where
   pub settlements : a.settlements ≡ b.settlements
   pub client : Alike a.client b.client

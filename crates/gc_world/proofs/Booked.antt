@@ -73,6 +73,7 @@ all_made_settle made n m zero line (p ∷ ps) e h =
     (made_met made n line p p.given_up refl (subst (λ i. Has (record { number = i; line = line }) made) e' h), tt)
 all_made_settle made n m (suc k) line (p ∷ ps) e h = (tt, all_made_settle made (n + 1) m k line ps (omega arith) h)
 
+-- each reply in flight and each answer that was booked was made for its request
 pub record IsBacked (made down : List (Numbered (List ℕ))) (settled : List Settlement) : Type 0 where
   pub under_way : Each (λ x. Has x made) down
   pub booked : AllMade made 0 settled

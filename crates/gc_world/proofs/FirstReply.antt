@@ -72,6 +72,7 @@ waiting_alike settled waiting sent e =
 abbrev outcome_of : Pending → List ℕ → Outcome
 outcome_of p line = cond p.given_up Late (Answered line)
 
+-- a reply to request n settles the requests before it as lost and then request n, which is one that was sent
 pub record IsGained (settled : List Settlement) (waiting : List Pending) (sent : List Sent) (n : ℕ) (line : List ℕ) (p : Pending) : Type 0 where
   pub request : Sent
   pub found : slice_get sent n ≡ Some request

@@ -115,6 +115,7 @@ spared : (width : ℕ) (d : Direction) (v : Streams ById State) (n used : ℕ) �
 spared width Up v n used h t = absurd (next_takes width v n used h t)
 spared width Down v n used h t = next_strays width v n used h v.world.wire.down refl t
 
+-- the streams once some of n bytes were handed over: handing over those left leads where handing over all n leads
 pub record IsReached (width : ℕ) (d : Direction) (s : Seen) (v : Streams ById State) (n left : ℕ) : Type 0 where
   pub now : Streams ById State
   pub shows : AreStreamsOf width s now

@@ -26,8 +26,8 @@ left_by_numbers width opening events = (streams_by_numbers width ends events (re
 abbrev pub KeepsOrder : Type 0
 KeepsOrder = (width : ℕ) → width ≤ WINDOW → (opening : State) (events : List Event) → IsOrderly width (left_by_ids width opening events)
 
--- while a reply is kept, every request under way upward has the number last executed or one of the next, as many as the window
--- is wide: so an id tells a repeat from a new request
+-- while a reply is kept, each request in flight has the number that was executed last, or one of the next `width` numbers:
+-- so a request with the kept id is the one executed last, repeated
 abbrev pub KeepsRecent : Type 0
 KeepsRecent = (width : ℕ) → width ≤ WINDOW → (opening : State) (events : List Event) → (let w = left_by_ids width opening events in IsRecent width w.state.kept w.executed (numbers w.up))
 
@@ -41,13 +41,13 @@ SettlesInOrder =
     (width : ℕ) (opening : State) (events : List Event) →
     IsOneForOne (left_by_ids width opening events).sent (left_by_ids width opening events).settled
 
--- an answer that is booked at place m is a line that was made for request m, in reply to that very call
+-- an answer that is booked at place m is a line that was made on executing request m, for the call of that request
 abbrev pub BooksItsOwn : Type 0
 BooksItsOwn =
     (width : ℕ) → width ≤ WINDOW → (opening : State) → IsFittingState (restarted opening) → (events : List Event) (m : ℕ) (s : Settlement) →
     slice_get (left_by_ids width opening events).settled m ≡ Some s → IsBooked ends IsFittingState (left_by_ids width opening events).made m s
 
--- such a line reads as a value or a refusal
+-- the line of an answer that is booked reads as a value or a refusal
 abbrev pub RepliesAreFine : Type 0
 RepliesAreFine =
     (call : Call) (bytes : List ℕ) (reading : Reading) → IsReplyTo ends IsFittingState call bytes → IsFitting call → ReadsAs call bytes reading →

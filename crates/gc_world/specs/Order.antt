@@ -3,7 +3,7 @@ use Rattle.std.specs.Prelude.{◌≡◌, ℕ, ◌+◌, ◌<◌, ◌≤◌, List,
 use Rattle.gc_instrument.specs.State.{KeptReply}
 use Rattle.gc_world.specs.World.{Numbered, Wire}
 
--- each element has it
+-- each element of a list has this property
 abbrev pub Each : {A : Type 0} → (A → Type 0) → List A → Type 0
 Each P [] = Unit {0}
 Each P (x ∷ xs) = P x × Each P xs

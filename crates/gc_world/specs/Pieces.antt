@@ -6,7 +6,7 @@ use Rattle.gc_world.specs.declared.event.Event.{Event}
 use Rattle.gc_world.specs.Clients.{ends, streams_by_ids}
 use Rattle.gc_world.specs.Directions.{bytes, lines}
 
--- some bytes of a direction at once leave what they leave in two deliveries, where a byte is under way between the two
+-- n + k bytes of a direction leave what n bytes leave and then k, if a byte is in flight between the two
 abbrev pub BytesAdd : Direction → Type 0
 BytesAdd d =
     (width : ℕ) (opening : State) (events : List Event) (m n : ℕ) →
@@ -14,7 +14,7 @@ BytesAdd d =
     streams_by_ids width ends (events ++ bytes d (m + 1 + (n + 1)) ∷ []) (restarted opening)
     ≡ streams_by_ids width ends (events ++ bytes d (m + 1) ∷ bytes d (n + 1) ∷ []) (restarted opening)
 
--- where they leave no byte under way, more bytes than these leave what these leave
+-- if these bytes leave none in flight, more bytes leave the same
 abbrev pub BytesEnd : Direction → Type 0
 BytesEnd d =
     (width : ℕ) (opening : State) (events : List Event) (m n : ℕ) →

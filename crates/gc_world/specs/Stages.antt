@@ -40,7 +40,8 @@ handed width d v n =
 abbrev pub bytes_of : Request → List ℕ
 bytes_of r = request_line (Some r.id) r.call
 
--- a request under way is the one of its number: its id is a digit below 8, and its call's numbers lie in their types
+-- the request in flight with this number is the one that was sent with it: its id is a digit below 8, and its call's numbers
+-- lie in their types
 pub record IsSentIn (sent : List Sent) (x : Numbered Request) : Type 0 where
   pub request : Sent
   pub found : slice_get sent x.number ≡ Some request
@@ -52,8 +53,8 @@ pub record IsSentIn (sent : List Sent) (x : Numbered Request) : Type 0 where
 abbrev pub named : List Made → List ℕ → List (Option (Numbered (List ℕ)))
 named made places = map (slice_get (map made_seen made)) places
 
--- the report, the queues and the client are those of this world, the client with a window of this width: upward the queue has
--- the numbers of the requests under way, and downward it names the replies
+-- the report, the queues and the client are those of this world, for a client with a window of this width: the queue upward
+-- has the numbers of the requests in flight, and the queue downward names the replies
 pub record AreOf (width : ℕ) (report : Report) (up down : List ℕ) (client : Windowed) (w : World ById State) : Type 0 where
   pub reports : IsReport report w.wire
   pub up_is : up ≡ numbers w.wire.up
@@ -85,7 +86,7 @@ pub record AreStreamsOf (width : ℕ) (s : Seen) (v : Streams ById State) : Type
 abbrev pub Shows : {W : Type 0} → ℕ → Stage W → Streams ById State → Type 0
 Shows width s v = AreStreamsOf width (seen s) v
 
--- it shows some
+-- the stage shows some streams
 abbrev pub IsShown : {W : Type 0} → Stage W → Type 0
 IsShown s = (width : ℕ) × (v : Streams ById State) × Shows width s v
 

@@ -66,7 +66,7 @@ impl<W: Window> Stage<W> {
         }
     }
 
-    /// One event. Want of memory comes only where a growth was refused.
+    /// Lets one event happen. Want of memory comes only where a growth was refused.
     pub fn happen(&mut self, event: &Event) -> Result<(), AllocError>
         requires refused { self.old.report.refused_sends + 1 < 2 ^ 64 }
         requires idle { self.old.report.idle_events + 1 < 2 ^ 64 }
@@ -306,7 +306,7 @@ fn note_execution(
     Ok(())
 }
 
-// Whether so many bytes complete a line of which some remain.
+// Whether `n` bytes complete a line of which `remaining` bytes remain, at least one.
 fn completes(remaining: usize, n: usize) -> bool
     ensures { IsTrue result ↔ ((0 < remaining) × (remaining ≤ n)) }
 {

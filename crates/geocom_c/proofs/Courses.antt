@@ -116,6 +116,7 @@ leads_restart width x (asked ∷ later) idle = leads_idle width x _ (asked ∷ l
 
 -- The events that calls are.
 
+-- these calls lead from stage s to stage t by some events, each in its turn
 record Over (width : ℕ) (s : Stage) (calls : List Step) (t : Stage) : Type 0 where
   events : List Event
   are : AreEvents s.left s.rest calls events

@@ -29,6 +29,7 @@ use Rattle.geocom_c.proofs.Owning.{all_joined, all_weaker, later_own, none_answe
 
 -- A course with the client of another, which settled these before.
 
+-- course x is course y with these settlements in front
 record Behind (old : List Settlement) (x y : Course) : Type 0 where
   settled : x.settlements ≡ old ++ y.settlements
   client : x.client ≡ y.client

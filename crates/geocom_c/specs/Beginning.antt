@@ -8,24 +8,27 @@ use Rattle.gc_client.specs.Rule.{heard}
 use Rattle.geocom_c.specs.Rest.{lines_behind}
 use Rattle.geocom_c.specs.declared.answers.GeocomBeginning.{GeocomBeginning}
 
--- what isn't answered of a word behind lines, which are heard in order: one that doesn't answer is dropped, and so is each behind the last answer
+-- what isn't answered of a word behind these lines, which are heard in order: a line that doesn't answer is dropped, and so
+-- is each behind the last answer
 abbrev pub left_by_all : List ℕ → List (List ℕ) → List ℕ
 left_by_all left [] = left
 left_by_all left (line ∷ lines) = left_by_all (left_by left (heard line)) lines
 
--- the same behind bytes: each line that they end, with those since the last line feed, is heard
+-- what isn't answered of a word behind these bytes: each line that they end, with the bytes since the last line feed, is
+-- heard
 abbrev pub left_behind : List ℕ → List ℕ → List ℕ → List ℕ
 left_behind left rest bytes = left_by_all left (lines_behind rest bytes)
 
--- the same behind a frame
+-- what isn't answered of a word behind a frame
 abbrev pub left_past : List ℕ → Frame → List ℕ
 left_past left (Line line) = left_by left (heard line.items)
 left_past left Cleared = left
 left_past left Overlong = left
 left_past left More = left
 
--- the line that goes out behind bytes, where that wasn't answered before them, and this isn't behind them. Where no byte came, it is the null
--- procedure that is asked for, for the first time or again; where one was answered, it is the next one; else, and once it has begun, none goes out
+-- the line that goes out behind these bytes, where one word wasn't answered before them and another isn't behind them.
+-- Without bytes it is the null procedure that is asked for, the first time or again; where one was answered, it is the next
+-- one; else, and once the client has begun, none goes out
 abbrev pub given_if : Bool → List ℕ → Option (List ℕ)
 given_if true after = None
 given_if false after = asks after
@@ -39,7 +42,8 @@ abbrev pub IsGiven : Option (List ℕ) → GeocomBeginning → List ℕ → Type
 IsGiven None told room = told.count ≡ 0
 IsGiven (Some line) told room = (told.count ≡ length (with_end line)) × (take told.count room ≡ with_end line)
 
--- a restart of a client that has begun has it begin anew, with the first null procedure; one that hasn't goes on with that which it was at
+-- what isn't answered of the word behind a restart: all of it for a client that had begun; for one that hadn't, what wasn't
+-- answered before
 abbrev pub anew : List ℕ → List ℕ
 anew [] = the_word
 anew (asked ∷ later) = asked ∷ later

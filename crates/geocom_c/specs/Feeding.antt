@@ -19,7 +19,7 @@ pub record HasRoom (settlements : List GeocomSettlement) (text : List ℕ) : Typ
   pub for_records : WINDOW ≤ length settlements
   pub for_text : TEXT_ROOM ≤ length text
 
--- the kind of a line that reads so, where it fits a request that waits or doesn't
+-- the kind of a line that reads as this, by whether it fits a request that waits
 abbrev pub line_kind : Result ReplyFields LineFault → Bool → ℕ
 line_kind (Ok reply) true = SETTLED
 line_kind (Ok reply) false = STRAY
@@ -37,7 +37,7 @@ abbrev pub number_in : Result ReplyFields LineFault → ℕ
 number_in (Ok reply) = 0
 number_in (Err fault) = fault_number fault
 
--- the same of a frame's line
+-- the number of a frame's line fault; 0 for a frame without one
 abbrev pub frame_fault : Frame → ℕ
 frame_fault (Line line) = number_in (reply_at line.items)
 frame_fault Cleared = 0

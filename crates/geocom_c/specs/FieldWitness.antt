@@ -57,14 +57,14 @@ calls replies one other =
 abbrev pub beginning : {State : Type 0} → List (Turn State)
 beginning = Asks ∷ Comes ∷ drop 1 eight
 
--- each command does, and these come
+-- the moves of the field for these calls: each command reaches the instrument, and its reply comes
 abbrev pub moves : {State : Type 0} → List ℕ → List ℕ → List (Move State)
 moves one other = Sends 7 InstrumentNo 9 ∷ Sends 8 InstrumentNo 9 ∷ Tells 5 ∷ OnLine Up_deliver ∷ OnLine Up_deliver ∷ field.Comes one ∷ field.Comes other ∷ []
 
 abbrev pub runs : {State : Type 0} → List ℕ → List ℕ → List (Run State)
 runs one other = record { turns = beginning; moves = moves one other } ∷ record { turns = Asks ∷ []; moves = [] } ∷ []
 
--- what the calls come to
+-- the stage that the calls come to
 abbrev pub reached : {State : Type 0} → Ends State → State → List ℕ → List ℕ → Stage
 reached ends state one other = record { reached = course WINDOW begun (steps_among (events_over WINDOW ends (before state) (runs one other))); rest = []; left = the_word }
 

@@ -26,17 +26,18 @@ pub record FedTo (width : ℕ) (x : Course) (rest bytes : List ℕ) (state : Geo
   pub same : hearing width reached now left ≡ hearing width x rest bytes
   pub behind : rest_behind now left ≡ rest_behind rest bytes
 
--- where calls have come to: what the client came to, the bytes since the last line feed, and what isn't answered of the beginning's word
+-- how far calls have brought a client: its course, the bytes since the last line feed, and the ids of the beginning that
+-- aren't answered
 pub record Stage : Type 0 where
   pub reached : Course
   pub rest : List ℕ
   pub left : List ℕ
 
--- a client that was made: no null procedure is answered
+-- a client that was just made: no null procedure is answered
 abbrev pub opened : Stage
 opened = record { reached = begun; rest = []; left = the_word }
 
--- the state stands for what calls have come to
+-- the state stands for a client at this stage
 pub record IsAt (width : ℕ) (s : Stage) (state : GeocomClient) : Type 0 where
   pub stands : StandsFor state (record { width = width; ids = s.reached.client }) s.rest
   pub left : left_of state ≡ s.left

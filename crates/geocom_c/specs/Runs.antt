@@ -15,7 +15,7 @@ use Rattle.geocom_c.specs.Steps.{Event, Asked, Came, Went}
 
 -- What a run is to the library.
 
--- a null procedure goes out, unless it has begun
+-- the event of a null procedure that goes out; none once the client has begun
 abbrev pub asked_of : List ℕ → List Event
 asked_of [] = []
 asked_of (asked ∷ later) = Asked ∷ []
@@ -25,7 +25,7 @@ abbrev pub front_of : List (Aged (List ℕ)) → List Event
 front_of [] = []
 front_of (x ∷ rest) = Came x.line ∷ []
 
--- what a turn of a beginning is to it: those of the line and of the instrument are nothing
+-- the event that a turn of a beginning is to the library: a turn of the line or of the instrument is none
 abbrev pub event_of : {State : Type 0} → Model State → Turn State → List Event
 event_of s Asks = asked_of s.left
 event_of s Comes = front_of s.down

@@ -57,14 +57,14 @@ steps_among (Asked ∷ events) = steps_among events
 steps_among (Came line ∷ events) = steps_among events
 steps_among (Went step ∷ events) = step ∷ steps_among events
 
--- where it begins anew behind a step
+-- the ids that aren't answered behind a step: all of them if it is a restart, and else none
 abbrev pub left_by_step : one.Step → List ℕ
 left_by_step (one.Send target call deadline) = []
 left_by_step (one.Hear line) = []
 left_by_step (one.Expire now) = []
 left_by_step one.Restart = the_word
 
--- what isn't answered behind events
+-- the ids that aren't answered behind these events
 abbrev pub left_among : List ℕ → List Event → List ℕ
 left_among left [] = left
 left_among left (Asked ∷ events) = left_among left events
@@ -78,7 +78,8 @@ AreInTurn left (Asked ∷ events) = AreInTurn left events
 AreInTurn left (Came line ∷ events) = AreInTurn (left_by left (heard line)) events
 AreInTurn left (Went step ∷ events) = (left ≡ []) × AreInTurn (left_by_step step) events
 
--- calls are events, and no others, each in its turn; and what the calls come to is what a client by its rule comes to over the steps among them
+-- these calls are some list of events, and no other, each in its turn; and the calls bring the client where the client's
+-- rule comes to over the steps among those events
 pub record IsOverEvents (width : ℕ) (calls : List Step) (t : Stage) : Type 0 where
   pub events : List Event
   pub are : AreEvents the_word [] calls events

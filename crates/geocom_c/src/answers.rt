@@ -49,7 +49,7 @@ pub struct GeocomHeard {
     pub line_fault: u32,
 }
 
-// No fault, and so many.
+// Success, with a count.
 pub(crate) fn counted(count: u32) -> GeocomCount
     ensures fault { result.fault ≡ 0 }
     ensures count { result.count ≡ count }
@@ -57,7 +57,7 @@ pub(crate) fn counted(count: u32) -> GeocomCount
     GeocomCount { fault: 0, count }
 }
 
-// A fault, beside which nothing is counted.
+// A fault, with a count of 0.
 pub(crate) fn refused(fault: u32) -> GeocomCount
     ensures fault { result.fault ≡ fault }
     ensures count { result.count ≡ 0 }
@@ -65,7 +65,7 @@ pub(crate) fn refused(fault: u32) -> GeocomCount
     GeocomCount { fault, count: 0 }
 }
 
-// No fault: `count` bytes of a line are to be written, and `answered` null procedures are answered so far.
+// Success: `count` bytes of a line are to be written, and `answered` null procedures are answered so far.
 pub(crate) fn begun(count: u32, answered: u8) -> GeocomBeginning
     ensures fault { result.fault ≡ 0 }
     ensures count { result.count ≡ count }
@@ -80,7 +80,7 @@ pub(crate) fn begun(count: u32, answered: u8) -> GeocomBeginning
     }
 }
 
-// The fault of a beginning that heard nothing. All else is 0.
+// The fault of a beginning that heard nothing; all other fields are 0.
 pub(crate) fn unbegun(fault: u32) -> GeocomBeginning
     ensures { result ≡ record { fault = fault; count = 0; answered = 0; has_begun = 0 } }
 {
@@ -92,7 +92,7 @@ pub(crate) fn unbegun(fault: u32) -> GeocomBeginning
     }
 }
 
-// What the bytes of a feed ended, before it is known how many they are.
+// Success of a feed whose bytes ended a line of this kind; how many they are is filled in by `using`.
 pub(crate) fn heard(kind: u32, line_fault: u32, count: u32) -> GeocomHeard
     ensures { result ≡ record { used = 0; fault = 0; count = count; kind = kind; line_fault = line_fault } }
 {
@@ -105,7 +105,7 @@ pub(crate) fn heard(kind: u32, line_fault: u32, count: u32) -> GeocomHeard
     }
 }
 
-// The fault of a feed that used nothing. All else is 0.
+// The fault of a feed that used nothing; all other fields are 0.
 pub(crate) fn unheard(fault: u32) -> GeocomHeard
     ensures { result ≡ record { used = 0; fault = fault; count = 0; kind = MORE; line_fault = 0 } }
 {
@@ -118,7 +118,7 @@ pub(crate) fn unheard(fault: u32) -> GeocomHeard
     }
 }
 
-// The same, with how many bytes were used.
+// The outcome of a feed with the number of bytes that it used.
 pub(crate) fn using(used: usize, told: GeocomHeard) -> GeocomHeard
     ensures { result ≡ record told { used = used } }
 {

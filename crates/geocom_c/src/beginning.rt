@@ -83,7 +83,8 @@ fn ask(beginning: &Beginning, line: &mut [u8]) -> u32
     }
 }
 
-// The same, unless nothing was answered by what came.
+// Writes the line of the null procedure that is asked for, as `ask` does, unless its reply is still waited for: then nothing
+// is written.
 fn ask_if(is_waiting: bool, beginning: &Beginning, line: &mut [u8]) -> u32
     requires { LINE_ROOM ≤ length line.old }
     ensures asked { (told : GeocomBeginning) → told.count ≡ result → IsGiven (given_if is_waiting beginning.now) told line.new }
@@ -96,7 +97,7 @@ fn ask_if(is_waiting: bool, beginning: &Beginning, line: &mut [u8]) -> u32
     ask(beginning, line)
 }
 
-// Whether a null procedure is waited for: something came, and it answered none.
+// Whether the null procedure that went out is still waited for: bytes came, and answered none.
 fn is_waiting(bytes: &[u8], before: u8, after: u8) -> bool
     requires before { before ≤ 8 }
     requires after { after ≤ 8 }

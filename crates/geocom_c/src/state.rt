@@ -103,7 +103,7 @@ fn call_at(place: &GeocomWaiting) -> Option<Call>
     call_in(&place.line[..length])
 }
 
-// The mark that a byte is.
+// The mark that a byte stands for: 0 is false and 1 true.
 fn mark_of(byte: u8) -> Option<bool>
     ensures found { IfSome result (λ mark. byte ≡ (if mark then 1 else 0)) }
     ensures only { (mark : Bool) → byte ≡ (if mark then 1 else 0) → result ≡ Some mark }
@@ -186,7 +186,8 @@ fn write_places(places: &mut [GeocomWaiting], window: &Slots)
     }
 }
 
-// Whether a client can have this width, this next id, so many requests waiting and so many null procedures answered.
+// Whether the numbers of a state are a client's: its width, its next id, how many requests wait, and how many null
+// procedures are answered.
 fn has_head(state: &GeocomClient) -> bool
     ensures { IsTrue result ↔ HasHead state.now }
 {

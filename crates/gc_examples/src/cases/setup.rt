@@ -318,7 +318,7 @@ impl Setup {
         self.loop_over(alloc, &up, &down, source, output)
     }
 
-    // Asks them of the scene's instrument over these pipes.
+    // Asks the commands of `source`, with the scene's instrument at the other end of these two pipes.
     fn loop_over(
         &self,
         alloc: Global,

@@ -59,7 +59,7 @@ impl Station {
         Ok(())
     }
 
-    // While it begins, takes the line of a frame, if it is one.
+    // Hands a frame's line, if it has one, to the beginning.
     fn hear_null(&mut self, frame: Lent<'_>)
         requires { IsLineWithin frame }
         ensures { self.new ≡ record self.old { progress = lines_asked self.old.progress (option_to_list (line_in (lent_seen frame.entry))) } }
@@ -69,7 +69,7 @@ impl Station {
         }
     }
 
-    // While it begins, takes the lines of a piece.
+    // Hands the lines of a piece to the beginning.
     fn listen_null(&mut self, piece: &[u8])
         ensures { (s : Model) → Refines self.old s → Refines self.new (piece_asked piece.now s) }
     {
@@ -99,7 +99,7 @@ impl Station {
         self.listen(book, piece)
     }
 
-    // Takes a piece, behind which it was this moment.
+    // Takes a piece, and the moment that was read behind it.
     fn take_piece<B: Book>(
         &mut self,
         book: &mut B,
@@ -125,7 +125,7 @@ impl Station {
         Ok(())
     }
 
-    // Reads, and takes what came.
+    // Reads once, and takes what came.
     pub(super) fn read<L: Link, B: Book>(
         &mut self,
         link: &mut L,

@@ -33,7 +33,7 @@ fn null_command() -> Command
 }
 
 impl Station {
-    // The connection is to be closed where a write was cut.
+    // Notes, where a write was cut, that the connection is to be closed.
     fn cut(&mut self, put: Result<(), usize>, requests: usize)
         ensures { self.new ≡ record self.old { progress = cut_progress put requests self.old.progress } }
     {
