@@ -26,7 +26,7 @@ fits_its : (k : ℕ) (c : Command) (line : List ℕ) → heard line ≡ Some (k 
 fits_its k c line e =
     ap (fits (waiting_for k c)) e ∙ (fits_where_it_waits (waiting_for k c) (k % 8) (one_window k c) (heard_digit line (k % 8) e)).1 (0, omega arith, its_id k)
 
--- and no other
+-- only a reply with the id of request k fits the client that waits for it
 fits_only : (k : ℕ) (c : Command) (line : List ℕ) → fits (waiting_for k c) (heard line) ≡ true → heard line ≡ Some (k % 8)
 fits_only k c line fit = by_id (heard line) refl fit where
   the_id : (id : ℕ) → heard line ≡ Some id → Waits (waiting_for k c) id → id ≡ k % 8

@@ -72,7 +72,7 @@ step_both c c' c'' i i' i'' after r sent unread sink same grows ends =
       subst (λ (x : Ports). StepEnds i x (Ok tt)) (sym same) both.1,
     )
 
--- of an end whose source was left alone nothing was read
+-- if the source of an end is as it was, nothing was read of it
 pub reads_nothing : (old new : Ports) → source_of new ≡ source_of old → Consumes old.remaining new.remaining []
 reads_nothing old new same = subst (λ (r : Option (List ℕ)). Consumes old.remaining r []) (ap (λ (s : Input). s.remaining) (sym same)) (Consumes-nil _)
 

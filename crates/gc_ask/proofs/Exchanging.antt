@@ -27,14 +27,14 @@ use Rattle.gc_texts.specs.WholeTexts.{Input}
 whole : (a b : Option (List ℕ)) (text : List ℕ) → Appends a b text → Appends a b (take (length text) text)
 whole a b text sent = Appends-is _ _ _ _ (sym (take_all (length text) text (omega arith))) sent
 
--- it was written, or its write failed
+-- what the client's end took of a request, where this was its write or the write failed
 pub takes_sent : (alone : Bool) (place : ℕ) (text : List ℕ) (a b : Option (List ℕ)) (x y : Bool) (r : LinkEnd)
     → Sends place text (record { bytes = a; failed = x }) (record { bytes = b; failed = y }) r → TakesRequest alone place text a b r
 takes_sent alone place text a b x y (Ok u) s = s.0
 takes_sent alone place text a b x y (Err (Write count part)) s = (s.0, (part, s.2, λ so. (refl, s.1)))
 takes_sent alone place text a b x y (Err other) s = absurd s
 
--- it was written, and the other end answered it, or couldn't
+-- what the client's end took of a request that was written, and that the other end answered or couldn't
 pub takes_answered : (alone : Bool) (place : ℕ) (text : List ℕ) (a b : Option (List ℕ)) (r : LinkEnd) → (alone ≡ true → ⊥) → Appends a b text
     → CountsReplies place r → TakesRequest alone place text a b r
 takes_answered alone place text a b (Ok u) two sent of = sent
@@ -49,7 +49,7 @@ pub unsent : (alone : Bool) (place : ℕ) (command : Command) (h : Heard) (a b :
 unsent alone place command h a b (Write count part) t is = (t, is)
 unsent alone place command h a b other t is = (t.0, (λ so. absurd (t.1 so)), is)
 
--- it was sent, and its reply waited for
+-- a request was sent, and its reply was waited for
 pub exchanged : (alone : Bool) (place : ℕ) (command : Command) (from : ById) (h : Heard) (a b : Option (List ℕ)) (old new : Input) (after : ℕ) (r : LinkEnd)
     → Appends a b (request_text place command) → from ≡ waiting_for place command → HearsReply from h r → ReadEnds old new after r → Exchanges alone place command h a b r
 exchanged alone place command from h a b old new after r sent is heard ends = by_end r heard ends where
@@ -66,7 +66,7 @@ pub still_waits : (alone : Bool) (place : ℕ) (command : Command) (h : Heard) (
 still_waits alone place command h a b (Write count part) x = x.1
 still_waits alone place command h a b other x = x.2
 
--- so its restart settles the command as lost
+-- a restart of the client that waits for a command settles that command as lost
 pub lost_alone : (place : ℕ) (command : Command) (to : ById) (settled now : List Settlement) → to ≡ waiting_for place command
     → AreSettlements settled (restarts to).settlements → now ≡ settled → map settlement_seen now ≡ lost_of command ∷ []
 lost_alone place command to settled now waits are is = ap (map settlement_seen) is ∙ are.seen ∙ ap (λ c. (restarts c).settlements) waits

@@ -72,7 +72,7 @@ settles_then rest xs ys left kept kept' a b c settled q s =
 
 -- A piece on the way.
 
--- of the lines of a piece behind rest none yet settled a request; left is what is left of the piece
+-- none of the lines of a piece behind `rest` has settled a request yet; `left` is what is left of the piece
 pub record Passed (rest piece left : List ℕ) (kept : Kept) (from to : ById) : Type 0 where
   pub now : List ℕ
   pub front : List (List ℕ)

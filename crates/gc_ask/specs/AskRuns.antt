@@ -18,7 +18,7 @@ pub record Seen : Type 0 where
 abbrev pub written : Seen → Seen → Written
 written old new = record { link_old = old.link.taken; link_new = new.link.taken; sink_old = old.sink.bytes; sink_new = new.sink.bytes }
 
--- commands were asked over a link, in so many reads at most, with this end
+-- commands were asked over a link, in at most `most` reads of it, with this result
 pub record AsksOver (commands : List Command) (most : ℕ) (old new : Seen) (result : Result (Unit {0}) RunFault) : Type 0 where
   pub given : List ℕ
   pub gave : Consumes old.link.remaining new.link.remaining given
@@ -28,7 +28,8 @@ pub record AsksOver (commands : List Command) (most : ℕ) (old new : Seen) (res
   pub too_many : result ≡ Err TooManyReads → new.link.reads ≡ old.link.reads + most
   pub ends : EndsWith (LinkEnds old.link new.link) old.sink.failed new.sink.failed result
 
--- commands were asked over a link that hadn't failed, and of which nothing was read before, in so many reads at most, with this end
+-- commands were asked, in at most `most` reads and with this result, over some link that hadn't failed, and of which nothing
+-- was read before
 pub record AsksOverOne (commands : List Command) (most : ℕ) (old new : Taken) (result : Result (Unit {0}) RunFault) : Type 0 where
   pub before : Ports
   pub after : Ports

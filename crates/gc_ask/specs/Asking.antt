@@ -67,7 +67,7 @@ pub record Taken : Type 0 where
   pub bytes : Option (List ℕ)
   pub failed : Bool
 
--- the same of this sink, by the ghost members of its trait
+-- what is seen of this sink, by the ghost members of its trait
 abbrev pub taken_by : {K : Type 0} → Sink K → K → Taken
 taken_by of_sink sink = record { bytes = of_sink.taken sink; failed = of_sink.failed sink }
 
@@ -133,7 +133,7 @@ pub record TellsPart (commands : List Command) (given : List ℕ) (w : Written) 
   pub not_all : part < length (settlement_line (length earlier) next)
   pub told : Appends w.sink_old w.sink_new (settlement_lines (asked earlier given) ++ take part (settlement_line (length earlier) next))
 
--- what was asked, of what the link gave, with this end, where over says what the link's ports are with each end of it
+-- what was asked over a link that gave these bytes, by how asking ended; `over` says what the link's ports are with each end
 abbrev pub Asks : List Command → List ℕ → Written → (over : LinkEnd → Type 0) → LinkEnd → Type 0
 Asks commands given w over (Ok _) = AsksAll commands given w
 Asks commands given w over (Err Read) = AsksUpTo commands given w

@@ -33,13 +33,13 @@ ReadsOnce old new given (Ok more) =
     Consumes old.remaining new.remaining given × (new.reads ≡ old.reads + 1) × (new.ended ≡ not more) × (old.failed ≡ false) × (new.failed ≡ false)
 ReadsOnce old new given (Err _) = Keeps old.remaining new.remaining × (new.reads ≡ old.reads) × (new.ended ≡ old.ended) × (new.failed ≡ true)
 
--- what the ports of an end are a step later, with this end of it
+-- the ports of an end behind one step, which ended so
 pub record StepEnds (old new : Ports) (result : LinkEnd) : Type 0 where
   pub ends : LinkEnds old new result
   pub same : new.reads ≡ old.reads → new.ended ≡ old.ended
   pub grows : old.reads ≤ new.reads
 
--- it came at one of the two ends
+-- the ports of both ends behind one step, which ended so at one of them and well at the other
 abbrev pub BothStep : (client_old client_new instrument_old instrument_new : Ports) → LinkEnd → Type 0
 BothStep client_old client_new instrument_old instrument_new result =
     (StepEnds client_old client_new result × StepEnds instrument_old instrument_new (Ok tt))

@@ -79,12 +79,12 @@ pub record Settles (from : ById) (heard_so : Heard) : Type 0 where
   pub settles : AreSettlements heard_so.settled (hears from line (heard line)).settlements
   pub client : heard_so.client ≡ (hears from line (heard line)).client
 
--- what is left of a piece of which so many bytes were used: all of them, where that isn't said
+-- what is left of a piece of which this many bytes were used, or all
 abbrev pub left_by : Option ℕ → List ℕ → List ℕ
 left_by None piece = []
 left_by (Some used) piece = drop used piece
 
--- taking the lines of a piece: none of them settles a request, or one does, and so many bytes of the piece are used
+-- what the lines of a piece did: none of them settled a request, or one did, and so many bytes of the piece were used
 abbrev pub Listens : ById → Heard → Option ℕ → Type 0
 Listens from heard_so None = IsQuiet heard_so.rest heard_so.bytes heard_so.kept from heard_so.client
 Listens from heard_so (Some used) = Settles from heard_so
@@ -94,7 +94,7 @@ abbrev pub HearsReply : ById → Heard → Result (Unit {0}) RunFault → Type 0
 HearsReply from heard_so (Ok _) = Settles from heard_so
 HearsReply from heard_so (Err _) = (first_reply from (lines_behind heard_so.rest heard_so.bytes) ≡ None) × (heard_so.client ≡ from)
 
--- why the reading of a source ended, with so many reads left
+-- why reading a source ended, with `after` reads left
 abbrev pub ReadEnds : Input → Input → (after : ℕ) → Result (Unit {0}) RunFault → Type 0
 ReadEnds old new after (Ok _) = (old.reads < new.reads → new.ended ≡ false) × (new.reads ≡ old.reads → new.ended ≡ old.ended) × (new.failed ≡ old.failed)
 ReadEnds old new after (Err Read) =
@@ -115,8 +115,8 @@ Exchanges alone place command heard_so old new (Err _) =
     × (alone ≡ true → first_reply (waiting_for place command) (lines_behind heard_so.rest heard_so.bytes) ≡ None)
     × (heard_so.client ≡ waiting_for place command)
 
--- of the line of a settlement the sink took the first bytes: of the one that a reply settled, where the link had ended well, or, behind a
--- fault of it, of the one that is lost
+-- the sink took the first bytes of a settlement's line: that of a reply, if the link ended well, or else that of a command
+-- that is lost
 abbrev pub TellsOne : ℕ → Command → Heard → Written → (over : LinkEnd → Type 0) → Type 0
 TellsOne place command heard_so w over =
     (over (Ok tt) × Appends w.link_old w.link_new (request_text place command)
@@ -165,7 +165,7 @@ pub record IsCut (alone : Bool) (commands : List Command) (given : List ℕ) (w 
   pub sent : Appends w.link_old w.link_new (all_of (request_texts 0 earlier) ++ take bytes (request_text count command))
   pub told : Appends w.sink_old w.sink_new (settlement_lines (asked earlier given ++ lost_of command ∷ []))
 
--- what was asked over a link, of what it gave, with this end
+-- what was asked over a link that gave these bytes, by how the link ended; where it is alone, it has one end
 abbrev pub AsksOn : (alone : Bool) → List Command → List ℕ → Written → (over : LinkEnd → Type 0) → LinkEnd → Type 0
 AsksOn alone commands given w over (Ok _) = AsksAll commands given w
 AsksOn alone commands given w over (Err Read) = StopsAt alone commands given w
@@ -175,7 +175,7 @@ AsksOn alone commands given w over (Err (Write count part)) = IsCut alone comman
 AsksOn alone commands given w over (Err Output) = TellsPart commands given w over
 AsksOn alone commands given w over (Err _) = ⊥
 
--- commands were asked over a link, in so many reads of both ends at most, with this end
+-- commands were asked over a link, in at most `most` reads of both its ends, with this result
 pub record AsksAt (alone : Bool) (commands : List Command) (most : ℕ) (old new : SeenAtBoth) (result : LinkEnd) : Type 0 where
   pub given : List ℕ
   pub gave : Consumes old.client.remaining new.client.remaining given

@@ -35,7 +35,7 @@ pub record LoopsPart (commands : List Command) (given : List ℕ) (w : Written) 
   pub sent : Appends w.link_old w.link_new (all_of (request_texts 0 earlier) ++ take bytes (request_text count command))
   pub told : Appends w.sink_old w.sink_new (settlement_lines (asked earlier given ++ lost_of command ∷ []))
 
--- what was asked, of what the client's end gave, with this end
+-- what was asked over a link whose client's end gave these bytes, by how asking ended
 abbrev pub Loops : List Command → List ℕ → Written → (over : LinkEnd → Type 0) → LinkEnd → Type 0
 Loops commands given w over (Ok _) = AsksAll commands given w
 Loops commands given w over (Err Read) = LoopsUpTo commands given w
@@ -45,7 +45,7 @@ Loops commands given w over (Err (Write count _)) = LoopsPart commands given w c
 Loops commands given w over (Err Output) = TellsPart commands given w over
 Loops commands given w over (Err _) = ⊥
 
--- what the ports of the client's end and of the instrument's are, with this end: it came at one of them, and the other is sound
+-- the ports of both ends where asking ended so: one of them has the reason, and the other is sound
 abbrev pub BothEnd : (client_old client_new instrument_old instrument_new : Ports) → Result (Unit {0}) RunFault → Type 0
 BothEnd client_old client_new instrument_old instrument_new result =
     (LinkEnds client_old client_new result × LinkEnds instrument_old instrument_new (Ok tt))
@@ -57,12 +57,12 @@ pub record SeenAtBoth : Type 0 where
   pub instrument : Ports
   pub sink : Taken
 
--- the same of these ports and this sink, by the ghost members of their traits
+-- what is seen of these ports and this sink, by the ghost members of their traits
 abbrev pub seen_of : {A B C D K : Type 0} → Source A → A → Sink B → B → Source C → C → Sink D → D → Sink K → K → SeenAtBoth
 seen_of of_a a of_b b of_c c of_d d of_k k =
     record { client = ports_of of_a a of_b b; instrument = ports_of of_c c of_d d; sink = taken_by of_k k }
 
--- the same of both directions of each end
+-- what is seen of these two ends, each with both directions, and of this sink
 abbrev pub seen_over : {A B C D K : Type 0} → Source A → Sink B → Duplex A B → Source C → Sink D → Duplex C D → Sink K → K → SeenAtBoth
 seen_over of_a of_b client of_c of_d instrument of_k k = seen_of of_a client.source of_b client.sink of_c instrument.source of_d instrument.sink of_k k
 
@@ -77,7 +77,7 @@ IsUnused old new =
 abbrev pub written_there : SeenAtBoth → SeenAtBoth → Written
 written_there old new = record { link_old = old.client.taken; link_new = new.client.taken; sink_old = old.sink.bytes; sink_new = new.sink.bytes }
 
--- commands were asked over a link at whose other end a simulator stands, with this end
+-- commands were asked over a link at whose other end a simulator stands, with this result
 pub record LoopsOver (commands : List Command) (old new : SeenAtBoth) (result : Result (Unit {0}) RunFault) : Type 0 where
   pub given : List ℕ
   pub gave : Consumes old.client.remaining new.client.remaining given
@@ -93,8 +93,8 @@ LoopRuns text_old text_new old new result =
     × (((fault : RunFault) × (result ≡ Err fault) × RefusesCommands given text_old text_new fault × (new ≡ old))
     ⊎ ((commands : List Command) × GivesCommands given text_old text_new commands × LoopsOver commands old new result))
 
--- commands were asked over a connection with a simulator at its other end, in so many reads at most, with this end: neither of its ends had
--- failed, and nothing was read of them before
+-- commands were asked, in at most `most` reads and with this result, over some connection with a simulator at its other end;
+-- neither end had failed, and nothing was read of them before
 pub record LoopsOverOne (commands : List Command) (most : ℕ) (old new : Taken) (result : Result (Unit {0}) RunFault) : Type 0 where
   pub before : SeenAtBoth
   pub after : SeenAtBoth

@@ -191,7 +191,7 @@ pub(crate) fn run_over<S: Source, L: Link, K: Sink>(
     ask_all(commands.as_slice(), link, sink, max_reads)
 }
 
-/// Asks commands in order, in so many reads of the link's ends at most.
+/// Asks commands in order, in at most `max_reads` reads of the link's ends.
 pub(crate) fn ask_all<L: Link, K: Sink>(
     commands: &[Command],
     link: &mut L,

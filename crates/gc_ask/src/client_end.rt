@@ -68,8 +68,8 @@ impl ClientEnd {
         None
     }
 
-    // Reads a link until a line of it settles a request that waits, in so many reads at most. Bytes behind that line stay
-    // in `ahead` for the next request.
+    // Reads a link, at most `reads` times, until a line settles a request that waits. Bytes behind that line stay in `ahead`
+    // for the next request.
     pub(crate) fn hear_reply<L: Link>(
         &mut self,
         link: &mut L,

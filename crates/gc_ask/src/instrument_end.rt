@@ -28,7 +28,7 @@ impl InstrumentEnd {
         }
     }
 
-    // Reads until one line is answered, in so many reads at most, and writes that reply, the one at this place.
+    // Reads, at most `reads` times, until one line is answered, and writes that reply, which is number `place`.
     pub(crate) fn answer_line<I: Source, O: Sink>(
         &mut self,
         place: usize,

@@ -57,6 +57,6 @@ same_answer a b shape values = grind arith
 pub values-rounded : (places : ℕ) (answer : Answer) → (answer_fields (rounded_answer places answer)).values ≡ shown_values (Some places) (answer_fields answer).values
 values-rounded places answer = grind arith
 
--- and its shape is the answer's
+-- a rounded answer has the shape of the answer
 pub shape-rounded : (places : ℕ) (answer : Answer) → (answer_fields (rounded_answer places answer)).shape ≡ (answer_fields answer).shape
 shape-rounded places answer = grind arith

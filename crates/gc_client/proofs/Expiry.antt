@@ -108,7 +108,7 @@ is_not_due now p early =
     let b : leb p.deadline now ≡ false = lt-leb _ _ early in
     rw b refl
 
--- it was given up before
+-- a request that was given up before isn't given up again
 pub is_given_up : (now : ℕ) (p : Pending) → not p.given_up ≡ false → is_expiring now p ≡ false
 is_given_up now p given_up = rw given_up (flag (leb p.deadline now)) where
   flag : (b : Bool) → (b && false) ≡ false

@@ -51,7 +51,7 @@ goes_on width x (Hear line) h = settled_keeps x (hears x.client line (heard line
 goes_on width x (Expire now) h = ap (λ l. map of_settled x.settlements ++ l) (expired_parts now x.client.waiting) ∙ h
 goes_on width x Restart h = settled_keeps x (restarts x.client) (append-nil _ ∙ lost_parts x.client.waiting) h
 
--- and so do all
+-- all steps, one after the other, keep a course one for one
 along : (width : ℕ) (x : Course) (steps : List Step) → IsOneForOne x → IsOneForOne (course width x steps)
 along width x [] h = h
 along width x (step ∷ steps) h = along width (goes width x step) steps (goes_on width x step h)

@@ -4,7 +4,7 @@ use Rattle.gc_lines.specs.Replies.{ReplyFields, IsReply}
 use Rattle.gc_client.specs.declared.window.TheConstants.{WINDOW, IDS}
 use Rattle.gc_client.specs.Rule.{ById, heard}
 
--- the id of the request at place k of so many, counted back from the next id
+-- the id of the request at place k, where `waiting` requests wait and `next` is the next id
 abbrev pub id_at : ℕ → ℕ → ℕ → ℕ
 id_at next waiting k = (next + IDS - waiting + k) % IDS
 

@@ -100,7 +100,7 @@ settle (suc k) line (p ∷ ps) = lost p ∷ settle k line ps
 
 -- Ids.
 
--- how far an id lies behind that of the oldest of so many requests, going round at the number of ids
+-- how far an id lies behind the id of the oldest of `waiting` requests, going round at the number of ids
 abbrev pub place : ℕ → ℕ → ℕ → ℕ
 place next waiting id = (id + IDS - (next + IDS - waiting) % IDS) % IDS
 

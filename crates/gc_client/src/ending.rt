@@ -16,7 +16,7 @@ use arrayvec::ArrayVec;
 use gc_catalogue::{Call, Reading, decode_answer, decode_answer_into};
 use gc_lines::{Line, Reply, append};
 
-/// Makes a list of so many settlements, whatever they say.
+/// Makes a list of `count` settlements, whatever they say.
 #[inline]
 pub(crate) fn make_places(settled: &mut ArrayVec<Settlement, WINDOW>, count: usize)
     requires { count ≤ WINDOW }

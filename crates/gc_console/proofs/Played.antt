@@ -14,7 +14,7 @@ pub played_at_0 : (start : State) (width : ℕ) (given : List ℕ) (totals : Boo
 played_at_0 start width given totals old new (Ok x) status told messages drills tells zero = drills.1
 played_at_0 start width given totals old new (Err fault) status told messages drills tells zero = absurd (omega (arith, tells.0, zero))
 
--- and it was read whole
+-- if the status is 0, the source was read whole
 pub read_at_0 : (end : Result (Unit {0}) RunFault) (status : ℕ) (told messages : Option (List ℕ))
     → Tells run_fault_text end status told messages → status ≡ 0 → is_read_whole end ≡ true
 read_at_0 (Ok x) status told messages tells zero = refl

@@ -10,7 +10,7 @@ use Rattle.gc_station.specs.declared.tally.Tally.{Tally}
 use Rattle.gc_texts.specs.declared.fault.RunFault.{RunFault}
 use Rattle.gc_texts.specs.declared.fault.RunFault.TheVariants.{Output}
 
--- it may have failed
+-- of an output of which nothing is seen, not even a failure, every end may be told
 may_fail : (end : Result Tally RunFault) → FailsAtOutput {X = Tally} true true end
 may_fail (Ok tally) = refl
 may_fail (Err Output) = refl

@@ -15,7 +15,7 @@ still_unheard Unconnected moment w unheard = unheard
 still_unheard Unquiet moment w unheard = unheard
 still_unheard Unheard moment w unheard = unheard
 
--- and behind no answer it leaves the moment
+-- a look with no answer before it leaves the moment since which an answer is wanted
 still_since : (health : LinkHealth) (moment since : Moment) (w : Wanted) → w.heard ≡ false → w.since ≡ Some since → (behind_look health moment w).since ≡ Some since
 still_since Fine moment since w unheard is = is
 still_since Idle moment since w unheard is = ap (λ heard. if heard && not w.told then None else w.since) unheard ∙ is

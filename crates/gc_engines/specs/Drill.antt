@@ -59,7 +59,7 @@ abbrev pub source_failed : Result (Unit {0}) RunFault → Bool → Bool
 source_failed (Err Read) failed = true
 source_failed _ failed = failed
 
--- the same of the sink
+-- whether the sink has failed once the drill ended so
 abbrev pub sink_failed : Result (Unit {0}) RunFault → Bool → Bool
 sink_failed (Err Output) failed = true
 sink_failed _ failed = failed

@@ -44,7 +44,7 @@ IsVerdict Cleared v = v ≡ verdict.Cleared
 IsVerdict Overlong v = v ≡ verdict.Overlong
 IsVerdict More v = ⊥
 
--- what is said of frames, of each in order
+-- these verdicts are on these frames, one for one
 abbrev pub AreVerdicts : List Frame → List Verdict → Type 0
 AreVerdicts [] [] = Unit {0}
 AreVerdicts [] (v ∷ vs) = ⊥

@@ -162,7 +162,7 @@ fn unread() -> Outgoing
     text
 }
 
-// A log line with what is said of it.
+// The verdict on a line of a log: its moment and mark, and what is said of its bytes.
 fn told(line: &LogLine<'_>) -> Outgoing
     requires { length line.now.moment.now ≤ 2100 }
     ensures room { length line.now.bytes.items ≤ 514 }

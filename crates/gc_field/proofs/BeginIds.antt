@@ -92,14 +92,16 @@ last z (i ∷ ids) = last i ids
 
 -- A beginning.
 
--- it begins: all that is under way is from before, and the word doesn't stand in it, the replies first
+-- the start of a beginning: all that is in flight is old, and the ids in flight, those of replies first, don't contain the
+-- word
 pub record Begins (word : List ℕ) (s : Model) : Type 0 where
   pub left : s.left ≡ word
   pub up : Each (λ x. x.old ≡ true) s.up
   pub down : Each (λ x. x.old ≡ true) s.down
   pub absent : IsSubsequence word (ids_of s.down ++ ids_of s.up) → ⊥
 
--- it has begun cleanly: nothing from before is under way, and what is has this id; so has what the instrument keeps, if it keeps anything
+-- a beginning that has begun cleanly: nothing old is in flight, and all that is in flight has this id; so has what the
+-- instrument keeps, if it keeps anything
 pub record IsClean (id : ℕ) (s : Model) : Type 0 where
   pub up : Each (λ x. (x.old ≡ false) × (x.id ≡ id)) s.up
   pub down : Each (λ x. (x.old ≡ false) × (x.id ≡ id)) s.down
@@ -107,7 +109,7 @@ pub record IsClean (id : ℕ) (s : Model) : Type 0 where
 
 -- The word.
 
--- so many ids from this one on, upward and round at eight: what a run that measures has under way
+-- n ids from this one on, upward and round at eight: what a run that measures may have in flight
 abbrev pub upward : ℕ → ℕ → List ℕ
 upward i zero = []
 upward i (suc n) = i % 8 ∷ upward (i + 1) n

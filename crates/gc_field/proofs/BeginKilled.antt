@@ -131,7 +131,7 @@ module _ (z : ℕ) (word first : List ℕ) where
 
 -- What can stand in the line meanwhile.
 
--- of two splits of a word the front of one is in that of the other, or behind its next id
+-- of two splits of a word, the front of one lies within that of the other, or just behind its next id
 fronts : (done left front : List ℕ) (c : ℕ) (tail : List ℕ) → done ++ left ≡ front ++ c ∷ tail
     → ((more : List ℕ) × (done ≡ front ++ more)) ⊎ ((asked : ℕ) × (more : List ℕ) × (left ≡ asked ∷ (more ++ c ∷ tail)))
 fronts [] left [] c tail e = inl ([], refl)

@@ -160,7 +160,7 @@ no_old : (b : Bool) (i asked : ℕ) (ids word : List ℕ) → b ≡ true → i �
 no_old true i asked ids word o e f s = not_over i ids (f (inl (sym e, s)))
 no_old false i asked ids word o e f s = never o
 
--- so whoever answers the last one is own
+-- where one id isn't answered any more, a reply with that id is the beginning's own
 pub is_own : (z asked : ℕ) (x : Sent) (rest : List Sent) → IsLine z (asked ∷ []) (x ∷ rest) → x.id ≡ asked → IsOwn x
 is_own z asked x rest h e = chosen x.old refl where
   chosen : (b : Bool) → x.old ≡ b → x.old ≡ false

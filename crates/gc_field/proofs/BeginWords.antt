@@ -162,7 +162,7 @@ upward_round : (n a b : ℕ) → a % 8 ≡ b % 8 → upward a n ≡ upward b n
 upward_round zero a b e = refl
 upward_round (suc n) a b e = ap₂ (λ i ids. i ∷ ids) e (upward_round n (a + 1) (b + 1) (omega (arith, e)))
 
--- so no line of a run has 6 5 4, nor the word
+-- the ids of a run that measures don't contain 6 5 4, and so they don't contain the word
 pub three_within : (low : ℕ) (ns : List ℕ) → 0 < low → Rising low ns → Each (λ n. n < low + 7) ns → IsSubsequence (6 ∷ 5 ∷ 4 ∷ []) (map (λ n. n % 8) ns) → ⊥
 three_within low ns some h below s =
     let a : ℕ = low - 1 in

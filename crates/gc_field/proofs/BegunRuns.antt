@@ -15,7 +15,8 @@ use Rattle.gc_field.proofs.BeginWords.{stands_front}
 use Rattle.gc_field.proofs.BegunFaithful.{faithful}
 use Rattle.gc_field.proofs.BegunRows.{rows_have_not_three, runs_leave_rows, runs_leave_good}
 
--- behind so many that were killed in a row: a front of the word, with three ids and one more for each, isn't under way
+-- what is in flight behind n runs in a row that were killed while they began: it doesn't contain the first n + 3 ids of the
+-- word
 pub record IsShort {State : Type 0} (n : ℕ) (u : UnderWay State) : Type 0 where
   pub more : List ℕ
   pub tail : List ℕ

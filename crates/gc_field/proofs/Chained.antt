@@ -109,7 +109,8 @@ whole_none p false (q ∷ ps) = inl refl
 turns_alike : (p x y : Part) → x.turns ≡ [] → y.turns ≡ [] → (joined p y).turns ≡ (joined p x).turns
 turns_alike p x y e f = ap (λ l. p.turns ++ l) (f ∙ sym e)
 
--- it holds with p in front of both lists too, if p has no marks, or the parts that it is joined to have no turns
+-- `AreWhole` holds with part p in front of both lists too, if p has no marks, or the parts that it is joined to have no
+-- turns
 whole_more : (p : Part) (b : Bool) (ps qs : List Part) → (p.marks ≡ []) ⊎ (b ≡ false → FirstHasNone ps × FirstHasNone qs) → AreWhole ps qs → AreWhole (in_front p b ps) (in_front p b qs)
 whole_more p b [] qs k h = absurd h
 whole_more p true (x ∷ ps) [] k h = absurd h

@@ -34,7 +34,7 @@ kept_own (Some k) id line e = chosen (eqb k.id id) refl e where
   chosen true t e = ap (λ i. Some (record { id = i; line = k.line })) (eqb-true k.id id t) ∙ ap (λ l. Some (record { id = id; line = l })) (some_is k.line line e)
   chosen false t e = let never : ⊥ = cc in absurd never
 
--- and what is kept is kept for its id
+-- a reply that is kept is kept for its id
 kept_for : (k : Option KeptReply) (id : ℕ) (line : List ℕ) → k ≡ Some (record { id = id; line = line }) → kept_line k (Some id) ≡ Some line
 kept_for k id line e = ap (λ k. kept_line k (Some id)) e ∙ ap (λ b. cond b (Some line) None) (eq-eqb id id refl)
 

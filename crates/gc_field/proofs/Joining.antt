@@ -97,7 +97,7 @@ all_append : (P : Record → Type 0) (xs ys : List Record) → AllByRecursion P 
 all_append P [] ys h g = g
 all_append P (x ∷ xs) ys h g = (h.0, all_append P xs ys h.1 g)
 
--- of what comes behind so many
+-- an element behind the first k, at place n there, is at place k + n of the whole list
 get_behind : {A : Type 0} (k n j : ℕ) (xs : List A) (x : A) → j ≡ k + n → slice_get (drop k xs) n ≡ Some x → slice_get xs j ≡ Some x
 get_behind zero n j xs x e got = let same : n ≡ j = omega (arith, e) in subst (λ i. slice_get xs i ≡ Some x) same got
 get_behind (suc k) n j [] x e got = absurd (none_is_not x got)

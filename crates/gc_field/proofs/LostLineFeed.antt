@@ -15,7 +15,7 @@ use Rattle.gc_instrument.specs.Replying.{IsReplied, answers, refuses, handed}
 use Rattle.gc_instrument.specs.State.{State}
 use Rattle.gc_field.specs.LostLineFeed.{IsBookedJoined, joint, refusal}
 
--- as a request, it has three parameters, and its procedure none
+-- the joint line as a request: it has three parameters, and its procedure takes none
 abbrev fields : RequestFields
 fields = record { rpc = 5003; id = Some 1; params = codes "%R1Q,0,2:" }
 
@@ -44,7 +44,7 @@ too_many =
     (lit< tt, (lit< tt, (lit< tt, tt))))
     (wrong_count refl (omega arith) (λ e. omega (arith, e)))
 
--- so it is refused, in any state
+-- the joint line is refused in any state
 refused : (s : State) → IsReplied s joint s (Some refusal)
 unfolding digits
 refused s = answers fields is_request refusal (refuses (Parameters Count) (InstrumentNo, refl, too_many) refl refl) refl

@@ -38,7 +38,7 @@ gave_means : (client : ById) (h : Bool) (rest behind piece : List ℕ) (m : Mome
 gave_means client true rest behind piece m e = inl (record { lines = refl; rest = e })
 gave_means client false rest behind piece m e = inr (record { lines = refl; rest = e })
 
--- and while it begins
+-- what is taken of a piece while a station begins: its lines are heard, or it is dropped
 taken : (h : Bool) (rest behind piece : List ℕ) (m : Moment) → behind ≡ left_of h rest (Gave piece m) → IsTaken rest piece (if h then map Hears (lines_behind rest piece) else []) behind
 taken true rest behind piece m e = inl (refl, e)
 taken false rest behind piece m e = inr (refl, e)

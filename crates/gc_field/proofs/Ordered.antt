@@ -28,7 +28,7 @@ cons_head x y xs ys e = cc
 cons_tail : {State : Type 0} (x y : Move State) (xs ys : List (Move State)) → x ∷ xs ≡ y ∷ ys → xs ≡ ys
 cons_tail x y xs ys e = cc
 
--- of two fronts of the same moves one is a front of the other
+-- of two fronts of the same moves, one is a front of the other
 fronts : {State : Type 0} (xs ys fs gs : List (Move State)) → xs ++ ys ≡ fs ++ gs → ((more : List (Move State)) × (fs ≡ xs ++ more)) ⊎ ((more : List (Move State)) × (xs ≡ fs ++ more))
 fronts [] ys fs gs e = inl (fs, refl)
 fronts (x ∷ xs) ys [] gs e = inr (x ∷ xs, refl)

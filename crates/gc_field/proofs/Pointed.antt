@@ -135,7 +135,7 @@ all_still sent m n (k ∷ ns) [] h g f = absurd h
 all_still sent m n (k ∷ ns) (x ∷ calls) h g f =
     (ap turns (sym h.0.2) ∙ f k h.0.0 g.0.0 g.0.1 h.0.1, all_still sent m n ns calls h.1 g.1 f)
 
--- of what comes behind so many
+-- an element at place k + n of a list is behind its first k at place n
 get_own : (k n j : ℕ) (xs : List Sent) (x : Sent) → j ≡ k + n → slice_get xs j ≡ Some x → slice_get (drop k xs) n ≡ Some x
 get_own zero n j xs x e got = let same : j ≡ n = omega (arith, e) in subst (λ i. slice_get xs i ≡ Some x) same got
 get_own (suc k) n j [] x e got = absurd (none_is_not x got)

@@ -29,7 +29,7 @@ use Rattle.gc_field.specs.Witness.{IsAnsweredInField, acts, answer, before, begu
 
 -- What the runs share.
 
--- facts that say nothing, so many and one more
+-- n facts that say nothing, and one more
 abbrev pub Units : ℕ → Type 0
 Units zero = Unit {0}
 Units (suc n) = Unit {0} × Units n

@@ -116,7 +116,7 @@ content_more None new bytes adds = tt
 content_more (Some life) new bytes adds =
     subst (λ (now : Option Life). Appends (Some (content life)) (known_content now) bytes) (sym (adds life refl)) (behind_two life.start life.steps (Append bytes ∷ []))
 
--- and stays at a sync
+-- a sync leaves the known content of a file
 pub content_same : (old new : Option Life) → Adds old new (Sync ∷ []) → Keeps (known_content old) (known_content new)
 content_same None new adds = tt
 content_same (Some life) new adds =

@@ -15,7 +15,7 @@ ends_synced (Append bytes ∷ steps) = ends_synced steps
 ends_synced (Cut size ∷ steps) = ends_synced steps
 ends_synced (Sync ∷ steps) = refl
 
--- it keeps all that was appended
+-- a sync behind steps that cut nothing keeps all that they appended
 all_synced : (steps : List Step) → cuts_none steps ≡ true → synced (steps ++ Sync ∷ []) ≡ appended steps
 all_synced [] none = refl
 all_synced (Append bytes ∷ steps) none = rw (ends_synced steps) (ap (λ (l : List ℕ). bytes ++ l) (all_synced steps none))
@@ -63,7 +63,7 @@ calls_failed head held steps left comes = record {
   kept = inl refl;
 }
 
--- the same run, with a sync behind it
+-- a run with a sync behind its steps
 abbrev synced_run : Run → Run
 synced_run run = record run { steps = run.steps ++ Sync ∷ [] }
 

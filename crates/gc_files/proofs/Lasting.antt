@@ -8,7 +8,7 @@ use Rattle.gc_files.specs.Runs.{synced, Run, lines, AreRows, IsHead, IsRun, live
 use Rattle.gc_files.proofs.Whole.{whole_whole, whole_more, within}
 use Rattle.gc_files.proofs.Moments.{may_stay, leaves_two, no_sync, mends, mend_moments, two_steps, mend_synced, put_moments}
 
--- so many rows stand behind what was there, and all that end within so many bytes
+-- `left` has some of these rows behind what was there before, at least all those that end within the first k bytes
 pub record Has (head held : List ℕ) (rows : List (List ℕ)) (k : ℕ) (left : List ℕ) : Type 0 where
   pub count : ℕ
   pub few : count ≤ length rows
@@ -101,7 +101,7 @@ list_cases : (xs : List ℕ) → (xs ≡ []) ⊎ ((b : ℕ) × (bs : List ℕ) �
 list_cases [] = inl refl
 list_cases (b ∷ bs) = inr (b, bs, refl)
 
--- what stands behind so many of a run's bytes
+-- the first k bytes that a run appends have the rows that end within them
 pub reached : (head held : List ℕ) (rows : List (List ℕ)) (k : ℕ) (left : List ℕ) → IsHead head → AreRows rows
     → left ≡ whole held ++ take k (start_of head held ++ lines rows) → Has head held rows k left
 reached head held rows k left heads are is = elim (list_cases (whole held)) [

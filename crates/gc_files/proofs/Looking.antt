@@ -10,7 +10,7 @@ use Rattle.gc_files.specs.Rows.{has_feed, whole, fits, PutsAll, IsFront}
 use Rattle.gc_files.proofs.Whole.{whole_behind, whole_front, whole_none, feed_front}
 use Rattle.gc_files.proofs.Adding.{puts_more}
 
--- the same front on both sides
+-- the same bytes in front of both change nothing in whether one begins with the other
 pub fits_behind : (xs sign held : List ℕ) → fits (xs ++ sign) (xs ++ held) ≡ fits sign held
 fits_behind [] sign held = refl
 fits_behind (x ∷ xs) sign held = ap (λ t. t && fits (xs ++ sign) (xs ++ held)) (eq-eqb x x refl) ∙ fits_behind xs sign held
@@ -49,7 +49,7 @@ looked_not at k sign held rest is one two differ =
 pub looked_all : (at : ℕ) (sign held : List ℕ) → length held ≤ at → fits (drop at sign) (drop at held) ≡ true
 looked_all at sign held past = ap (fits (drop at sign)) (drop_all at held past) ∙ fits_none (drop at sign)
 
--- so much of a buffer is read, and some bytes more
+-- n more bytes of a buffer are read, behind those that are read already
 pub read_more : (done n at k : ℕ) (buf ys held : List ℕ) → done ≤ length buf → n ≤ length ys → take done buf ≡ take done (drop at held) → take n ys ≡ take n (drop (at + done) held)
     → take (done + n) (put_mid done k buf ys) ≡ take (done + n) (drop at held)
 read_more done n at k buf ys held within few first second =

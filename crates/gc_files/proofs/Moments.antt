@@ -108,7 +108,7 @@ mend_synced held count later = elim (cases_Bool (length (whole held) == length h
     none_in later (suc zero) = refl
     none_in later (suc (suc n)) = ap (λ (steps : List Step). synced (steps ++ later)) (take_nil n)
 
--- what was appended, at a moment: so much of it, and no less than what was synced
+-- a front of what a run appends stands in the file, at least as long as what was synced
 pub record Reached (held all least left : List ℕ) : Type 0 where
   pub count : ℕ
   pub is : left ≡ held ++ take count all

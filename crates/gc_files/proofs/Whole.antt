@@ -83,7 +83,7 @@ whole_take xs k far =
     feed_first (take (k - length (whole xs)) t.torn) (drop (k - length (whole xs)) t.torn) (ap has_feed (take-append-drop (k - length (whole xs)) t.torn) ∙ t.none) in
     ap whole at ∙ whole_front (whole xs) (take (k - length (whole xs)) t.torn) none ∙ whole_whole xs
 
--- so many of these rows are whole in a front of their lines, and all those that end within it
+-- a count of these rows that are whole in the first k bytes of their lines, at least all that end within these
 pub record Within (rows : List (List ℕ)) (k : ℕ) : Type 0 where
   pub count : ℕ
   pub few : count ≤ length rows

@@ -34,7 +34,7 @@ pub struct MemoryFile {
 }
 
 impl MemoryFile {
-    /// A file that holds these bytes, all of them on the disk, and takes so many more. `None` where memory is wanting.
+    /// A file that holds these bytes, all of them on the disk, and has room for `room` more. `None` where memory is wanting.
     pub fn new(alloc: Global, start: &[u8], room: usize) -> Option<MemoryFile> {
         let (Ok(first), Ok(bytes)) = (start.to_vec(alloc), start.to_vec(alloc)) else {
             return None;

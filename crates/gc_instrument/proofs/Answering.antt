@@ -77,7 +77,7 @@ reads_executed before number call x e done refused = elim (zero_or_more x.rc) [
   | inr h ↦ reads_as before number call x (Refused x.rc) e (past_zero x.rc _ _ h) (refused h)
 ]
 
--- the same of a line that was made of the parts
+-- the same where the line was made of the answer's parts
 pub made_answered : (before after : State) (call : Call) (number code places : ℕ) (answer : Answer) → Executes before call after code answer → places ≡ after.precision
     → (code ≡ 0 → IsAnswerOf call answer → ReadsBackAnswer call number code answer places (Value (rounded_answer places answer)))
     → (code ≢ 0 → ReadsBackAnswer call number code answer places (Refused code))
@@ -164,7 +164,7 @@ line_exchanged before after line bytes q id call text same is small fits own mad
     let call_is : IsCall q.rpc q.params call = subst (λ (p : RequestFields). IsCall p.rpc p.params call) (sym q_is) (call_again (Some id) call small fits).is_call in
     exchanged before after q id call text (ap (λ (p : RequestFields). p.id) q_is) call_is made (plain call call_is) (answered call call_is)
 
--- it always reads as one
+-- a request line always reads as a request, so one that doesn't isn't exchanged
 pub silence_exchanged : (state : State) (line bytes : List ℕ) (fault : LineFault) (view : Request → RequestFields) (id : ℕ) (call : Call) → bytes ≡ line
     → ((q : RequestFields) → IsRequest bytes q → Gives view (Err fault) (Ok q)) → id < 8 → IsFitting call → line ≡ request_line (Some id) call → IsExchanged state id call state None
 silence_exchanged state line bytes fault view id call same only small fits own =

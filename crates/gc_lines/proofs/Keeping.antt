@@ -20,7 +20,7 @@ last-append rest bytes h =
     let sum : length (rest ++ bytes) - 1 ≡ length rest + (length bytes - 1) = omega (arith, length-append rest bytes) in
     ap (λ n. get_or (rest ++ bytes) n 0) sum ∙ get_or-append-add rest bytes (length bytes - 1) 0
 
--- as long as there is room, nothing was left out
+-- as long as there is room, an assembler keeps all bytes of the rest
 pub all_kept : (old : Kept) (rest : List ℕ) → StandsFor old rest → length old.front < 513 → length rest ≡ length old.front
 all_kept old rest s room = omega (arith, ap length s.front, length-take 513 rest)
 

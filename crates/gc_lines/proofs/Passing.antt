@@ -69,7 +69,7 @@ takes rest left used frame kept more whole = elim (position is_line_feed left) a
   | Some at ↦ λ e. let m = whole at e in takes_some rest left at used frame kept e m.0 m.1 m.2
 ] refl
 
--- of the frames of a piece behind rest some were answered, and some of their texts wait; left is what is left of the piece
+-- some frames of a piece behind `rest` were answered, and some of their texts wait; `left` is what is left of the piece
 pub record Going {State : Type 0} (rule : AnswerRule State) (rest piece left : List ℕ) (kept : Kept) (from to : Progress State) (text lengths : List ℕ) : Type 0 where
   pub now : List ℕ
   pub answered : List Frame

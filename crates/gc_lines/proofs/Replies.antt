@@ -124,6 +124,6 @@ reply_bad line f bad = line_bad reply_signature body Body reads line f bad
 pub reply_one : (line : List ℕ) (p r : ReplyFields) → IsReply line p → IsReply line r → p ≡ r
 reply_one line p r is_p is_r = let a = reply_again line p is_p in let b = reply_again line r is_r in cc
 
--- it finds just what has the grammar, and names just the first bad field
+-- `reply_at` finds just the lines that have the grammar of a reply, and names just the first bad field of the others
 pub reply_reads : ReadsLines reply_at IsReply FirstBadOfReply
 reply_reads = record { found = reply_found; again = reply_again; fault = reply_fault; bad = reply_bad }

@@ -42,6 +42,6 @@ request_bad line f bad = line_bad request_signature body (λ _. Unit {0}) reads 
 pub one_request : (line : List ℕ) (p q : RequestFields) → IsRequest line p → IsRequest line q → p ≡ q
 one_request line p q is_p is_q = let a = request_again line p is_p in let b = request_again line q is_q in cc
 
--- it finds just what has the grammar, and names just the first bad field
+-- `request_at` finds just the lines that have the grammar of a request, and names just the first bad field of the others
 pub request_reads : ReadsLines request_at IsRequest FirstBadOfRequest
 request_reads = record { found = request_found; again = request_again; fault = request_fault; bad = request_bad }

@@ -27,7 +27,8 @@ pub record ReadsRequests : Type 0 where
   pub fault : (line : List ℕ) (f : LineFault) → (request_at line ≡ Err f) ↔ FirstBadOfRequest line f
   pub one : (line : List ℕ) (p q : RequestFields) → IsRequest line p → IsRequest line q → p ≡ q
 
--- the same of replies
+-- reading gives fields exactly where the line has the grammar of a reply with them, and a fault exactly where its field is
+-- the first bad one
 pub record ReadsReplies : Type 0 where
   pub found : (line : List ℕ) (r : ReplyFields) → (reply_at line ≡ Ok r) ↔ IsReply line r
   pub fault : (line : List ℕ) (f : LineFault) → (reply_at line ≡ Err f) ↔ FirstBadOfReply line f
@@ -50,7 +51,7 @@ pub record WritesRequests : Type 0 where
   pub back : (q : RequestFields) → IsRequestInRange q → request_at (request_text q) ≡ Ok q
   pub plain : (q : RequestFields) → IsRequestInRange q → IsPlain q.params → IsPlain (request_text q)
 
--- the same of replies
+-- the text of a reply is the one written line with its fields, reads back, and is plain where the parameters are
 pub record WritesReplies : Type 0 where
   pub written : (line : List ℕ) (r : ReplyFields) → IsWrittenReply line r ↔ (IsReplyInRange r × (line ≡ reply_text r))
   pub back : (r : ReplyFields) → IsReplyInRange r → reply_at (reply_text r) ≡ Ok r

@@ -48,7 +48,7 @@ impl Lengths {
         &self.all[..self.count]
     }
 
-    // One more text waits.
+    // Counts one more text that waits, of this length.
     #[inline]
     pub(crate) fn push(&mut self, bytes: usize)
         requires { length self.old < 256 }
@@ -58,7 +58,7 @@ impl Lengths {
         self.count += 1;
     }
 
-    // All of them went out.
+    // Counts no text any more: all of them went out.
     #[inline]
     pub(crate) fn clear(&mut self)
         ensures { self.new ≡ [] }

@@ -161,8 +161,8 @@ impl Session {
         }
     }
 
-    // Of the texts that wait the first `taken` bytes went out. It counts the texts that went out whole, and returns how many
-    // bytes of the next one did.
+    // Counts the texts that went out whole, where the sink took the first `taken` bytes of those that wait, and returns how
+    // many bytes of the next one went out.
     #[inline(never)]
     fn count_part(&mut self, taken: usize) -> usize
         requires { self.old.replies + length self.old.lengths < 2 ^ 64 }
@@ -176,8 +176,8 @@ impl Session {
     }
 }
 
-// Of texts of these lengths the first `taken` bytes went out. It returns how many texts went out whole, the `whole` ones before
-// them counted, and how many bytes of the next one did.
+// Returns how many of the texts with these lengths went out whole, `whole` earlier ones included, where the sink took the
+// first `taken` bytes, and how many bytes of the next one went out.
 fn parted(whole: u64, taken: usize, lengths: &[usize]) -> (u64, usize)
     requires { whole + length lengths.now < 2 ^ 64 }
     ensures parts { result ≡ parted whole taken lengths.now }

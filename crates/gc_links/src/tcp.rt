@@ -59,8 +59,8 @@ impl<'a, R: Net<Listener = TcpListener, Stream = TcpStream> + Clock> TcpLink<'a,
         })
     }
 
-    // Reads, and waits so many milliseconds. The system may end the wait too late. `None`: nothing came, or the read was
-    // interrupted.
+    // Reads, and waits at most `millis` milliseconds; but the system may end the wait too late. `None`: nothing came, or the
+    // read was interrupted.
     fn read_for(&mut self, buf: &mut [u8], millis: u64) -> io::Result<Option<usize>>
         ensures { IfOk result (λ read. IfSome read (λ n. n ≤ length buf.new)) }
     {

@@ -122,7 +122,7 @@ pub takes_then : (a b c : Option (List ℕ)) (fa fb fc : Bool) (utc : ℕ) (es f
     → Takes b c fb fc (log_text_of utc fs) → Takes a c fa fc (log_text_of utc (es ++ fs))
 takes_then a b c fa fb fc utc es fs one next = takes_is a c fa fc _ _ (sym (text_more utc es fs)) (takes_both a b c fa fb fc (log_text_of utc es) (log_text_of utc fs) one next)
 
--- and at the same moment
+-- a sink takes entries one after the other, all of the same moment
 pub takes_last : (a b c : Option (List ℕ)) (fa fb fc : Bool) (utc now : ℕ) (es fs : List Entry) → now ≡ utc → Takes a b fa fb (log_text_of utc es)
     → Takes b c fb fc (log_text_of now fs) → Takes a c fa fc (log_text_of utc (es ++ fs))
 takes_last a b c fa fb fc utc now es fs same one next = takes_then a b c fa fb fc utc es fs one (subst (λ u. Takes b c fb fc (log_text_of u fs)) same next)

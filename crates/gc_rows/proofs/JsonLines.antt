@@ -119,7 +119,7 @@ front_of : (a m : List ℕ) → (a ++ m) ++ codes "}\n" ≡ (a ++ (m ++ codes "}
 front_of a m =
     append_assoc a m (codes "}\n") ∙ ap (λ l. a ++ l) (sym (append_assoc m (codes "}") (codes "\n"))) ∙ sym (append_assoc a (m ++ codes "}") (codes "\n"))
 
--- and it is what a writer of JSON writes
+-- a line of JSON without its line feed is what the writer of JSON writes of its members
 whole_as : (run : ℕ) (members : List Member) → run < 2 ^ 64 → AllByRecursion IsMember members
     → (codes "{\"run\":" ++ string_text (stamp_text run)) ++ (members_text members ++ codes "}") ≡ print (json_tokens (json.object (record_read run members)))
 unfolding print_from escape_byte

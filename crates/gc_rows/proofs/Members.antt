@@ -166,7 +166,7 @@ decimal_form_number : (text : List ℕ) → HasDecimalForm text → IsNumber tex
 decimal_form_number text form =
     subst IsNumber (sym form.text_is) (signed_then form.negative form.whole (46 ∷ form.fraction) form.whole_is refl (fraction_ends form.fraction form.fraction_is.are_digits form.fraction_is.some))
 
--- of digits, those behind the zeros before them
+-- digits of a number are digits of a text
 digits_are : (ds : List ℕ) → AllDigits 10 ds → AreDigits ds
 digits_are [] h = tt
 digits_are (d ∷ ds) h = (digit_from_value d h.0, digits_are ds h.1)

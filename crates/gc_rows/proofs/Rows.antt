@@ -47,7 +47,7 @@ same_any : (text : List ℕ) → list_any is_special text ≡ list_any (needs_by
 same_any [] = refl
 same_any (b ∷ bs) = ap (λ x. x || list_any is_special bs) (same_byte b) ∙ ap (λ x. needs_byte default_writer b || x) (same_any bs)
 
--- and is doubled here and there
+-- a double quote within quotes is doubled here as the writer of comma-separated values doubles it
 same_quoted : (text : List ℕ) → flat_map within_quotes text ≡ csv.escaped default_writer text
 unfolding csv.escaped
 same_quoted [] = refl
@@ -74,7 +74,7 @@ same_row first second others =
     ap (λ l. (l ++ behind_commas (second ∷ others)) ++ 10 ∷ []) (same_field (escaped first))
     ∙ ap (λ l. (csv.field_text default_writer (escaped first) ++ l) ++ 10 ∷ []) (same_fields (second ∷ others))
 
--- so it reads back
+-- a row of two fields or more reads back as its fields
 row_back : (fields : List (List ℕ)) (behind : List ℕ) → 1 < length fields → next_record default_config StartRecord [] [] (row_of fields ++ behind) ≡ Some (map escaped fields, StartRecord, behind)
 row_back [] behind many = absurd (omega (arith, many))
 row_back (first ∷ []) behind many = absurd (omega (arith, many))

@@ -63,7 +63,7 @@ members_read [] = json.no_members
 members_read (Text name bytes ∷ members) = json.member name (json.string (escaped bytes)) (members_read members)
 members_read (Number name digits ∷ members) = json.member name (json.number digits) (members_read members)
 
--- the same of a line
+-- what a line of JSON reads as: an object of the run's moment and these members
 abbrev pub record_read : ℕ → List Member → json.Members
 record_read run members = json.member (codes "run") (json.string (escaped (stamp_text run))) (members_read members)
 

@@ -24,7 +24,7 @@ use Rattle.gc_station.proofs.Invariant.{is_bare, is_done, says_done}
 use Rattle.gc_station.proofs.Midway.{Placed, SoundAt, PlacedAt, Mid, clash, sound_moment, sound_settles}
 use Rattle.gc_station.proofs.Walk.{asked_along, closed_along}
 
--- it can't go on
+-- the marks keep their places where the run can't go on
 fail_placed : (p : Progress) (rest : List ℕ) (marks : List (Option Mark)) (why : Cause) (up : Bool) → is_done why ≡ false → Placed (if up then Closing why else Over why) p.left p.unsent rest marks
 fail_placed p rest marks why true other = record { empty = λ e. cc; finished = λ e. absurd (clash (is_done why) e other) }
 fail_placed p rest marks why false other = record { empty = λ e. cc; finished = λ e. absurd (clash (is_done why) e other) }

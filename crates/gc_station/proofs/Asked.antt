@@ -129,7 +129,7 @@ begun_on word p (q ∷ []) e (inl f) = inl (nil_both p.steps q.steps e f)
 begun_on word p (q ∷ []) e (inr f) = inr (left_both word p.turns q.turns ∙ f)
 begun_on word p (q ∷ r ∷ ps) e h = (left_both word p.turns q.turns ∙ h.0, h.1)
 
--- or that has begun
+-- in front of parts that have begun, a part that is joined to the first of them keeps them so
 begun_in : (p : Part) (ps : List Part) → AreBegun [] ps → AreBegun [] (in_front p false ps)
 begun_in p [] h = inr (left_none (heard_in p.turns))
 begun_in p (q ∷ []) h = inr (left_none (heard_in (p.turns ++ q.turns)))

@@ -54,7 +54,7 @@ sent_append c (s ∷ first) later =
     ap (λ k. (goes 7 (course_at c) s).sent ++ k) (sent_append (stepped c s) first later)
     ∙ sym (append_assoc (goes 7 (course_at c) s).sent (sent_by (stepped c s) first) (sent_by (client_after (stepped c s) first) later))
 
--- the same of a course
+-- a send of a course settles what it settles of a course that has settled nothing yet
 sent_parts : (x : Course) (target : ℕ) (call : Call) (o : Option (Sending ById))
     → ((sent_on x target call o).settlements ≡ x.settlements ++ (sent_on (course_at x.client) target call o).settlements)
     × ((sent_on x target call o).sent ≡ x.sent ++ (sent_on (course_at x.client) target call o).sent)
@@ -197,7 +197,8 @@ all_records reads P (Some mark ∷ ms) (s ∷ ss) f = (f 0 mark s refl refl, all
 
 -- What is written down.
 
--- of these requests that wait, and then these that go out, these are settled: so many marks are left, and these records
+-- these settlements, of the requests with these marks and then of those that go out meanwhile, leave these marks and make
+-- these records
 pub record Wrote (reads : Call → List ℕ → Reading) (commands : List Task) (ms : List (Option Mark)) (rs : List Record) (more : List (Option Mark))
     (ss : List Settlement) (asks : List Asked) (ms' : List (Option Mark)) (rs' : List Record) : Type 0 where
   pub marks : ms' ≡ drop (length ss) (ms ++ more)

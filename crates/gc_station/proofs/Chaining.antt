@@ -42,7 +42,7 @@ use Rattle.gc_station.proofs.Words.{begun_kept}
 
 -- What an act does to the place in a cycle, and to the chain that is there.
 
--- it stays there
+-- the progress goes on within the same command: what chains look at stays
 record Still (p q : Progress) : Type 0 where
   left : q.left ≡ p.left
   unsent : q.unsent ≡ p.unsent
@@ -50,14 +50,14 @@ record Still (p q : Progress) : Type 0 where
   next_is_chained : q.next_is_chained ≡ p.next_is_chained
   chain_unbroken : q.chain_unbroken ≡ true → p.chain_unbroken ≡ true
 
--- it goes on to the next command, which is bound so
+-- the progress goes on to the next command, which is chained or not
 record Next (next_is_chained : Bool) (p q : Progress) : Type 0 where
   left : q.left ≡ p.left
   unsent : q.unsent ≡ p.unsent - 1
   missed : q.missed ≡ p.missed
   is_bound : q.next_is_chained ≡ next_is_chained
 
--- a cycle of so many commands begins
+-- the progress at the beginning of a cycle of `count` commands
 record Anew (count : ℕ) (q : Progress) : Type 0 where
   unsent : q.unsent ≡ count
   chain_unbroken : q.chain_unbroken ≡ false
@@ -73,7 +73,7 @@ Steps count next_is_chained _ p q = Still p q
 still : (p q : Progress) → q.left ≡ p.left → q.unsent ≡ p.unsent → q.missed ≡ p.missed → q.next_is_chained ≡ p.next_is_chained → q.chain_unbroken ≡ p.chain_unbroken → Still p q
 still p q left unsent missed next_is_chained chain_unbroken = record { left = left; unsent = unsent; missed = missed; next_is_chained = next_is_chained; chain_unbroken = λ e. sym chain_unbroken ∙ e }
 
--- and is broken
+-- the progress stays within the same command, and its chain is broken
 broken : (p q : Progress) → q.left ≡ p.left → q.unsent ≡ p.unsent → q.missed ≡ p.missed → q.next_is_chained ≡ p.next_is_chained → q.chain_unbroken ≡ false → Still p q × (q.chain_unbroken ≡ false)
 broken p q left unsent missed next_is_chained chain_unbroken = (
   record {
@@ -262,7 +262,7 @@ chain_moved plan commands scope acts act (Stop why) w q fine is needs o at begin
 chain_moved plan commands scope acts act next w q fine is needs o at begins k h =
     chain_still plan commands scope acts act _ q at k begins (stays_open plan commands next (stood plan commands scope acts) act o (λ why e. cc)) h
 
--- and so each run
+-- the two fields on chains mean what `Chain` says behind every run
 chain_along : (plan : Plan) (commands : List Task) (scope : Scope) (done acts : List Act) → Runs plan commands (stood plan commands scope done) acts
     → Chain plan commands scope done (stood plan commands scope done).progress
     → Chain plan commands scope (done ++ acts) (stood plan commands scope (done ++ acts)).progress

@@ -20,7 +20,8 @@ pub record Kept (p q : Progress) : Type 0 where
 pub kept : (p q : Progress) → q.turns ≡ p.turns → q.left ≡ p.left → q.unsent ≡ p.unsent → Kept p q
 kept p q turns left unsent = record { turns = turns; left = left; unsent = unsent }
 
--- a cycle of so many commands began; a command was sent, or skipped
+-- the progress as cycles are counted: behind the beginning of a cycle of n commands, and behind a command that was sent or
+-- skipped
 abbrev pub counted_begun : ℕ → Progress → Progress
 counted_begun count p = record p { left = p.left - 1; unsent = count }
 

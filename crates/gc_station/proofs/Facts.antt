@@ -118,7 +118,7 @@ done_for plan p w awake begun sent settled =
     either P (action.Close cause.Done) _ (nat_eq p.left 0) (λ e. ((awake_up p awake, inr (eqb-true p.left 0 e, sent, settled)), tt, tt))
     (λ e. either P action.Begin (action.Read Due) (is_due plan p) (λ d. ((awake.1, begun, sent, settled, some_left p.left e), tt, tt)) (λ d. (tt, awake_reads p awake, tt)))
 
--- of what is held, what isn't the end of the cycle is of a chain
+-- where the next action waits for the commands that went out, and the cycle has one left, that one is chained
 chained : (p : Progress) → IsHeld p → nat_eq p.unsent 0 ≡ false → p.next_is_chained ≡ true
 chained p (inl none) e = let some : 0 < p.unsent = some_left p.unsent e in absurd (omega (arith, none, some))
 chained p (inr next_is_chained) e = next_is_chained

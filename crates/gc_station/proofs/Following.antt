@@ -42,7 +42,7 @@ follows_cut : (reads : Call → List ℕ → Reading) (commands : List Task) (c 
 follows_cut reads commands c ms rs mid p [] end h g = absurd g
 follows_cut reads commands c ms rs mid p (q ∷ ps) end h g = (mid, h, g)
 
--- or it goes on
+-- a part that goes on behind another books what both book
 follows_on : (reads : Call → List ℕ → Reading) (commands : List Task) (c c1 : ById) (ms ms1 : List (Option Mark)) (rs rs1 : List Record) (p : Part) (ps : List Part) (end : Model)
     → Books reads commands c ms rs p c1 ms1 rs1 → BooksInParts reads commands c1 ms1 rs1 ps end → BooksInParts reads commands c ms rs (in_front p false ps) end
 follows_on reads commands c c1 ms ms1 rs rs1 p [] end h g = absurd g

@@ -285,7 +285,7 @@ reckoned_same plan until b b' w w' p p' eb ea ec ep =
       early : ℕ → ℕ → ℕ → Progress → Progress
       early before all commands p = reckoned_early plan commands (gave plan until before (record { all = all; current = 0; commands = commands; well = false }) p)
 
--- and once its connection was closed
+-- a close of two equal progresses, where as many commands wait, leads to the same
 pub closed_same : (plan : Plan) (w w' : Waiting) (why : Cause) (p p' : Progress) → w.commands ≡ w'.commands → p ≡ p' → closed plan w why p ≡ closed plan w' why p'
 closed_same plan w w' why p p' ec ep = kept why ∙ ap (closed plan w' why) ep where
   kept : (why : Cause) → closed plan w why p ≡ closed plan w' why p

@@ -41,7 +41,7 @@ rows_same P Q low k [] ys step p = tt
 rows_same P Q low k (x ∷ xs) [] step p = absurd p
 rows_same P Q low k (x ∷ xs) (y ∷ ys) step p = (p.0, p.1, step p.0 k x y p.2, rows_same P Q (suc p.0) (suc k) xs ys step p.3)
 
--- and their places
+-- `Rows` of one predicate gives `Rows` of another that follows from it, at shifted places
 pub rows_on : {A B : Type 0} (P Q : ℕ → ℕ → A → B → Type 0) (d low k : ℕ) (xs : List A) (ys : List B)
     → ((n j : ℕ) (x : A) (y : B) → j < k + length xs → P n (d + j) x y → Q n j x y) → Rows P low (d + k) xs ys → Rows Q low k xs ys
 rows_on P Q d low k [] ys step p = tt
@@ -66,7 +66,7 @@ rows_drop P (suc d) low k (x ∷ xs) (y ∷ ys) p =
     let from : low ≤ suc p.0 = omega (arith, p.1) in
     rows_from P low (suc p.0) (suc d + k) (drop d xs) (drop d ys) from (subst (λ (i : ℕ). Rows P (suc p.0) i (drop d xs) (drop d ys)) next (rows_drop P d (suc p.0) (suc k) xs ys p.3))
 
--- and one more at both ends, of a number above the others
+-- `Rows` with one more element at the end of both lists, of a number above the others
 pub rows_more : {A B : Type 0} (P Q : ℕ → ℕ → A → B → Type 0) (low k last place : ℕ) (xs : List A) (ys : List B) (x : A) (y : B) → place ≡ k + length xs → length ys ≡ length xs → low ≤ last
     → ((n j : ℕ) (a : A) (b : B) → j < k + length xs → P n j a b → (n < last) × Q n j a b) → Rows P low k xs ys → Q last place x y → Rows Q low k (xs ++ x ∷ []) (ys ++ y ∷ [])
 rows_more P Q low k last place [] [] x y is same from step p one = let here : place ≡ k = omega (arith, is) in (last, from, subst (λ (i : ℕ). Q last i x y) here one, tt)
@@ -108,7 +108,7 @@ rows_all P Q f low k (x ∷ xs) (y ∷ ys) step p = (step p.0 k x y p.2, rows_al
 
 -- Lists cut at an element.
 
--- of two cuts of a list, the longer front goes on behind the element of the shorter one
+-- two cuts of a list, of which the longer front goes on behind the element of the shorter one
 pub record CutsOn {A : Type 0} (front behind longer : List A) (x y : A) (tail : List A) : Type 0 where
   pub between : List A
   pub goes_on : longer ≡ front ++ x ∷ between

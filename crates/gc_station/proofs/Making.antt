@@ -133,7 +133,7 @@ unwell_end : (reads : Call → List ℕ → Reading) (call : Call) (b : Bool) �
 unwell_end reads call true = refl
 unwell_end reads call false = refl
 
--- it wasn't answered well
+-- a command that isn't sent wasn't answered well
 pub skips_unwell : (reads : Call → List ℕ → Reading) (b : Bool) (p : Progress) (m : Moment) (mark : Mark) (list : List Task) (task : Task)
     (others : List Task) → list ≡ task ∷ others → last_well reads b (skips_first p m mark list) ≡ false
 skips_unwell reads b p m mark list task others is = ap (λ ts. last_well reads b (skips_first p m mark ts)) is ∙ unwell_end reads task.command.call p.missed

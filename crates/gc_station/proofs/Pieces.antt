@@ -276,7 +276,7 @@ hear_all plan commands scope acts piece m front (line ∷ others) x tail split e
       grew = ap (λ xs. xs ++ written) h.grew ∙ append_assoc (stood plan commands scope acts).records h.news written;
     })
 
--- and then they wait behind that act
+-- the requests that wait behind a piece wait behind the act that brought it
 pub behind_piece : (plan : Plan) (commands : List Task) (scope : Scope) (acts : List Act) (piece : List ℕ) (m : Moment) (x : Model)
     → Hears plan commands scope acts piece m x → IsHonest plan commands scope (acts ++ Gave piece m ∷ []) (acts ++ Gave piece m ∷ []) x
 behind_piece plan commands scope acts piece m x h = record {

@@ -33,15 +33,15 @@ use Rattle.gc_station.specs.Scopes.{Scope}
 
 -- What was done on a connection.
 
--- it was made
+-- these acts end with a connection that was made
 abbrev pub IsOpened : List Act → Type 0
 IsOpened acts = (before : List Act) × (acts ≡ before ++ Opened ∷ [])
 
--- and cleared, and nothing went out since
+-- an act cleared the connection that the acts before it made, and nothing went out since
 abbrev Clears : List Act → Act → List Act → Type 0
 Clears before start behind = IsOpened before × (start ≡ Put (10 ∷ [])) × AllByRecursion IsListening behind
 
--- and nothing came since this moment
+-- the connection was cleared, and since this moment nothing came on it
 abbrev Drains : ℕ → List Act → Act → List Act → Type 0
 Drains since before start behind = Since Clears before × TellsMoment since start × AllByRecursion IsSilent behind
 

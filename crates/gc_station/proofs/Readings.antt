@@ -38,7 +38,7 @@ all_reads plan commands s (act ∷ acts) = all_reads plan commands (after plan c
 pub stood_reads : (plan : Plan) (commands : List Task) (scope : Scope) (acts : List Act) → (stood plan commands scope acts).reads ≡ scope.reads
 stood_reads plan commands scope acts = all_reads plan commands (opening plan scope) acts
 
--- so what replies say of a later model they say of an earlier one
+-- if replies say the same of two models, readings of one are readings of the other
 pub are_same : (a b : Call → List ℕ → Reading) → a ≡ b → AreReadings b → AreReadings a
 are_same a b e are = subst (λ (r : Call → List ℕ → Reading). AreReadings r) (sym e) are
 

@@ -127,7 +127,7 @@ part_more text before all more old new w = record {
   took = w.took;
 }
 
--- and where fewer stood before
+-- if a part was written behind these records, it was also written behind fewer of them
 pub part_since : (text : Record → List ℕ) (before front all : List Record) (old new : Option (List ℕ)) → WritesPart text (before ++ front) all old new → WritesPart text before all old new
 part_since text before front all old new w = record {
   earlier = front ++ w.earlier;
@@ -163,7 +163,7 @@ tallied-append t (x ∷ xs) ys = tallied-append (counted x.end t) xs ys
 pub tallied_more : (t u v : Tally) (front one next : List Record) → u ≡ tallied t front → v ≡ tallied u one → next ≡ front ++ one → v ≡ tallied t next
 tallied_more t u v front one next so more is = more ∙ ap (λ (x : Tally). tallied x one) so ∙ sym (tallied-append t front one) ∙ sym (ap (tallied t) is)
 
--- and so does how the last one ended
+-- how the last of two lists of records ended is how the last of the second one did, or else of the first
 pub last-append : (reads : Call → List ℕ → Reading) (b : Bool) (xs ys : List Record) → last_well reads b (xs ++ ys) ≡ last_well reads (last_well reads b xs) ys
 last-append reads b [] ys = refl
 last-append reads b (x ∷ xs) ys = last-append reads (is_well reads x.command.call x.end) xs ys

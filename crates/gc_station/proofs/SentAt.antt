@@ -48,7 +48,7 @@ act_head x y xs ys e = cc
 pub act_tail : (x y : Act) (xs ys : List Act) → x ∷ xs ≡ y ∷ ys → xs ≡ ys
 act_tail x y xs ys e = cc
 
--- of two fronts of the same acts one is a front of the other
+-- of two fronts of the same acts, one is a front of the other
 pub fronts : (xs ys fs gs : List Act) → xs ++ ys ≡ fs ++ gs → ((more : List Act) × (fs ≡ xs ++ more)) ⊎ ((more : List Act) × (xs ≡ fs ++ more))
 fronts [] ys fs gs e = inl (fs, refl)
 fronts (x ∷ xs) ys [] gs e = inr (x ∷ xs, refl)

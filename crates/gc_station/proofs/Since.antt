@@ -9,11 +9,11 @@ pub record Since {A : Type 0} (P : List A → A → List A → Type 0) (all : Li
   pub order : all ≡ before ++ start ∷ behind
   pub holds : P before start behind
 
--- it begins at the last element
+-- what holds since the last element
 pub since_now : {A : Type 0} (P : List A → A → List A → Type 0) (all : List A) (last : A) → P all last [] → Since P (all ++ last ∷ [])
 since_now P all last p = record { before = all; start = last; behind = []; order = refl; holds = p }
 
--- it goes on
+-- what held since an element goes on to hold behind more elements
 pub since_on : {A : Type 0} (P Q : List A → A → List A → Type 0) (all more : List A)
     → ((before : List A) (start : A) (behind : List A) → all ≡ before ++ start ∷ behind → P before start behind → Q before start (behind ++ more))
     → Since P all → Since Q (all ++ more)

@@ -29,7 +29,7 @@ pub record Marked (plan : Plan) (commands : List Task) (scope : Scope) (acts : L
   pub place : mark.place ≡ place_next commands (stood plan commands scope acts).progress
   pub sent : mark.sent ≡ (stood plan commands scope acts).progress.moment.utc
 
--- the request at a place, with this id, was put among these acts, behind so many; of those behind it this holds
+-- the request of this place and id was put among these acts, as number `number`; and of the acts behind it `Stays` holds
 pub record Asked (plan : Plan) (commands : List Task) (scope : Scope) (acts : List Act) (Stays : Bool → ℕ → List Act → Type 0) (number at with_id : ℕ) (p : Pending) (mark : Option Mark) : Type 0 where
   pub before : List Act
   pub request : Act
@@ -48,12 +48,12 @@ abbrev pub Stayed : Bool → ℕ → List Act → Type 0
 Stayed true deadline acts = TellsPast deadline acts
 Stayed false deadline acts = AllByRecursion (IsBefore deadline) acts
 
--- and now it is this moment
+-- what holds of a request since it was put, where it is now this moment
 abbrev pub StayedAt : ℕ → Bool → ℕ → List Act → Type 0
 StayedAt now true deadline acts = TellsPast deadline acts ⊎ (deadline ≤ now)
 StayedAt now false deadline acts = AllByRecursion (IsBefore deadline) acts × (now < deadline)
 
--- of each request, with the id that its place has
+-- a request that waits at this place, with the id that its place has, was put among these acts
 abbrev pub Waits : Plan → List Task → Scope → List Act → (next count : ℕ) → (number at : ℕ) → Pending → Option Mark → Type 0
 Waits plan commands scope acts next count number at p mark = Asked plan commands scope acts Stayed number at (id_at next count at) p mark
 
@@ -112,7 +112,7 @@ asked_as plan commands scope acts S number at at' id id' p mark places ids s = r
   stays = s.stays;
 }
 
--- it was put among so many acts
+-- the number of a request that was put is below the count of the acts
 pub asked_among : (plan : Plan) (commands : List Task) (scope : Scope) (acts : List Act) (S : Bool → ℕ → List Act → Type 0) (number at id : ℕ) (p : Pending) (mark : Option Mark)
     → Asked plan commands scope acts S number at id p mark → number < length acts
 asked_among plan commands scope acts S number at id p mark s =
@@ -222,7 +222,7 @@ pub stays_still : (act : Act) → ((d : ℕ) → IsBefore d act) → (b : Bool) 
 stays_still act on true d xs told = past_more d xs (act ∷ []) told
 stays_still act on false d xs all = all_append (IsBefore d) xs (act ∷ []) all (on d, tt)
 
--- and changes nothing of the client
+-- an act that changes nothing of the client, and tells no moment, keeps each request's past
 pub still : (plan : Plan) (commands : List Task) (scope : Scope) (acts : List Act) (act : Act) (c : ById) (marks : List (Option Mark)) (rs : List Record) → ((d : ℕ) → IsBefore d act)
     → Honest plan commands scope acts (acts ++ act ∷ []) c marks rs → Honest plan commands scope (acts ++ act ∷ []) (acts ++ act ∷ []) c marks rs
 still plan commands scope acts act c marks rs on h = record {
@@ -259,7 +259,7 @@ at_moment plan commands scope acts now number at id p mark s = record {
 abbrev pub at_expired : ById → ℕ → ById
 at_expired c now = record { next = c.next; waiting = map (expired now) c.waiting }
 
--- as many wait
+-- a moment gives requests up, and as many wait behind it
 pub expired_waits : (plan : Plan) (commands : List Task) (scope : Scope) (acts : List Act) (now : ℕ) (c : ById) (marks : List (Option Mark))
     → Rows (Waits plan commands scope acts c.next (length c.waiting)) 0 0 c.waiting marks
     → Rows (WaitsAt plan commands scope acts c now c.next (length (map (expired now) c.waiting))) 0 0 (map (expired now) c.waiting) marks

@@ -29,7 +29,7 @@ pub lines_along : (P : Model → Type 0) → ((t : Model) (line : List ℕ) → 
 lines_along P step s [] p = p
 lines_along P step s (line ∷ others) p = lines_along P step (line_came s line) others (step s line p)
 
--- the same while it begins, where lines change how far it is alone
+-- a fact of progresses that each line heard while a station begins keeps is kept by all of them
 pub asked_along : (P : Progress → Type 0) → ((q : Progress) (line : List ℕ) → P q → P (line_asked q line)) → (p : Progress) (lines : List (List ℕ)) → P p → P (lines_asked p lines)
 asked_along P step p [] h = h
 asked_along P step p (line ∷ others) h = asked_along P step (line_asked p line) others (step p line h)

@@ -10,8 +10,8 @@ heard_in [] = []
 heard_in (Asks ∷ turns) = heard_in turns
 heard_in (Hears line ∷ turns) = line ∷ heard_in turns
 
--- of parts, the first of which begins where these ids aren't answered, and each other with all eight null procedures: each but the last has
--- begun, and in the last no client takes a step before that
+-- each of these parts but the last has begun: its lines answered its beginning, which for the first part has these ids left,
+-- and for each other all eight. In the last, no step of the client comes before that
 abbrev pub AreBegun : List ℕ → List Part → Type 0
 AreBegun word [] = Unit {0}
 AreBegun word (p ∷ []) = (p.steps ≡ []) ⊎ (left_behind word (heard_in p.turns) ≡ [])

@@ -50,8 +50,8 @@ has_begun p = is_none_left p.word
 abbrev pub patience_of : Plan → ℕ
 patience_of plan = later plan.deadline plan.deadline
 
--- something waits, or the null procedure that is asked for went out on this connection, and no reply line came for so long, since the last
--- one or since the first request behind it
+-- whether the line is dead: something waits, or the null procedure that is asked for went out on this connection; and for
+-- the plan's patience no reply line came, since the last one or since the first request behind it
 abbrev pub is_dead : Plan → Progress → Waiting → Bool
 is_dead plan p w = (nat_lt 0 w.all || nat_lt 0 p.again) && nat_le (patience_of plan) (p.moment.elapsed - p.alive)
 
@@ -60,7 +60,8 @@ is_dead plan p w = (nat_lt 0 w.all || nat_lt 0 p.again) && nat_le (patience_of p
 abbrev pub action_waiting : Plan → Progress → Waiting → Action
 action_waiting plan p w = if is_dead plan p w then Close Dead else if nat_eq w.current 0 then Renew else Read Limit
 
--- the first cycle begins at once, and each other one so long after the one before it began
+-- whether the next cycle is due: the first one is at once, and each other one `every` milliseconds after the one before it
+-- began
 abbrev pub is_due : Plan → Progress → Bool
 is_due plan p = if nat_eq p.left plan.cycles then true else nat_le plan.every (p.moment.elapsed - p.began)
 

@@ -19,8 +19,8 @@ abbrev pub doubled : ℕ → ℕ → ℕ
 doubled zero time = time
 doubled (suc n) time = 2 * doubled n time
 
--- how long the pause is behind so many failures in a row: none behind none; behind the first one the quiet time, and behind each further one
--- twice that of the one before it, up to a minute and never below the quiet time
+-- the length of the pause behind n failures in a row: none behind none; the quiet time behind the first, and behind each
+-- further one twice the last pause, up to a minute and never below the quiet time
 abbrev pub pause_behind : Plan → ℕ → ℕ
 pause_behind plan zero = 0
 pause_behind plan (suc n) = max (min (doubled n plan.quiet) 60000) plan.quiet

@@ -134,8 +134,8 @@ asking p = record p { alive = if p.asked then p.alive else p.moment.elapsed; ask
 abbrev pub null_sent : Plan → Progress → Progress
 null_sent plan p = let q = asking p in record q { again = later p.moment.elapsed plan.deadline }
 
--- it begins anew at this moment: no null procedure of the beginning is answered, and no chain goes on. Where nothing more is asked
--- before the next cycle is due, the time of a dead line begins with the first null procedure
+-- the progress of a station that begins anew at this moment: no null procedure is answered, and no chain goes on. Where
+-- nothing more is asked before the next cycle is due, the time of a dead line begins with the first null procedure
 abbrev pub renewed : Plan → Moment → Progress → Progress
 renewed plan m p = let q = told m p in record q { word = the_word; again = 0; asked = p.asked && goes_on plan q; chain_unbroken = false }
 
@@ -164,8 +164,8 @@ abbrev pub early_behind : Until → Bool → Bool
 early_behind Due early = true
 early_behind Limit early = early
 
--- bytes came. So many commands waited before them, and so many requests wait behind them: where a command was settled, all tries are
--- left again, and the next pause is short
+-- the progress behind bytes that came: `before` commands waited before them, and `after` counts what waits behind them.
+-- Where a command was settled, all tries are left again, and the next pause is short
 abbrev pub gave : Plan → Until → ℕ → Waiting → Progress → Progress
 gave plan until before after p = record p {
   early = early_behind until p.early;

@@ -38,7 +38,7 @@ IsAtItsEnd plan p w Dead = NothingMayGo plan p w × (is_dead plan p w ≡ true)
 IsAtItsEnd plan p w Turns = p.turns ≡ 0
 IsAtItsEnd plan p w _ = ⊥
 
--- where an action is next, with so many requests waiting
+-- what holds where this action is next
 abbrev pub IsFor : Plan → Progress → Waiting → Action → Type 0
 IsFor plan p w action.ReadClock = Unit {0}
 -- it begins anew where seven wait, which are all given up

@@ -55,7 +55,7 @@ EndsAs plan commands scope text told told' taken taken' (Ok end) = RanTo plan co
 EndsAs plan commands scope text told told' taken taken' (Err _) =
     BrokeAt plan commands scope text told told' taken taken' ⊎ LeftAt plan commands scope text told told' taken taken'
 
--- a run with this end: it stopped for a cause with this fault, or it is done; or the book failed
+-- a run that ended so: it stopped for a cause with this fault, or it is done; or the book failed
 abbrev pub Ran : Plan → List Task → Scope → (Record → List ℕ) → Option (List Act) → Option (List Act) → Option (List ℕ) → Option (List ℕ) → Result Tally RunFault → Type 0
 Ran plan commands scope text told told' taken taken' (Ok tally) = RanTo plan commands scope text told told' taken taken' Done tally
 Ran plan commands scope text told told' taken taken' (Err Output) =

@@ -26,7 +26,7 @@ abbrev pub BringsNoReply : List ℕ → Act → Type 0
 BringsNoReply rest (Gave piece m) = AllByRecursion IsNoReply (lines_behind rest piece)
 BringsNoReply rest act = Unit {0}
 
--- none of these acts does, from where a station stands
+-- none of these acts brings a line that reads as a reply, from this model on
 abbrev pub IsMute : Plan → List Task → Model → List Act → Type 0
 IsMute plan commands s [] = Unit {0}
 IsMute plan commands s (act ∷ acts) = BringsNoReply s.rest act × IsMute plan commands (after plan commands s act) acts

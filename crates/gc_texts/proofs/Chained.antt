@@ -113,7 +113,7 @@ row_of mode lines target (before, command, between, at, keeps, same) =
     ap (λ xs. (behind_all mode xs).row) at ∙ ap (λ (m : Mode). m.row) (behind_both mode before (says.Command command ∷ between))
     ∙ row_stays (behind (behind_all mode before) (says.Command command)) between keeps ∙ ap Some same
 
--- and so does a mode behind what says none
+-- lines that say no mode leave a mode chained or unchained, as it was
 mode_stays : (mode : Mode) (lines : List TaskLine) → AllByRecursion SaysNoMode lines → (behind_all mode lines).chained ≡ mode.chained
 mode_stays mode [] none = refl
 mode_stays mode (says.Command c ∷ later) none = mode_stays (behind mode (says.Command c)) later none.1

@@ -27,7 +27,7 @@ first_cuts mark bs i rest first is = (
   lacks_before mark bs i (omega (arith, first.0.high)) (λ j lt e. first.0.before j (omega arith) lt (eq-eqb (get_or bs j 0) mark e)),
 )
 
--- and where there is none, the text is whole
+-- where a text has no mark, the whole of it is before the cut
 pub none_cuts : (mark : ℕ) (bs : List ℕ) → IsFirstByte (is_byte mark) bs None → Cuts mark bs bs None
 none_cuts mark bs none =
     (refl, subst (Lacks mark) (take_all (length bs) bs (omega arith)) (lacks_before mark bs (length bs) (omega arith) (λ j lt e. none j (omega arith) lt (eq-eqb (get_or bs j 0) mark e))))
@@ -57,7 +57,7 @@ cut_found mark text front (Some rest) g s cut e lg =
     let both = one_front mark front g rest s (sym cut.0 ∙ e) cut.1 lg in
     (both.0, ap Some both.1)
 
--- and none where there is none
+-- a text without the mark is cut nowhere: its front is the text, and nothing is behind
 pub cut_none : (mark : ℕ) (text front : List ℕ) (rest : Option (List ℕ)) → Cuts mark text front rest → Lacks mark text → (front ≡ text) × (rest ≡ None)
 cut_none mark text front None cut lacks = (sym cut.0, refl)
 cut_none mark text front (Some rest) cut lacks = absurd (has_mark mark front rest text (sym cut.0) lacks)

@@ -14,7 +14,7 @@ before_mark mark [] rest lacks = cond-true (mark == mark) [] (mark ∷ before ma
 before_mark mark (b ∷ bs) rest lacks =
     cond-false (b == mark) [] (b ∷ before mark (bs ++ mark ∷ rest)) (not_mark b mark lacks.0) ∙ ap (λ l. b ∷ l) (before_mark mark bs rest lacks.1)
 
--- and behind it
+-- what is behind the first mark
 pub behind_mark : (mark : ℕ) (front rest : List ℕ) → Lacks mark front → behind mark (front ++ mark ∷ rest) ≡ rest
 behind_mark mark [] rest lacks = cond-true (mark == mark) rest (behind mark rest) (eq-eqb mark mark refl)
 behind_mark mark (b ∷ bs) rest lacks =
@@ -25,7 +25,7 @@ pub before_none : (mark : ℕ) (text : List ℕ) → Lacks mark text → before 
 before_none mark [] lacks = refl
 before_none mark (b ∷ bs) lacks = cond-false (b == mark) [] (b ∷ before mark bs) (not_mark b mark lacks.0) ∙ ap (λ l. b ∷ l) (before_none mark bs lacks.1)
 
--- and nothing is behind it
+-- nothing is behind a mark in a text without one
 pub behind_none : (mark : ℕ) (text : List ℕ) → Lacks mark text → behind mark text ≡ []
 behind_none mark [] lacks = refl
 behind_none mark (b ∷ bs) lacks = cond-false (b == mark) bs (behind mark bs) (not_mark b mark lacks.0) ∙ behind_none mark bs lacks.1

@@ -3,7 +3,7 @@ use Rattle.std.proofs.Common.{◌≡◌, ◌≢◌, ℕ, List, [], ◌∷◌, �
 use Rattle.std.proofs.lemmas.Bool.{eqb-true}
 use Rattle.gc_texts.specs.LineForms.{without_cr}
 
--- it is dropped where it stands there
+-- a CR at the end is dropped
 pub without_cr-end : (front : List ℕ) → without_cr (front ++ 13 ∷ []) ≡ front
 without_cr-end [] = refl
 without_cr-end (b ∷ []) = refl
@@ -13,7 +13,7 @@ last_kept : (b : ℕ) (t : Bool) → (b == 13) ≡ t → ((front : List ℕ) →
 last_kept b true e none = absurd (none [] (ap (λ x. x ∷ []) (eqb-true b 13 e)))
 last_kept b false e none = refl
 
--- and nothing is dropped where none stands there
+-- nothing is dropped of a line that doesn't end in CR
 pub without_cr-none : (line : List ℕ) → ((front : List ℕ) → line ≢ front ++ 13 ∷ []) → without_cr line ≡ line
 without_cr-none [] none = refl
 without_cr-none (b ∷ []) none = last_kept b (b == 13) refl none

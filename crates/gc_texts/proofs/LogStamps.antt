@@ -50,7 +50,7 @@ three_ink n h = All-append IsInk ((48 + n / 100) ∷ []) (two_digits (n % 100)) 
 both : (xs ys : List ℕ) → All IsInk xs → All IsInk ys → All IsInk (xs ++ ys)
 both xs ys = All-append IsInk xs ys
 
--- the numbers of a day, so many days behind one
+-- a date's numbers are within a year of this number of days
 record IsWithin (d : Date) (year : ℕ) : Type 0 where
   month : d.month ≤ 12
   day : d.day ≤ 31
@@ -158,7 +158,7 @@ mark_prints Link = All-from_recursion IsShown (45 ∷ []) ((omega arith, omega a
 space_prints : (bs : List ℕ) → All IsShown bs → All IsShown (32 ∷ bs)
 space_prints bs h = All-append IsShown (32 ∷ []) bs (All-from_recursion IsShown (32 ∷ []) ((omega arith, omega arith), tt)) h
 
--- so a moment may be shown
+-- the text of a stamp is printable
 pub stamp_shown : (utc : ℕ) → utc < 2 ^ 64 → All IsShown (stamp_text utc)
 stamp_shown utc h = All-from_recursion IsShown (stamp_text utc) (ink_prints (stamp_text utc) (recursion_from_All IsInk (stamp_text utc) (stamp_ink utc h)))
 

@@ -110,7 +110,7 @@ reads_no_more text bytes left h some none all are e =
     let k = behind_bytes bytes left all (recursion_from_All IsByte bytes h.are) (recursion_from_All IsByte all are) (sym h.so ∙ e) in
     no_more left k.more some none k.are k.so
 
--- and one of which more is left than there is room for is that of more bytes
+-- if the escaped form of some bytes is left over, there are bytes left over
 too_many : (left more : List ℕ) → left ≢ [] → left ≡ escaped more → 0 < length more
 too_many left [] some e = absurd (some e)
 too_many left (b ∷ bs) some e = omega arith

@@ -45,7 +45,7 @@ pub record ReadsTasks (text : List ℕ) (first : Mode) (left : Option (List ℕ)
   pub names_are : names ≡ names_of said
   pub mode_is : mode ≡ behind_all first said
 
--- of a text within the limit no more lines are read than a u32 counts
+-- a text within the limit has no more lines than a u32 counts
 pub tasks_few : (text : List ℕ) (first : Mode) (left : Option (List ℕ)) (number : ℕ) (tasks : List Task) (names : List Name) (mode : Mode)
     → length text ≤ 65536 → ReadsTasks text first left number tasks names mode → number ≤ 65537
 tasks_few text first left number tasks names mode within r = reads_few IsTaskLine text left number r.said within r.reads

@@ -59,7 +59,7 @@ pub record Reads {Item : Type 0} (form : Form Item) (text : List ℕ) (left : Op
   pub count : number ≡ length read
   pub items_are : AreItems form (filter is_kept read) items
 
--- of a text within the limit no more lines are read than a u32 counts
+-- a text within the limit has no more lines than a u32 counts
 pub reads_few : {Item : Type 0} (form : Form Item) (text : List ℕ) (left : Option (List ℕ)) (number : ℕ) (items : List Item) → length text ≤ 65536 → Reads form text left number items → number ≤ 65537
 reads_few form text left number items within r =
     let all : length (text_lines text) ≡ length r.read + length (lines_left left) = ap length r.lines_are ∙ length-append r.read (lines_left left) in
@@ -98,7 +98,7 @@ reads_on form text now line rest number items more r cut of_line =
 pub skipped_line : {Item : Type 0} (form : Form Item) (line : List ℕ) → is_skipped line ≡ true → LineItems form line []
 skipped_line form line skipped = subst (λ ls. AreItems form ls []) (sym (ap (λ t. cond (not t) (line ∷ []) []) skipped)) tt
 
--- and a line that isn't has its own
+-- a line that isn't skipped gives its own item
 pub kept_line : {Item : Type 0} (form : Form Item) (line : List ℕ) (item : Item) → is_skipped line ≡ false → form line item → LineItems form line (item ∷ [])
 kept_line form line item kept is = subst (λ ls. AreItems form ls (item ∷ [])) (sym (ap (λ t. cond (not t) (line ∷ []) []) kept)) (is, tt)
 

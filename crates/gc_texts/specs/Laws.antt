@@ -28,7 +28,7 @@ CommandsAreTasks =
     (text : List ℕ) (commands : List Command) (deadline : ℕ) (chained : Bool) → IsCommands text commands →
     (tasks : List Task) × IsTasks text deadline chained tasks [] × (map (λ task. task.command) tasks ≡ commands)
 
--- and where commands aren't chained, each has the deadline and goes out by itself
+-- where commands aren't chained, each has its deadline and goes out by itself
 abbrev pub CommandsArePlain : Type 0
 CommandsArePlain =
     (text : List ℕ) (commands : List Command) (deadline : ℕ) → IsCommands text commands →

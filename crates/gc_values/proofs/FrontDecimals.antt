@@ -96,7 +96,7 @@ front_found text behind tail at places whole value rest d a some inside point be
           (omega (arith, long_w, long_f)) number_is (subst (λ k. MadeOf false value k d.digits d.scale) (sym long_f) made);
     }
 
--- and the number is in range
+-- the number that was counted from the front is in range
 pub front_range : (text behind : List ℕ) (at places whole value : ℕ) → CountsDigits 0 text 13 whole at → CountsDigits whole behind (18 - at) value places → value ≤ 10 ^ 13 * 10 ^ places
 front_range text behind at places whole value a b =
     let small_a : number (take at text) < 10 ^ length (take at text) = number-lt (take at text) a.digits in

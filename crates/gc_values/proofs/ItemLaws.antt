@@ -64,7 +64,7 @@ item_has_form (value.Byte n) item x f = f n x
 item_has_form (value.Bool b) item x f = f (pos (number_of b)) x
 item_has_form (value.Text t) item x f = f t x.string
 
--- and it is in range
+-- an item that is read as a value isn't beyond its kind's range
 pub item_is_in_range : (v : Value) (item : List ℕ) → IsItem item v → IsBeyond (kind_of v) item → ⊥
 item_is_in_range (value.Double d) item x f = in_range_only item d.digits d.scale x d.is_in_range f
 item_is_in_range (value.Long z) item x f = not_beyond item z 2147483648 2147483647 x.0 x.1 f

@@ -190,7 +190,7 @@ followed_more front value more ds i inside e f =
     let power : 10 ^ (i + 1) ≡ 10 ^ i * 10 = rw add-one (pow-suc 10 i) in
     omega (arith, e, f, number-take_more ds i inside, ap (λ p. front * p) power)
 
--- and never as much as the room that is left for them
+-- digits that follow a front stay below 10^18, if the front leaves room for all of them
 pub followed_small : (front value : ℕ) (ds : List ℕ) (i : ℕ) → AreDigits ds → i < length ds → value ≡ front * 10 ^ i + number (take i ds) → (front + 1) * 10 ^ length ds ≤ 10 ^ 18 → value < 10 ^ 18
 followed_small front value ds i digits inside e room =
     let small : number (take i ds) < 10 ^ length (take i ds) = number-lt (take i ds) (AreDigits-take ds i digits) in

@@ -29,7 +29,7 @@ heads a b p m n few less e =
     let same : a ≡ b = sym (div-mul-add a p m few) ∙ ap (λ x. x / p) e ∙ div-mul-add b p n less in
     (same, omega (arith, e, ap (λ x. x * p) same))
 
--- as many digits, of one number, are the same ones
+-- two runs of equally many digits that write one number are the same
 pub digits_once : (xs ys : List ℕ) → AreDigits xs → AreDigits ys → length xs ≡ length ys → number xs ≡ number ys → xs ≡ ys
 digits_once [] [] dx dy long e = refl
 digits_once [] (y ∷ ys) dx dy long e = absurd (omega (arith, long))
@@ -109,7 +109,7 @@ whole_part n =
       ];
     }
 
--- and a whole part is the text of its number
+-- a whole part is the text of its number
 pub whole_text-number : (ds : List ℕ) → IsWholePart ds → whole_text (number ds) ≡ ds
 whole_text-number ds w = whole_once (whole_text (number ds)) ds (whole_part (number ds)) w (writes_whole (number ds)).number_is
 
@@ -284,7 +284,7 @@ decimal_form : (m : ℤ) (s : ℕ) → IsCanonical m s → s ≤ 24 → HasDecim
 decimal_form (pos n) s canonical few = decimal_form_of false n s few canonical (λ e. absurd (cc))
 decimal_form (negsuc n) s canonical few = decimal_form_of true (suc n) s few canonical (λ _. omega arith)
 
--- of the texts that spell a decimal one has the form
+-- just one text spells a decimal and has the form, and it is the written one
 pub decimal_text_once : (d : Decimal) (text : List ℕ) → (text ≡ written d.digits d.scale) ↔ (HasDecimalForm text × Spells text d.digits d.scale)
 decimal_text_once d text = (
   λ e. (

@@ -58,7 +58,7 @@ beyond m p n s large w =
     let same = w.same in
     lt_of_mul-lt-mul_left (10 ^ p) (omega (arith, same, mul-lt-mul_of_pos_left {m = 10 ^ 13 * 10 ^ p} {n = m} {k = 10 ^ s} large (ten_pow_pos s)))
 
--- and where they aren't, it is out of range
+-- a number whose units are capped above the bound is out of range
 pub reads_beyond : (text : List ℕ) (negative : Bool) (whole fraction : List ℕ) (up down units p : ℕ) → ReadsNumeral text negative whole fraction up down →
     IsCapped (number (whole ++ fraction) * 10 ^ up) (length fraction + down) (10 ^ 37 + 1) units p → 10 ^ 13 * 10 ^ p < units → SpellsBeyond text
 reads_beyond text negative whole fraction up down units p r c above =

@@ -48,7 +48,7 @@ rounded_rounds d p =
     subst (λ z. IsRounded (record { n = z; k = d.scale }) p (rounded d p).digits (rounded d p).scale) (signed-unsigned_abs d.digits)
     (rounded_to_rounds (is_negative d.digits) (unsigned_abs d.digits) d.scale p)
 
--- and the only one
+-- only the rounded decimal is a rounding of a decimal
 pub rounded_only : (d e : Decimal) (p : ℕ) → IsRounded (fraction d) p e.digits e.scale → e ≡ rounded d p
 rounded_only d e p r =
     let same = rounds_to_one (fraction d) p e.digits e.scale (rounded d p).digits (rounded d p).scale r (rounded_rounds d p) in

@@ -15,7 +15,7 @@ gap-mul a b c = elim (cases_lt a b) [
   | inr ge ↦ let e : b + (a - b) ≡ a = omega arith in subst (λ x. gap (x * c) (b * c) ≡ gap x b * c) e (gap-mul_down b (a - b) c)
 ]
 
--- it depends on the value of a / b alone
+-- what a quotient rounds to depends on its value alone
 pub rounds_same_value : (a b c d m : ℕ) → 0 < b → 0 < d → a * d ≡ c * b → RoundsHalfUp a b m → RoundsHalfUp c d m
 rounds_same_value a b c d m b_pos d_pos same r =
     let shuffled : m * d * b ≡ m * b * d = omega arith in

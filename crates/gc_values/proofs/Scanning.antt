@@ -43,6 +43,6 @@ scanned_cut text i quoted s within comma outside = (
   s.parity ∙ ap (λ q. cond q 1 0) outside,
 )
 
--- and so does the end
+-- a text that was scanned to its end keeps its commas within quotes
 pub scanned_all : (text : List ℕ) (i : ℕ) (quoted : Bool) → Scanned text i quoted → length text ≤ i → KeepsCommas text
 scanned_all text i quoted s all = subst KeepsCommas (take_all i text all) s.keeps

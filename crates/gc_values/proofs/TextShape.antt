@@ -164,7 +164,7 @@ whole_some before behind n = omega (arith, length-append before (whole_text n ++
 signed_some : (z : ℤ) → 0 < length (signed_text z)
 signed_some z = omega (arith, length-append (minus_text z) (whole_text (unsigned_abs z)), (writes_whole (unsigned_abs z)).some)
 
--- and it isn't empty
+-- the text of a value isn't empty
 pub text_is_some : (v : Value) → 0 < length (text v)
 text_is_some (value.Double d) = whole_some (minus_text d.digits) _ (unsigned_abs d.digits / 10 ^ d.scale)
 text_is_some (value.Long z) = signed_some z

@@ -16,7 +16,7 @@ front_spaces (suc n) xs keeps (f ∷ fs) rest e =
     let odd = front_spaces n xs keeps fs rest tail in
     omega (arith, odd, other)
 
--- and so do spaces behind
+-- spaces behind a text leave its commas within quotes
 back_spaces : (n : ℕ) (xs : List ℕ) → KeepsCommas xs → KeepsCommas (xs ++ replicate n 32)
 back_spaces zero xs keeps = subst KeepsCommas (sym (append-nil xs)) keeps
 back_spaces (suc n) xs keeps =
@@ -147,7 +147,7 @@ longer_last : (b : ℕ) (xs front : List ℕ) (x : ℕ) → EndsNoSpace (x ∷ x
 longer_last b xs [] x h e = cc
 longer_last b xs (f ∷ fs) x h e = let t : x ∷ xs ≡ fs ++ 32 ∷ [] = cc in h fs t
 
--- and at its end
+-- trimming the end of a text with one more byte in front
 back_step : (b : ℕ) (bs item : List ℕ) → TrimsBack bs item → TrimsBack (b ∷ bs) (kept_front b item)
 back_step b bs [] r = elim (cases_eq b 32) [
   | inl h ↦
@@ -190,7 +190,7 @@ front_at text i within spaces other = record {
   first = λ rest e. other (let d = drop_more text i 0 within in cc);
 }
 
--- or comes to the end
+-- a text of spaces alone is trimmed to nothing
 pub front_all : (text : List ℕ) (i : ℕ) → length text ≤ i → take i text ≡ replicate i 32 → TrimsFront text []
 front_all text i all spaces = record {
   count = i;
@@ -212,7 +212,7 @@ last_of [] (y ∷ ys) a b e = let t : [] ≡ ys ++ b ∷ [] = cc in absurd (no_e
 last_of (x ∷ xs) [] a b e = let t : [] ≡ xs ++ a ∷ [] = cc in absurd (no_end xs a t)
 last_of (x ∷ xs) (y ∷ ys) a b e = let t : xs ++ a ∷ [] ≡ ys ++ b ∷ [] = cc in last_of xs ys a b t
 
--- and it stops at the front, or at a byte that is no space
+-- trimming the end stops at the front of the text, or behind a byte that is no space
 pub back_at : (text : List ℕ) (end : ℕ) → end ≤ length text → drop end text ≡ replicate (length text - end) 32
     → (end ≡ 0) ⊎ ((0 < end) × (get_or text (end - 1) 0 ≡ 32 → ⊥)) → TrimsBack text (take end text)
 back_at text end within spaces stop = record {

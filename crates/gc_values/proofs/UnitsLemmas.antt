@@ -26,7 +26,7 @@ units_kept ds w f up down p k digits size places =
     rounds_same_value (number ds * 10 ^ k) (10 ^ length ds) (number ds * 10 ^ up * 10 ^ p) (10 ^ (f + down)) (kept_and_rounded ds k) (ten_pow_pos (length ds))
     (ten_pow_pos (f + down)) same (rounds_digits ds k digits)
 
--- and none where they leave less than none
+-- the units are 0 where an exponent leaves fewer digits than none
 pub units_none : (ds : List ℕ) (w f up down p : ℕ) → AreDigits ds → length ds ≡ w + f → w + up + p < down →
     RoundsHalfUp (number ds * 10 ^ up * 10 ^ p) (10 ^ (f + down)) 0
 units_none ds w f up down p digits size places =
@@ -48,7 +48,7 @@ capped_few ds w f up down cap k units digits size places e = record {
   places = lit≤ tt;
 }
 
--- with all the digits, and at the last place so many zeros behind them
+-- the units with all digits kept, and `more` zeros behind them to the last place
 pub capped_zeros : (ds : List ℕ) (w f up down cap k size more units p : ℕ) → AreDigits ds → length ds ≡ size → size ≡ w + f → k + down ≡ w + up + 24
     → size + more ≡ k → more + p ≡ 24 → units ≡ min cap (kept ds size) →
     IsCapped (number ds * 10 ^ up) (f + down) cap units p

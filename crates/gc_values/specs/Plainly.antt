@@ -52,7 +52,7 @@ abbrev pub LeftPlain : Option (List ℕ) → List Value → Type 0
 LeftPlain None vs = vs ≡ []
 LeftPlain (Some text) vs = ArePlain text vs
 
--- and all went well so far
+-- what the common spelling has read so far is well, and the rest reads as these values
 pub record ReadsPlainly (good : Bool) (rest : Option (List ℕ)) (vs : List Value) : Type 0 where
   pub well : good ≡ true
   pub left : LeftPlain rest vs

@@ -39,7 +39,7 @@ near_from a b m r some whole rest = record { near = omega arith; tie = λ h. ome
 pub half_up_rounds : (a b : ℕ) → 0 < b → RoundsHalfUp a b (half_up a b)
 half_up_rounds a b some = near_from a b (half_up a b) ((2 * a + b) % (2 * b)) some (div-add-mod' (2 * a + b) (2 * b)) (mod-lt (2 * a + b) (omega arith))
 
--- and at most what a is at most times b
+-- if a is at most n times b, a / b rounds to at most n
 pub rounds_bound : (a b m n : ℕ) → 0 < b → RoundsHalfUp a b m → a ≤ n * b → m ≤ n
 rounds_bound a b m n some r h =
     let near : 2 * gap a (m * b) ≤ b = r.near in

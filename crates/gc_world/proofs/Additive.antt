@@ -51,7 +51,7 @@ cut_all (line ∷ lines) n e = by_size (ltb n (length line)) (cut_all lines (n -
     by_size true rest e = cc
     by_size false rest e = rest e
 
--- and further bytes change nothing
+-- where all lines are cut off, further bytes change nothing
 cut_end : (lines : List (List ℕ)) (m n : ℕ) → drop (cut lines m).lines lines ≡ [] → cut lines (m + n) ≡ cut lines m
 cut_end lines m n e =
     let c = cut lines m in

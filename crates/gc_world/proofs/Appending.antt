@@ -12,7 +12,7 @@ last_of (y ∷ xs) x d = last_of xs x d
 pub at_last : {A : Type 0} (xs items : List A) (n : ℕ) (blank now : A) → items ≡ xs ++ blank ∷ [] → n ≡ length xs → now ≡ get_or items n now → now ≡ blank
 at_last xs items n blank now are at is = is ∙ ap (λ l. get_or l n now) are ∙ ap (λ k. get_or (xs ++ blank ∷ []) k now) at ∙ last_of xs blank now
 
--- and once it is written
+-- a list whose blank last place was written over is the list with that entry appended
 pub set_last : {A : Type 0} (xs items : List A) (n : ℕ) (blank new entry : A) → items ≡ xs ++ blank ∷ [] → n ≡ length xs → new ≡ entry → slice_set items n new ≡ xs ++ entry ∷ []
 set_last xs items n blank new entry are at is =
     ap (λ l. slice_set l n new) are ∙ ap (λ k. slice_set (xs ++ blank ∷ []) k new) at ∙ set-append_seam xs blank [] new ∙ ap (λ e. xs ++ e ∷ []) is
@@ -24,6 +24,6 @@ line_of xs ys e = ap {A = List ℕ} {B = ArrayVec ℕ} (λ l. record { items = l
 pub line_put : (blank to line : ArrayVec ℕ) (bytes : List ℕ) → blank.items ≡ [] → to.items ≡ blank.items ++ bytes → bytes ≡ line.items → to ≡ line
 line_put blank to line bytes empty put are = line_of to.items line.items (put ∙ ap (λ l. l ++ bytes) empty ∙ are)
 
--- and the line of no bytes
+-- a line of no bytes is the empty line
 pub empty_line : (line : ArrayVec ℕ) → line.items ≡ [] → line ≡ record { items = [] }
 empty_line line e = line_of line.items [] e

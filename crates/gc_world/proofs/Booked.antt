@@ -38,7 +38,7 @@ IsMade made n (Answered line) = Has (record { number = n; line = line }) made
 IsMade made n Late = Unit {0}
 IsMade made n Lost = Unit {0}
 
--- the same of each settlement, from number n on
+-- each answer of these settlements, of which the first is number n, was made for its request
 abbrev pub AllMade : List (Numbered (List ℕ)) → ℕ → List Settlement → Type 0
 AllMade made n [] = Unit {0}
 AllMade made n (s ∷ ss) = IsMade made n s.outcome × AllMade made (n + 1) ss

@@ -27,7 +27,7 @@ pub in_front : (gone : ℕ) (texts : List (List ℕ)) → 0 < remaining gone (ma
 in_front gone [] some = absurd (omega (arith, some))
 in_front gone (t ∷ ts) some = (t, ts, refl)
 
--- and where none remain, none is
+-- where no byte of the front line remains, no line is in flight
 none_under_way : (gone : ℕ) (lines : List (List ℕ)) → IsPart gone lines → remaining gone lines ≡ 0 → (lines ≡ []) × (gone ≡ 0)
 none_under_way gone [] part e = (refl, part)
 none_under_way gone (line ∷ lines) part e = absurd (omega (arith, part, e))

@@ -174,7 +174,7 @@ either_tells deadline e es (inr (now, is, le)) rest = inr (now, at_head e (Expir
 either_tells deadline e es (inl h) (inr (now, has, le)) = inr (now, at_tail e (Expire now) es has, le)
 either_tells deadline e es (inl h) (inl hs) = inl (λ now has. earlier_or deadline now e es h hs (head_or_tail e (Expire now) es has))
 
--- it is one or the other
+-- the moments among some events either all lie before a deadline, or one is at or past it
 pub tells : (deadline : ℕ) (es : List Event) → AllEarly deadline es ⊎ OneReaches deadline es
 tells deadline [] = inl (λ now has. absurd (none_in (Expire now) has))
 tells deadline (e ∷ es) = either_tells deadline e es (event_tells deadline e) (tells deadline es)

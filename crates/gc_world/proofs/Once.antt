@@ -33,7 +33,7 @@ rising_tail : (low n : ℕ) (xs ys : List ℕ) → Rising low (xs ++ n ∷ ys) �
 rising_tail low n [] ys h = h
 rising_tail low n (x ∷ xs) ys h = let r = rising_tail (x + 1) n xs ys h.1 in (omega (arith, h.0, r.0), r.1)
 
--- the number last executed is one less than top; what is under way upward against what is kept
+-- how the requests in flight compare with what the instrument keeps: `top` is one above the number executed last
 abbrev Above : Option KeptReply → ℕ → ℕ → ℕ → List (Numbered Request) → Type 0
 Above None since count top up = Each (λ x. top ≤ x.number) up
 Above (Some k) since count top up = (since < top) × (k.id ≡ (top - 1 - since) % 8) × (count ≤ top) × Each (λ x. top ≤ x.number + 1) up

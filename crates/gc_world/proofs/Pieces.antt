@@ -80,13 +80,13 @@ module _ {P Q : Type 0} (old new : Kept) (line : List ℕ) (plain : IsPlain line
       → StandsFor old (take g (with_end line)) → StandsFor new line
   fed_line g le next stands = subst (StandsFor new) (take_at line (13 ∷ 10 ∷ []) (length line) refl) (fed_within g (length line) le (omega arith) next stands)
 
--- and the CR behind it
+-- what an assembler stands for once a line and its CR were fed
 pub fed_return : {P Q : Type 0} (old new : Kept) (line : List ℕ) (m : ℕ) → m ≡ length line + 1
     → (position is_line_feed (13 ∷ []) ≡ None → P × Q × ((rest : List ℕ) → StandsFor old rest → StandsFor new (rest ++ 13 ∷ [])))
     → StandsFor old line → StandsFor new (take m (with_end line))
 fed_return old new line m e next stands = subst (StandsFor new) (sym (with_return line m e)) ((next refl).2 line stands)
 
--- and the CR LF, or the LF alone: the line comes out
+-- once a line and its CR LF were fed, the line comes out
 pub fed_end : (line : List ℕ) → length line ≤ 512 → frame_of (line ++ 13 ∷ []) ≡ Line (record { items = line })
 fed_end line fits = return_frame line fits
 
@@ -100,7 +100,7 @@ line_items xs ys e = let same : ◌≡◌ {A = ArrayVec ℕ} (record { items = x
 pub came_out : (f : Lent) (l : _) (items : List ℕ) → f ≡ lent.Line l → lent_seen f ≡ Line (record { items = items }) → l.now ≡ items
 came_out f l items is seen = let e : Line (record { items = l.now }) ≡ Line (record { items = items }) = ap lent_seen (sym is) ∙ seen in line_items l.now items e
 
--- and nothing else did
+-- a frame that shows a line is one
 pub none_else : (f : Lent) (items : List ℕ) → lent_seen f ≡ Line (record { items = items }) → ((l : _) → f ≡ lent.Line l → ⊥) → ⊥
 none_else (lent.Line l) items seen not = not l refl
 none_else lent.Cleared items seen not = cc

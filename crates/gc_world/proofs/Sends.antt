@@ -153,7 +153,7 @@ module _ (width : ℕ) (opening : State) (n : ℕ) where
   pub is_sent : (events : List Event) → n < sent_in events → IsSentIn events
   is_sent events lt = found [] events (omega arith) lt
 
--- it is in time or too late
+-- a request that was sent is in time or too late
 told : (width : ℕ) (opening : State) (events : List Event) (n deadline : ℕ) (later : List Event) → IsSentBefore width opening events n deadline later
     → AllEarly deadline later ⊎ OneReaches deadline later → IsInTime width opening events n ⊎ IsTooLate width opening events n
 told width opening events n deadline later s (inl early) = inl (record { deadline = deadline; later = later; sent = s; early = early })

@@ -63,7 +63,7 @@ module _ {State : Type 0} (width : ℕ) (ends : Ends State) where
   pub whole_at : (es : List Step) (state : State) → Whole (run ends (by_ids width ends) es (ids_open state))
   whole_at es state = stable_all ends (by_ids width ends) Whole keeps_whole es (ids_open state) refl
 
--- the same at the same place
+-- a settlement asks what the request at its place asks
 same_at : (settled : List Settlement) (rest : List Asked) (sent : List Sent) (m : ℕ) (s : Settlement) (r : Sent)
     → map of_settled settled ++ rest ≡ map of_sent sent → slice_get settled m ≡ Some s → slice_get sent m ≡ Some r → of_settled s ≡ of_sent r
 same_at [] rest sent m s r e g h = absurd (none_is_not s g)

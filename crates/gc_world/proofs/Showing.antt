@@ -104,7 +104,7 @@ hears_next : (c : ById) (line : List ℕ) (o : Option ℕ) → (hears c line o).
 hears_next c line None = refl
 hears_next c line (Some id) = settled_next c line (place_in c id) (ltb (place_in c id) (length c.waiting))
 
--- and a send one that is a digit below 8
+-- a send leaves a next id that is a digit below 8
 sends_next : (width : ℕ) (c : ById) (target : ℕ) (call : Call) (deadline : ℕ) (x : Sending ById) → sends width c target call deadline ≡ Some x → x.client.next < IDS
 sends_next width c target call deadline x e = by_room (eqb (length c.waiting) width) e
   where

@@ -50,7 +50,7 @@ at_end width opening events s i r all h is =
     subst (λ (x : Report). AreOf width x s.up.queue s.down.queue s.client (played width opening events)) (sym is)
     (with_kept width s.report s.up.queue s.down.queue s.client (played width opening events) s.up.assembler s.down.assembler shows.lines)
 
--- a stage after so many events has counted no more
+-- the stage behind the first i events has counted at most i refused sends and i idle events
 pub counts_at : (width : ℕ) (opening : State) (events : List Event) (i : ℕ) (report : Report) → IsReport report (played width opening (take i events)).wire
     → i ≤ length events → (report.refused_sends ≤ i) × (report.idle_events ≤ i)
 counts_at width opening events i report h le =

@@ -58,7 +58,7 @@ abbrev pub BooksAnswers : Report → Type 0
 BooksAnswers r =
     (m : ℕ) (settlement : Settlement) → slice_get r.settled m ≡ Some settlement → IsBookedAnswer r m settlement.call settlement.outcome
 
--- one of the numbers is this
+-- whether a number is among these
 abbrev pub has_number : ℕ → List ℕ → Bool
 has_number n [] = false
 has_number n (x ∷ xs) = nat_eq x n || has_number n xs

@@ -89,13 +89,13 @@ FirstReplyIsLate =
     (width : ℕ) → width ≤ WINDOW → (opening : State) (events : List Event) (n : ℕ) (line : List ℕ) →
     IsTooLate width opening events n → DeliverySettles width opening events n line Late
 
--- and there is no third: each request that was sent is in time or too late,
+-- each request that was sent is in time or too late
 abbrev pub IsOneOrOther : Type 0
 IsOneOrOther =
     (width : ℕ) (opening : State) (events : List Event) (n : ℕ) → n < length (left_by_ids width opening events).sent →
     IsInTime width opening events n ⊎ IsTooLate width opening events n
 
--- and never both
+-- no request is both in time and too late
 abbrev pub IsNeverBoth : Type 0
 IsNeverBoth =
     (width : ℕ) (opening : State) (events : List Event) (n : ℕ) → IsInTime width opening events n → IsTooLate width opening events n → ⊥

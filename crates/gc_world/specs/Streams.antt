@@ -51,7 +51,7 @@ pub record Cut : Type 0 where
   pub lines : ℕ
   pub gone : ℕ
 
--- the same behind one line more
+-- a cut with one more line in front
 abbrev pub one_more : Cut → Cut
 one_more c = record { lines = suc c.lines; gone = c.gone }
 
@@ -66,7 +66,7 @@ pub record Course : Type 0 where
   pub up_gone : ℕ
   pub down_gone : ℕ
 
--- one step
+-- the course of one step
 abbrev pub moved : Step → ℕ → ℕ → Course
 moved step up down = record { steps = step ∷ []; up_gone = up; down_gone = down }
 
@@ -85,13 +85,13 @@ passed step [] gone n = Nothing ∷ []
 passed step (line ∷ lines) gone zero = Nothing ∷ []
 passed step (line ∷ lines) gone (suc n) = replicate (cut (line ∷ lines) (gone + suc n)).lines step
 
--- and what has gone of the front line behind them
+-- how many bytes of the front line have gone behind the next n bytes
 abbrev pub left_gone : List (List ℕ) → ℕ → ℕ → ℕ
 left_gone [] gone n = gone
 left_gone (line ∷ lines) gone zero = gone
 left_gone (line ∷ lines) gone (suc n) = (cut (line ∷ lines) (gone + suc n)).gone
 
--- an event, with these lines under way, of whose front lines so many bytes have gone
+-- the course of an event, with these lines in flight, of whose front lines `up` and `down` bytes have gone
 abbrev pub course : (ups downs : List (List ℕ)) (up down : ℕ) → Event → Course
 course ups downs up down (event.Send target call deadline) = moved (Send target call deadline) up down
 course ups downs up down event.UpDeliver = moved Up_deliver 0 down

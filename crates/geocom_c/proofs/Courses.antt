@@ -85,7 +85,7 @@ idle_lines : (width : ℕ) (x : Course) (lines : List (List ℕ)) → x.client �
 idle_lines width x [] idle = refl
 idle_lines width x (line ∷ lines) idle = ap (λ y. course width y (map one.Hear lines)) (idle_line width x line idle) ∙ idle_lines width x lines idle
 
--- so while it begins its steps are no events, and lead nowhere
+-- steps that leave a course as it was are no events
 leads_idle : (width : ℕ) (x y : Course) (left : List ℕ) → y ≡ x → Leads width x y left left []
 leads_idle width x y left same = subst (λ (z : Course). Leads width x z left left []) (sym same) (leads_none width x left)
 
@@ -206,7 +206,7 @@ over_events width calls t f =
     let it = as_events width opened calls t (λ no. refl) f in
     record { events = it.events; are = it.are; only = λ others are. only_events the_word [] calls others it.events are it.are; turns = it.turns; reached = it.reached; left = it.left }
 
--- so what was settled and what waits are the sends that weren't refused
+-- what was settled, and what waits, are the sends that weren't refused
 pub follows_one_for_one : (width : ℕ) (steps : List Step) (t : Stage) → CallsReach width opened steps t → IsOneForOne t.reached
 follows_one_for_one width steps t f =
     let it = over_events width steps t f in

@@ -63,7 +63,7 @@ params_fit line reply is = elim is.is_tail [
       )
 ]
 
--- as many items are read as values
+-- the parameters have as many items as values
 pub items_length : (items : List (List ℕ)) (values : List Value) → AreItems items values → length items ≡ length values
 items_length [] [] are = refl
 items_length [] (v ∷ vs) are = absurd are
@@ -89,7 +89,7 @@ stands_here text item place o n =
       stands = ap (λ m. take place.length (drop m (text ++ item))) o ∙ ap (take place.length) (drop_exact text item) ∙ take_all place.length item (omega (arith, n));
     }
 
--- as more is appended
+-- an item stands in a text where it stood, once more is appended
 pub stands_more : (text more : List ℕ) (place : GeocomItem) (item : List ℕ) → StandsAt text place item → StandsAt (text ++ more) place item
 stands_more text more place item is =
     record {

@@ -22,7 +22,7 @@ pub record StandsAt (text : List ℕ) (place : GeocomItem) (item : List ℕ) : T
   pub within : place.offset + place.length ≤ length text
   pub stands : take place.length (drop place.offset text) ≡ item
 
--- so many items are those of the parameters, which are read as these values, and they stand in the text
+-- `count` items are listed: they are those of the parameters, which read as these values, and they stand in the text
 pub record AreListed (count : ℕ) (places : List GeocomItem) (text params : List ℕ) (values : List Parameter) : Type 0 where
   pub items : List (List ℕ)
   pub split : IsParams params items

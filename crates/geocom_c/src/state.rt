@@ -157,7 +157,7 @@ fn write_place(p: &Pending) -> GeocomWaiting
     }
 }
 
-// The requests of the first places.
+// Reads the requests of the first `count` places. `None`: one of these places holds no request.
 fn read_places(places: &[GeocomWaiting], count: usize) -> Option<Slots>
     requires few { count ≤ WINDOW }
     requires there { count ≤ length places.now }

@@ -113,7 +113,7 @@ impl Groups {
         Ok(())
     }
 
-    // Tells the last group.
+    // Compares the group of calls that ended last with what the case expects, if a call was made.
     fn close(
         &mut self,
         alloc: Global,
