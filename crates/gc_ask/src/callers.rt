@@ -13,7 +13,7 @@ use std::io::{self, Write};
 pub enum CallerFault {
     /// A read failed.
     Read,
-    /// A write failed: so many replies went out whole, and so many bytes of the next.
+    /// A write failed: how many replies went out whole, and how many bytes of the next.
     Write { replies: u64, bytes: usize },
     /// As many reads were made as are allowed, and none was the end.
     TooManyReads,
@@ -64,11 +64,11 @@ pub trait Callers {
         ensures { Grows (served self.old) (served self.new) (result ∷ []) };
 }
 
-/// Serves so many callers, one after the other, and writes the line of each fault on `messages`, where the callers are counted
-/// from 1. A fault ends nothing but its own connection, and a line that can't be written ends nothing. Says whether all lines
-/// were written.
+/// Serves `most` callers, one after the other, and writes the line of each fault on `messages`, where the callers are
+/// counted from 1. A fault ends nothing but its own connection, and a line that can't be written ends nothing. Returns
+/// whether all lines were written.
 pub fn keep<C: Callers, E: Write>(callers: &mut C, most: u64, messages: &mut E) -> bool
-    // So many were served, whatever became of each; and what stands on the messages where all lines were written.
+    // `most` callers were served, whatever became of each; and what the messages have where all lines were written.
     ensures kept { Kept most result (C.served callers.old) (C.served callers.new) (E.contents messages.old) (E.contents messages.new) }
 {
     let mut told = true;

@@ -112,7 +112,7 @@ pub fn loop_tcp<R: Net<Listener = TcpListener, Stream = TcpStream>, S: Source, K
     )
 }
 
-/// Binds a port, accepts so many connections one after the other, and serves each with the instrument, which is restarted
+/// Binds a port, accepts `connections` connections one after the other, and serves each with the instrument, which is restarted
 /// for it, in at most `max_reads` reads.
 ///
 /// `Socket` comes where a bind or an accept failed. A fault of a connection ends the call with it: `Read`, `Write` and
@@ -134,7 +134,7 @@ pub fn serve_tcp<R: Net<Listener = TcpListener, Stream = TcpStream>>(
     serve_on(&listener, connections, instrument, max_reads)
 }
 
-/// Accepts so many connections of a port one after the other, and serves each with the instrument, which is restarted for
+/// Accepts `connections` connections of a port one after the other, and serves each with the instrument, which is restarted for
 /// it, in at most `max_reads` reads. Others wait, as the system has it.
 ///
 /// `Socket` comes where an accept failed, and the faults of a connection are those of `serve_tcp`.

@@ -23,7 +23,7 @@ use std::time::{Clock, Duration};
 // without a pause.
 const REST: u64 = 1;
 
-/// Opens a device so many times, one after the other, and serves it with the instrument, which is restarted for each, until its
+/// Opens a device `connections` times, one after the other, and serves it with the instrument, which is restarted for each, until its
 /// end, in at most `max_reads` reads.
 ///
 /// The faults are those of `fault_of` where the device couldn't be opened, and those of `serve_on`.

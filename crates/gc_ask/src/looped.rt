@@ -77,7 +77,7 @@ pub fn run_loop_on<S: Source, A: Source, B: Sink, C: Source, D: Sink, K: Sink>(
         (seen_over A.Source B.Sink client.new C.Source D.Sink instrument_end.new K.Sink sink.new)
         result }
 
-    // At most so many reads of both ends were answered, and all of them where that is the fault.
+    // At most `max_reads` reads of both ends were answered, and just as many where that is the fault.
     ensures bound { A.reads client.new.source + C.reads instrument_end.new.source ≤ A.reads client.old.source + C.reads instrument_end.old.source + max_reads }
     ensures too_many { result ≡ Err RunFault.TooManyReads → A.reads client.new.source + C.reads instrument_end.new.source ≡ A.reads client.old.source + C.reads instrument_end.old.source + max_reads }
 

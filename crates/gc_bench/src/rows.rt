@@ -9,7 +9,7 @@ const HEAD: &[u8] =
 const ROW: &[u8] =
     b"2026-11-22T23:08:00.000Z,2026-11-22T23:08:27.103Z,2026-11-22T23:08:27.123Z,1,0,7,,5003,answered,,0,0,123456\n";
 
-/// Appends so many rows to the file of this path, and makes each last; the sum is of the rows that do.
+/// Appends `count` rows to the file of this path, makes each of them last, and returns how many did.
 pub fn append(rt: &HostRuntime, path: &str, count: u32, sync: bool) -> u64 {
     match open_at(rt, path, HEAD, HEAD, sync) {
         Ok(mut rows) => append_to(&mut rows, count),

@@ -100,7 +100,7 @@ impl<W: Window> Client<W> {
         Client::with_width(window, WINDOW as u8)
     }
 
-    /// Makes a client as `new` does, but one that lets so many requests wait. Take 1 where the instrument buffers one
+    /// Makes a client as `new` does, but one that lets `width` requests wait. Take 1 where the instrument buffers one
     /// request, and 7 where it takes them all.
     pub fn with_width(mut window: W, width: u8) -> Client<W>
         requires least { 1 ≤ width }

@@ -20,32 +20,32 @@ pub trait Window: Drop {
     /// The requests that wait, oldest first.
     ghost pendings: { Self → List Pending };
 
-    /// How many wait.
+    /// How many requests wait.
     fn len(&self) -> usize
         ensures len { result ≡ length (pendings self.now) }
         ensures within { result ≤ WINDOW };
 
-    /// The one at place k, counted from the oldest.
+    /// The request at place k, counted from the oldest.
     fn get(&self, k: usize) -> Pending
         requires { k < length (pendings self.now) }
         ensures { slice_get (pendings self.now) k ≡ Some result };
 
-    /// Appends one behind the youngest.
+    /// Appends a request behind the youngest.
     fn push(&mut self, p: Pending)
         requires { length (pendings self.old) < WINDOW }
         ensures { pendings self.new ≡ pendings self.old ++ p ∷ [] };
 
-    /// Takes the oldest out.
+    /// Takes the oldest request out.
     fn take_first(&mut self) -> Pending
         requires { 0 < length (pendings self.old) }
         ensures { pendings self.old ≡ result ∷ pendings self.new };
 
-    /// Marks the one at place k as given up. It stays where it is.
+    /// Marks the request at place k as given up. It stays where it is.
     fn give_up(&mut self, k: usize)
         requires { k < length (pendings self.old) }
         ensures { pendings self.new ≡ given_up_at k (pendings self.old) };
 
-    /// Takes all out.
+    /// Takes all requests out.
     fn clear(&mut self)
         ensures { pendings self.new ≡ [] };
 }

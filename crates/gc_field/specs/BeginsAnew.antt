@@ -119,6 +119,8 @@ moves =
     ∷ Tells 115
     ∷ Tells 115
     ∷ []
+    -- what the line does while the station begins anew: the reply to the first comes, and the last reaches the instrument, whose
+    -- reply is sent again for the first null procedure, which has its id
     )
 
 -- the reply to the first comes, and the last reaches the instrument, whose reply is sent again for the first null procedure, which has its id

@@ -3,7 +3,7 @@
 ghost use Rattle.gc_files.specs.Runs.{TablesLast, KillsLoseNothing, CallsAreRuns};
 
 /// The table stays over any runs. Each run opens the file, appends rows, and ends by itself, by a kill or by a crash of the
-/// machine. The table is its head and, in order, of each run the first so many of its rows: at least those that were kept, each
+/// machine. The table is its head and, in order, of each run the first rows: at least those that were kept, each
 /// once, none in part.
 pub fn tables_last()
     ensures { TablesLast }

@@ -9,7 +9,7 @@
 //! - What `write` acknowledged is in the file, in order. After [`RowsFile::keep`] a crash leaves it, where the file was opened
 //!   with `sync`.
 //! - Over any runs and crashes ([`laws::tables_last`]) the next opening makes of the file the table that was there before and,
-//!   for each run in order, the first so many of its rows: at least those that were kept, each once, none in part. Without
+//!   for each run in order, the first rows of its own: at least those that were kept, each once, none in part. Without
 //!   `sync` a crash of the machine may take the last rows of a run, and those behind them, but never one in between.
 //! - Where only programs end, by themselves or by a kill, each row that went out whole is there, synced or not
 //!   ([`laws::kills_lose_nothing`]).

@@ -14,7 +14,7 @@ use std::alloc::Global;
 pub enum Call {
     /// These bytes were appended.
     Append(Vec<u8>),
-    /// It was cut to so many bytes.
+    /// It was cut to this many bytes.
     Cut(u64),
     /// All that it holds was synced.
     Sync,

@@ -159,8 +159,8 @@ impl<'a, R: Files<File = File> + Clock> DeviceLink<'a, R> {
         }
     }
 
-    // Reads until some bytes came, or until so many milliseconds have gone by since `began`. The moment of a silence is taken
-    // before the last read. That read gave nothing, so nothing had come until then.
+    // Reads until some bytes came, or until `millis` milliseconds have gone by since `began`. The moment of a silence is
+    // taken before the last read. That read gave nothing, so nothing had come until then.
     fn read_until(&mut self, buf: &mut [u8], began: u64, millis: u64) -> Came
         ensures { IsWithin result buf.new }
     {

@@ -24,7 +24,7 @@ pub enum Note<'a> {
     Told(Moment),
     Untold,
     Put(&'a [u8]),
-    /// Of these bytes the first so many went out.
+    /// The first bytes of these went out, this many.
     Cut(&'a [u8], usize),
     Gave(&'a [u8], Moment),
     Silent(Moment),

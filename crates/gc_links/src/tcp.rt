@@ -36,8 +36,8 @@ impl<'a, R: Net<Listener = TcpListener, Stream = TcpStream> + Clock> TcpLink<'a,
         TcpLink::with_patience(rt, port, PATIENCE)
     }
 
-    /// A link to a port of 127.0.0.1. One write, and the making of a connection, waits no longer than so many milliseconds, and
-    /// at least one.
+    /// A link to a port of 127.0.0.1. One write, and the making of a connection, waits no longer than `patience`
+    /// milliseconds, and at least one.
     pub fn with_patience(rt: &'a R, port: u16, patience: u64) -> io::Result<TcpLink<'a, R>> {
         TcpLink::to_peer(rt, Peer::Port(port), patience)
     }
@@ -92,9 +92,9 @@ impl<'a, R: Net<Listener = TcpListener, Stream = TcpStream> + Clock> TcpLink<'a,
     }
 }
 
-// How long a read is told to wait, so that it ends within so many milliseconds. The system may end a wait too late: one of more
-// than a quarter of a second by an eighth of it, and a shorter one by two of its ticks. Who reads repeats a read that ended
-// early.
+// How long to tell a read to wait, so that it ends within `millis` milliseconds. The system may end a wait too late: one of
+// more than a quarter of a second by an eighth of it, and a shorter one by two of its ticks. Who reads repeats a read that
+// ended early.
 fn in_time(millis: u64) -> u64
     ensures { result ≤ millis }
 {

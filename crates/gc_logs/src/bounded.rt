@@ -26,8 +26,8 @@ pub struct Bounded<K> {
 }
 
 impl<K: Sink> Bounded<K> {
-    /// A sink that adds at most so many bytes to what the one below has. Where not even the line has room that says that the rest
-    /// is left out, it has ended.
+    /// A sink that adds at most `room` bytes to what the sink below holds. If there is no room even for the line that says
+    /// that the rest is left out, it has ended at once.
     pub fn new(sink: K, room: u64) -> Bounded<K>
         ensures sink { result.sink ≡ sink }
         ensures few { result.is_ended ≡ false → result.left + 100 ≤ room }

@@ -2,7 +2,7 @@
 //!
 //! [`Logged`] is a link over any other. Its acts are those of the link inside, and each call says which lines of the log it
 //! wrote for its act. [`laws::log_keeps_all`]: the log and what isn't written yet have all bytes of each way, in order.
-//! [`Bounded`] is a sink for a log that may have so many bytes and no more.
+//! [`Bounded`] is a sink for a log with a bound on its bytes.
 #![tactic(auto)]
 
 mod bounded;

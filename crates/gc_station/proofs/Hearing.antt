@@ -300,7 +300,7 @@ pub lines_asked-append : (p : Progress) (xs ys : List (List ℕ)) → lines_aske
 lines_asked-append p [] ys = refl
 lines_asked-append p (x ∷ xs) ys = lines_asked-append (line_asked p x) xs ys
 
--- after some of a piece: hearing what is left of it comes to what hearing the whole piece comes to
+-- once some of a piece was heard: hearing what is left of it comes to what hearing the whole piece comes to
 pub record Asking (station : Station) (s : Model) (piece left : List ℕ) : Type 0 where
   pub now : Model
   pub stands : Refines station now

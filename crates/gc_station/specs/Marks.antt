@@ -17,8 +17,8 @@ commands_in [] = 0
 commands_in (None ∷ marks) = commands_in marks
 commands_in (Some mark ∷ marks) = suc (commands_in marks)
 
--- how an answer ends a command of which its line says this: its values don't read, or it is answered, and where both codes are 0 with
--- this answer
+-- the end of a command whose reply came in time, by what its line says: the values don't read, or the command is answered, with this
+-- answer if both codes are 0
 abbrev pub answer_as : Reading → List ℕ → End
 answer_as (reading.Unreadable fault) line = end.Unreadable line fault
 answer_as (reading.Value answer) line = end.Answered (Some answer) line

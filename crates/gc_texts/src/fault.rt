@@ -17,7 +17,7 @@ pub enum RunFault {
     /// A read of the input, or of the link, failed.
     #[error("fault {}", self.number())]
     Read,
-    /// A write to the link failed: so many lines went out whole, and so many bytes of the next.
+    /// A write to the link failed: how many lines went out whole, and how many bytes of the next.
     #[error("fault {} reply {replies} byte {bytes}", self.number())]
     Write { replies: u64, bytes: usize },
     /// As many reads were made as are allowed.

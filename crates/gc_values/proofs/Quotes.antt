@@ -16,7 +16,7 @@ quotes-cons b bs = sum_by-cons counted b bs
 pub quotes_more : (xs : List ℕ) (i : ℕ) → i < length xs → quotes (take (i + 1) xs) ≡ quotes (take i xs) + cond (eqb (get_or xs i 0) 34) 1 0
 quotes_more xs i h = sum_by_more counted xs i 0 h
 
--- another byte adds none
+-- a byte other than a double quote adds none
 pub quotes_same : (b : ℕ) (bs : List ℕ) → eqb b 34 ≡ false → quotes (b ∷ bs) ≡ quotes bs
 quotes_same b bs e = quotes-cons b bs ∙ ap (λ c. cond c 1 0 + quotes bs) e ∙ zero-add (quotes bs)
 

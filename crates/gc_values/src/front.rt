@@ -7,10 +7,10 @@ ghost use Rattle.gc_values.specs.Plainly.{CountsDigits, CutsDecimal, CutsNumber,
 
 use crate::decimal::Decimal;
 
-/// A number of so many digits before the point is in a decimal's range.
+/// A number with this many digits before the point is in a decimal's range.
 const WHOLE: usize = 13;
 
-/// Any number of so many digits fits in 64 bits.
+/// Any number of this many digits fits in 64 bits.
 const SHORT: usize = 18;
 
 /// Reads at most `most` digits at the front as digits behind those of `front`. It returns the number that all of

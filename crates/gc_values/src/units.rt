@@ -11,7 +11,7 @@ use crate::limits::PLACES;
 /// One more than a decimal's greatest number of units of the last place: where a number stops to grow.
 const CAP: u128 = 10_000_000_000_000_000_000_000_000_000_000_000_001;
 
-/// Any number of so many digits fits in 64 bits.
+/// Any number of this many digits fits in 64 bits.
 const SHORT: usize = 18;
 
 /// The digit at a place of both runs in a row, and 0 behind the last one.

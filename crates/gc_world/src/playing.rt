@@ -15,7 +15,7 @@ use gc_client::{Client, WINDOW, Window};
 use gc_instrument::Instrument;
 use std::alloc::{AllocError, Global};
 
-/// Plays the events in order, from a restarted instrument and a new client over this window that lets so many requests
+/// Plays the events in order, from a restarted instrument and a new client over this window that lets `width` requests
 /// wait, and hands back what they led to, and the client as the last event leaves it.
 ///
 /// The report is that of the world's run by ids, and it is faithful: the settlements stand one for one and in order for
