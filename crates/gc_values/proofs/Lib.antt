@@ -9,6 +9,7 @@ pub mod HexPair
 pub mod ItemLaws
 pub mod Kept
 pub mod ListLaws
+pub mod NearLemmas
 pub mod OneText
 pub mod OrderLemmas
 pub mod ParamLists

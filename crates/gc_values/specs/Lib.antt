@@ -5,10 +5,12 @@ pub mod Cut
 pub mod DecimalOrder
 pub mod Decimals
 pub mod Digits
+pub mod Directions
 pub mod Fraction
 pub mod Item
 pub mod KeptDigits
 pub mod Lists
+pub mod NearExamples
 pub mod Nearest
 pub mod Padding
 pub mod Params

@@ -261,8 +261,8 @@ impl Decimal {
         (self.units() - other.units()).abs() <= area.units()
     }
 
-    /// The value in units of the last place that a decimal may have.
-    fn units(&self) -> i128
+    /// The value in units of 10^-24, the last place that a decimal may have: a whole number.
+    pub fn units(&self) -> i128
         ensures value { result ≡ units_of self.now.digits self.now.scale }
         ensures bound { unsigned_abs result ≤ 10 ^ 37 }
     {

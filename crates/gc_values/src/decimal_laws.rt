@@ -4,6 +4,8 @@
 ghost use Rattle.std.specs.Prelude.{◌≡◌, ◌↔◌, IsTrue, ◌≤◌, ℕ, List};
 ghost use Rattle.std.specs.Ordering.{MatchOrdering};
 ghost use Rattle.gc_values.specs.Decimals.{fraction, rounded, decimal_eq, decimal_cmp, is_within};
+ghost use Rattle.gc_values.specs.Directions.{NearIsWithinTheTolerance};
+ghost use Rattle.gc_values.specs.NearExamples.{NearByExample};
 ghost use Rattle.gc_values.specs.Fraction.{Fraction, SameValue, IsRounded, IsBelow, IsWithin};
 ghost use Rattle.gc_values.specs.Spelling.{Names, Spells, SpellsBeyond, SpellsNothing};
 ghost use Rattle.gc_values.specs.Written.{written};
@@ -85,4 +87,15 @@ pub fn area_test_is_the_distance()
 /// What `==` answers is whether two decimals are equal.
 pub fn equality_is_that_of_decimals()
     ensures { (a b : Decimal) → IsTrue (decimal_eq a b) ↔ (a ≡ b) }
+{}
+
+/// The test of directions tells whether one is near the other: its vertical angle as face I has it is at most the tolerance away, and so is
+/// its horizontal direction once it was turned by at most two turns.
+pub fn near_is_within_the_tolerance()
+    ensures { NearIsWithinTheTolerance }
+{}
+
+/// What is near by the definition, and what isn't: on the circle, in face II, by one angle alone, and at the bound.
+pub fn near_by_example()
+    ensures { NearByExample }
 {}

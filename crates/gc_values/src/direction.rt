@@ -1,0 +1,111 @@
+//! Directions of a telescope, and whether one is near another: all arithmetic on directions is here, in whole numbers.
+
+ghost use Rattle.std.specs.Prelude.{◌≡◌, ◌≤◌, ◌*◌, ◌^◌, unsigned_abs};
+ghost use Rattle.gc_values.specs.Directions.{v_of, hz_of, is_apart, is_apart_turned, is_apart_on_circle, is_near, is_up_to, is_place, is_tolerance};
+
+use crate::decimal::Decimal;
+
+// Half a turn, pi to 24 places, in units of 10^-24 radians.
+const HALF_TURN: i128 = 3_141_592_653_589_793_238_462_643;
+
+// A whole turn.
+const TURN: i128 = 6_283_185_307_179_586_476_925_286;
+
+/// Where a telescope points, in radians.
+#[derive(Clone, Copy, Debug, PartialEq, Eq)]
+pub struct Direction {
+    /// The horizontal direction.
+    pub hz: Decimal,
+    /// The vertical angle: up to half a turn in face I, and above it in face II.
+    pub v: Decimal,
+}
+
+// Whether two numbers are at most so far apart.
+fn is_apart(most: i128, x: i128, y: i128) -> bool
+    requires first { unsigned_abs x ≤ 3 * 10 ^ 37 }
+    requires second { unsigned_abs y ≤ 10 ^ 37 }
+    ensures { result ≡ is_apart most x y }
+{
+    (x - y).abs() <= most
+}
+
+// The same once the first was turned so many times.
+fn is_apart_turned(most: i128, turns: i128, x: i128, y: i128) -> bool
+    requires few { unsigned_abs turns ≤ 2 }
+    requires first { unsigned_abs x ≤ 2 * 10 ^ 37 }
+    requires second { unsigned_abs y ≤ 10 ^ 37 }
+    ensures { result ≡ is_apart_turned most turns x y }
+{
+    is_apart(most, x + turns * TURN, y)
+}
+
+// The same on the circle: two turns either way are enough.
+fn is_apart_on_circle(most: i128, x: i128, y: i128) -> bool
+    requires first { unsigned_abs x ≤ 2 * 10 ^ 37 }
+    requires second { unsigned_abs y ≤ 10 ^ 37 }
+    ensures { result ≡ is_apart_on_circle most x y }
+{
+    is_apart_turned(most, -2, x, y)
+        || is_apart_turned(most, -1, x, y)
+        || is_apart_turned(most, 0, x, y)
+        || is_apart_turned(most, 1, x, y)
+        || is_apart_turned(most, 2, x, y)
+}
+
+// Whether a number is from 0 to this one.
+fn is_up_to(most: i128, x: i128) -> bool
+    ensures { result ≡ is_up_to most x }
+{
+    0 <= x && x <= most
+}
+
+/// Whether a number is a tolerance: from 0 to half a turn.
+#[tactic(auto, unfolding(crate::specs::Directions::is_tolerance))]
+pub fn is_tolerance(tolerance: &Decimal) -> bool
+    ensures { result ≡ is_tolerance tolerance.now }
+{
+    is_up_to(HALF_TURN, tolerance.units())
+}
+
+impl Direction {
+    // The vertical angle in face I.
+    fn v_in_face_one(&self) -> i128
+        ensures is { result ≡ v_of self.now }
+        ensures bound { unsigned_abs result ≤ 2 * 10 ^ 37 }
+    {
+        let v = self.v.units();
+        if v <= HALF_TURN { v } else { TURN - v }
+    }
+
+    // The horizontal direction in face I.
+    fn hz_in_face_one(&self) -> i128
+        ensures is { result ≡ hz_of self.now }
+        ensures bound { unsigned_abs result ≤ 2 * 10 ^ 37 }
+    {
+        let hz = self.hz.units();
+        if self.v.units() <= HALF_TURN {
+            hz
+        } else {
+            hz - HALF_TURN
+        }
+    }
+
+    /// Whether it is near a place, whichever face it was measured in: both of its angles are at most the tolerance away, the horizontal one on
+    /// the circle.
+    pub fn is_near(&self, place: &Direction, tolerance: &Decimal) -> bool
+        ensures { result ≡ is_near self.now place.now tolerance.now }
+    {
+        let most = tolerance.units();
+        let v_is_near = is_apart(most, self.v_in_face_one(), place.v.units());
+        let hz_is_near = is_apart_on_circle(most, self.hz_in_face_one(), place.hz.units());
+        v_is_near && hz_is_near
+    }
+
+    /// Whether it is a place as face I has it: the horizontal direction from 0 to a turn, and the vertical angle from 0 to half a turn.
+    #[tactic(auto, unfolding(crate::specs::Directions::is_place))]
+    pub fn is_place(&self) -> bool
+        ensures { result ≡ is_place self.now }
+    {
+        is_up_to(TURN, self.hz.units()) && is_up_to(HALF_TURN, self.v.units())
+    }
+}
