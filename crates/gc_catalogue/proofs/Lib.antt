@@ -1,5 +1,6 @@
 pub mod AnswerLaws
 pub mod CallLaws
+pub mod EachReply
 pub mod Joining
 pub mod Lengths
 pub mod LineLaws

@@ -61,6 +61,10 @@ pub record OneCallOrRefusal : Type 0 where
 abbrev pub OneReading : Type 0
 OneReading = (call : Call) (reply : ReplyFields) (x y : Reading) → IsReading call reply x → IsReading call reply y → x ≡ y
 
+-- each reply says something of each call
+abbrev pub EachReplyIsRead : Type 0
+EachReplyIsRead = (call : Call) (reply : ReplyFields) → (reading : Reading) × IsReading call reply reading
+
 -- the line of a call reads as a request, and that is the call's
 pub record ReadsBackCall (id : Option ℕ) (call : Call) : Type 0 where
   pub line : request_at (request_line id call) ≡ Ok (request_of id call)

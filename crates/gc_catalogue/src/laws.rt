@@ -1,6 +1,6 @@
 //! What is proved of the definitions themselves. Each function does nothing: its contract is the law.
 
-ghost use Rattle.gc_catalogue.specs.Laws.{NumbersDiffer, OneCallForALine, OneCallOrRefusal, OneReading, CallsReadBack, AnswersReadBack, DoublesAreRounded};
+ghost use Rattle.gc_catalogue.specs.Laws.{NumbersDiffer, OneCallForALine, OneCallOrRefusal, OneReading, EachReplyIsRead, CallsReadBack, AnswersReadBack, DoublesAreRounded};
 
 /// No two procedures share a number.
 pub fn numbers_differ()
@@ -20,6 +20,11 @@ pub fn one_call_or_refusal()
 /// A reply says one thing of a call.
 pub fn one_reading_for_a_reply()
     ensures { OneReading }
+{}
+
+/// Each reply says something of each call, whatever its codes and its parameters are.
+pub fn each_reply_is_read()
+    ensures { EachReplyIsRead }
 {}
 
 /// The line of a call reads back as that call.

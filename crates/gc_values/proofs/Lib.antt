@@ -3,6 +3,9 @@ pub mod Asking
 pub mod ByteLemmas
 pub mod DecimalLaws
 pub mod DecimalLemmas
+pub mod EachDecimal
+pub mod EachItem
+pub mod EachWhole
 pub mod Examples
 pub mod FrontDecimals
 pub mod HexPair

@@ -126,7 +126,7 @@ more_pieces piece rest keeps even r =
 even_behind : (xs ys : List ℕ) → quotes xs % 2 ≡ 0 → quotes (xs ++ 44 ∷ ys) % 2 ≡ 0 → quotes ys % 2 ≡ 0
 even_behind xs ys first both = let sum = quotes-comma xs ys in omega (arith, first, both, sum)
 
-odd_or : (n : ℕ) → (n % 2 ≡ 0 → ⊥) → n % 2 ≡ 1
+pub odd_or : (n : ℕ) → (n % 2 ≡ 0 → ⊥) → n % 2 ≡ 1
 odd_or n h = omega (arith, h)
 
 -- a text with its quotes in pairs has pieces

@@ -80,7 +80,7 @@ same_parts text negative r1 whole r2 fraction r3 s d f p n e =
     (exponent_no_point p.exponent) f.longest (exponent_no_digit p.exponent) (sym f.text_is ∙ runs.1) in
     record { sign = s.negative_is ∙ signs.0; whole_is = runs.0; fraction_is = f.run_is ∙ fractions.0; rest_is = fractions.1 }
 
-digits_no_sign : (ds us : List ℕ) → AreDigits ds → 0 < length ds → StartsNoSign (ds ++ us)
+pub digits_no_sign : (ds us : List ℕ) → AreDigits ds → 0 < length ds → StartsNoSign (ds ++ us)
 digits_no_sign [] us h some = absurd (omega arith)
 digits_no_sign (b ∷ bs) us h some = (λ e. let d = h.0 in omega (arith, e, d.0), λ e. let d = h.0 in omega (arith, e, d.0))
 

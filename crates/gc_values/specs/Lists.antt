@@ -46,3 +46,7 @@ pub data IsListFault (kinds : List Kind) (params : List ℕ) (e : ValueFault) : 
 -- each value lies in its kind's range
 abbrev pub AreValues : List Value → Type 0
 AreValues values = AllByRecursion IsValue values
+
+-- the parameters are values of the kinds, or there is a reason why they aren't
+abbrev pub IsListRead : List Kind → List ℕ → Type 0
+IsListRead kinds params = ((vs : List Value) × (kinds_of vs ≡ kinds) × AreParams params vs) ⊎ ((e : ValueFault) × IsListFault kinds params e)

@@ -1,0 +1,207 @@
+-- Each reply says something of each call: its parameters are an answer of the call's shape, or there is a reason why they aren't.
+use Rattle.std.proofs.Common.{◌≡◌, ℕ, List, [], ◌∷◌, refl, sym, ap, ◌∙◌, subst, ◌⊎◌, inl, inr}
+use Rattle.std.specs.Prelude.{pos}
+use Rattle.std.proofs.lemmas.Bool.{cases_eq}
+use Rattle.gc_lines.specs.Replies.{ReplyFields}
+use Rattle.gc_values.specs.Decimals.{zero}
+use Rattle.gc_values.specs.Item.{kind_of}
+use Rattle.gc_values.specs.Lists.{kinds_of, AreParams, IsListFault}
+use Rattle.gc_values.specs.declared.decimal.Decimal.{Decimal}
+use Rattle.gc_values.specs.declared.value.Kind.{Kind}
+use Rattle.gc_values.specs.declared.value.Kind.TheVariants as kind
+use Rattle.gc_values.specs.declared.value.Value.{Value}
+use Rattle.gc_values.specs.declared.value.Value.TheVariants as value
+use Rattle.gc_values.proofs.EachItem.{each_list}
+use Rattle.gc_catalogue.specs.Answers.{answer_fields, IsAnswer, IsUnreadable}
+use Rattle.gc_catalogue.specs.Calls.{call_fields}
+use Rattle.gc_catalogue.specs.Laws.{EachReplyIsRead}
+use Rattle.gc_catalogue.specs.Readings.{IsReading}
+use Rattle.gc_catalogue.specs.declared.answer.Answer.{Answer}
+use Rattle.gc_catalogue.specs.declared.answer.Answer.TheVariants as answer
+use Rattle.gc_catalogue.specs.declared.answer.Reading.{Reading}
+use Rattle.gc_catalogue.specs.declared.answer.Reading.TheVariants as reading
+use Rattle.gc_catalogue.specs.declared.answer.Shape.{Shape}
+use Rattle.gc_catalogue.specs.declared.answer.Shape.TheVariants as shape
+use Rattle.gc_catalogue.specs.declared.call.Call.{Call}
+
+-- the first value of a list of kinds, and those behind it
+record Split (k : Kind) (ks : List Kind) (vs : List Value) : Type 0 where
+  first : Value
+  behind : List Value
+  is : first ∷ behind ≡ vs
+  kind : kind_of first ≡ k
+  kinds : kinds_of behind ≡ ks
+
+split : (k : Kind) (ks : List Kind) (vs : List Value) → kinds_of vs ≡ k ∷ ks → Split k ks vs
+split k ks [] e = absurd (cc)
+split k ks (v ∷ vs) e = record { first = v; behind = vs; is = refl; kind = cc; kinds = cc }
+
+none_left : (vs : List Value) → kinds_of vs ≡ [] → [] ≡ vs
+none_left [] e = refl
+none_left (v ∷ vs) e = absurd (cc)
+
+a_double : (v : Value) → kind_of v ≡ kind.Double → (d : Decimal) × (value.Double d ≡ v)
+a_double (value.Double d) e = (d, refl)
+a_double (value.Long z) e = absurd (cc)
+a_double (value.Short z) e = absurd (cc)
+a_double (value.Byte n) e = absurd (cc)
+a_double (value.Bool b) e = absurd (cc)
+a_double (value.Text t) e = absurd (cc)
+
+a_long : (v : Value) → kind_of v ≡ kind.Long → (z : _) × (value.Long z ≡ v)
+a_long (value.Double d) e = absurd (cc)
+a_long (value.Long z) e = (z, refl)
+a_long (value.Short z) e = absurd (cc)
+a_long (value.Byte n) e = absurd (cc)
+a_long (value.Bool b) e = absurd (cc)
+a_long (value.Text t) e = absurd (cc)
+
+a_short : (v : Value) → kind_of v ≡ kind.Short → (z : _) × (value.Short z ≡ v)
+a_short (value.Double d) e = absurd (cc)
+a_short (value.Long z) e = absurd (cc)
+a_short (value.Short z) e = (z, refl)
+a_short (value.Byte n) e = absurd (cc)
+a_short (value.Bool b) e = absurd (cc)
+a_short (value.Text t) e = absurd (cc)
+
+a_byte : (v : Value) → kind_of v ≡ kind.Byte → (n : ℕ) × (value.Byte n ≡ v)
+a_byte (value.Double d) e = absurd (cc)
+a_byte (value.Long z) e = absurd (cc)
+a_byte (value.Short z) e = absurd (cc)
+a_byte (value.Byte n) e = (n, refl)
+a_byte (value.Bool b) e = absurd (cc)
+a_byte (value.Text t) e = absurd (cc)
+
+a_text : (v : Value) → kind_of v ≡ kind.Text → (t : List ℕ) × (value.Text t ≡ v)
+a_text (value.Double d) e = absurd (cc)
+a_text (value.Long z) e = absurd (cc)
+a_text (value.Short z) e = absurd (cc)
+a_text (value.Byte n) e = absurd (cc)
+a_text (value.Bool b) e = absurd (cc)
+a_text (value.Text t) e = (t, refl)
+
+-- an answer of a shape that has these values
+abbrev Has : Shape → List Value → Type 0
+Has s vs = (a : Answer) × ((answer_fields a).shape ≡ s) × ((answer_fields a).values ≡ vs)
+
+-- a shape has one list of kinds, some answer, and an answer for each list of values of these kinds
+record Made (s : Shape) : Type 0 where
+  some : Answer
+  shape : (answer_fields some).shape ≡ s
+  each : (vs : List Value) → kinds_of vs ≡ kinds_of (answer_fields some).values → Has s vs
+
+-- an answer of one value, by its kind
+of_one : {X : Type 0} (k : Kind) (make : X → Value) (say : X → Answer) (s : Shape) → ((v : Value) → kind_of v ≡ k → (x : X) × (make x ≡ v))
+    → ((x : X) → (answer_fields (say x)).shape ≡ s) → ((x : X) → (answer_fields (say x)).values ≡ make x ∷ []) → (vs : List Value) → kinds_of vs ≡ k ∷ [] → Has s vs
+of_one k make say s is shape values vs e =
+    let p = split k [] vs e in
+    let x = is p.first p.kind in
+    (say x.0, shape x.0, values x.0 ∙ ap (λ v. v ∷ []) x.1 ∙ ap (λ ws. p.first ∷ ws) (none_left p.behind p.kinds) ∙ p.is)
+
+one_double : (say : Decimal → Answer) (s : Shape) → ((d : Decimal) → (answer_fields (say d)).shape ≡ s)
+    → ((d : Decimal) → (answer_fields (say d)).values ≡ value.Double d ∷ []) → (vs : List Value) → kinds_of vs ≡ kind.Double ∷ [] → Has s vs
+one_double say s is values = of_one kind.Double (λ d. value.Double d) say s a_double is values
+
+made : (s : Shape) → Made s
+made shape.Nothing = record { some = answer.Nothing; shape = refl; each = λ vs e. (answer.Nothing, refl, none_left vs e) }
+made shape.Short = record { some = answer.Short (pos 0); shape = refl; each = of_one kind.Short (λ z. value.Short z) (λ z. answer.Short z) shape.Short a_short (λ z. refl) (λ z. refl) }
+made shape.Long = record { some = answer.Long (pos 0); shape = refl; each = of_one kind.Long (λ z. value.Long z) (λ z. answer.Long z) shape.Long a_long (λ z. refl) (λ z. refl) }
+made shape.Name = record { some = answer.Name []; shape = refl; each = of_one kind.Text (λ t. value.Text t) (λ t. answer.Name t) shape.Name a_text (λ t. refl) (λ t. refl) }
+made shape.Temperature = record { some = answer.Temperature zero; shape = refl; each = one_double (λ d. answer.Temperature d) shape.Temperature (λ d. refl) (λ d. refl) }
+made shape.Height = record { some = answer.Height zero; shape = refl; each = one_double (λ d. answer.Height d) shape.Height (λ d. refl) (λ d. refl) }
+made shape.Version = record { some = answer.Version (pos 0) (pos 0) (pos 0); shape = refl; each = version } where
+  version : (vs : List Value) → kinds_of vs ≡ kind.Short ∷ kind.Short ∷ kind.Short ∷ [] → Has shape.Version vs
+  version vs e =
+      let p = split kind.Short (kind.Short ∷ kind.Short ∷ []) vs e in
+      let q = split kind.Short (kind.Short ∷ []) p.behind p.kinds in
+      let r = split kind.Short [] q.behind q.kinds in
+      let a = a_short p.first p.kind in
+      let b = a_short q.first q.kind in
+      let c = a_short r.first r.kind in
+      (answer.Version a.0 b.0 c.0, refl, cc (a.1, b.1, c.1, none_left r.behind r.kinds, r.is, q.is, p.is))
+made shape.Date = record { some = answer.Date (record { year = pos 0; month = 0; day = 0; hour = 0; minute = 0; second = 0 }); shape = refl; each = date } where
+  date : (vs : List Value) → kinds_of vs ≡ kind.Short ∷ kind.Byte ∷ kind.Byte ∷ kind.Byte ∷ kind.Byte ∷ kind.Byte ∷ [] → Has shape.Date vs
+  date vs e =
+      let p = split kind.Short (kind.Byte ∷ kind.Byte ∷ kind.Byte ∷ kind.Byte ∷ kind.Byte ∷ []) vs e in
+      let q = split kind.Byte (kind.Byte ∷ kind.Byte ∷ kind.Byte ∷ kind.Byte ∷ []) p.behind p.kinds in
+      let r = split kind.Byte (kind.Byte ∷ kind.Byte ∷ kind.Byte ∷ []) q.behind q.kinds in
+      let s = split kind.Byte (kind.Byte ∷ kind.Byte ∷ []) r.behind r.kinds in
+      let t = split kind.Byte (kind.Byte ∷ []) s.behind s.kinds in
+      let u = split kind.Byte [] t.behind t.kinds in
+      let a = a_short p.first p.kind in
+      let b = a_byte q.first q.kind in
+      let c = a_byte r.first r.kind in
+      let d = a_byte s.first s.kind in
+      let m = a_byte t.first t.kind in
+      let n = a_byte u.first u.kind in (
+        answer.Date (record { year = a.0; month = b.0; day = c.0; hour = d.0; minute = m.0; second = n.0 }),
+        refl,
+        cc (a.1, b.1, c.1, d.1, m.1, n.1, none_left u.behind u.kinds, u.is, t.is, s.is, r.is, q.is, p.is),
+      )
+made shape.Place = record { some = answer.Place (record { e0 = zero; n0 = zero; h0 = zero; hi = zero }); shape = refl; each = place } where
+  place : (vs : List Value) → kinds_of vs ≡ kind.Double ∷ kind.Double ∷ kind.Double ∷ kind.Double ∷ [] → Has shape.Place vs
+  place vs e =
+      let p = split kind.Double (kind.Double ∷ kind.Double ∷ kind.Double ∷ []) vs e in
+      let q = split kind.Double (kind.Double ∷ kind.Double ∷ []) p.behind p.kinds in
+      let r = split kind.Double (kind.Double ∷ []) q.behind q.kinds in
+      let s = split kind.Double [] r.behind r.kinds in
+      let a = a_double p.first p.kind in
+      let b = a_double q.first q.kind in
+      let c = a_double r.first r.kind in
+      let d = a_double s.first s.kind in (
+        answer.Place (record { e0 = a.0; n0 = b.0; h0 = c.0; hi = d.0 }),
+        refl,
+        cc (a.1, b.1, c.1, d.1, none_left s.behind s.kinds, s.is, r.is, q.is, p.is),
+      )
+made shape.Angles = record { some = answer.Angles zero zero; shape = refl; each = angles } where
+  angles : (vs : List Value) → kinds_of vs ≡ kind.Double ∷ kind.Double ∷ [] → Has shape.Angles vs
+  angles vs e =
+      let p = split kind.Double (kind.Double ∷ []) vs e in
+      let q = split kind.Double [] p.behind p.kinds in
+      let a = a_double p.first p.kind in
+      let b = a_double q.first q.kind in
+      (answer.Angles a.0 b.0, refl, cc (a.1, b.1, none_left q.behind q.kinds, q.is, p.is))
+made shape.Measured = record { some = answer.Measured zero zero zero; shape = refl; each = measured } where
+  measured : (vs : List Value) → kinds_of vs ≡ kind.Double ∷ kind.Double ∷ kind.Double ∷ [] → Has shape.Measured vs
+  measured vs e =
+      let p = split kind.Double (kind.Double ∷ kind.Double ∷ []) vs e in
+      let q = split kind.Double (kind.Double ∷ []) p.behind p.kinds in
+      let r = split kind.Double [] q.behind q.kinds in
+      let a = a_double p.first p.kind in
+      let b = a_double q.first q.kind in
+      let c = a_double r.first r.kind in
+      (answer.Measured a.0 b.0 c.0, refl, cc (a.1, b.1, c.1, none_left r.behind r.kinds, r.is, q.is, p.is))
+made shape.MeasuredMode = record { some = answer.MeasuredMode zero zero zero (pos 0); shape = refl; each = with_mode } where
+  with_mode : (vs : List Value) → kinds_of vs ≡ kind.Double ∷ kind.Double ∷ kind.Double ∷ kind.Long ∷ [] → Has shape.MeasuredMode vs
+  with_mode vs e =
+      let p = split kind.Double (kind.Double ∷ kind.Double ∷ kind.Long ∷ []) vs e in
+      let q = split kind.Double (kind.Double ∷ kind.Long ∷ []) p.behind p.kinds in
+      let r = split kind.Double (kind.Long ∷ []) q.behind q.kinds in
+      let s = split kind.Long [] r.behind r.kinds in
+      let a = a_double p.first p.kind in
+      let b = a_double q.first q.kind in
+      let c = a_double r.first r.kind in
+      let m = a_long s.first s.kind in
+      (answer.MeasuredMode a.0 b.0 c.0 m.0, refl, cc (a.1, b.1, c.1, m.1, none_left s.behind s.kinds, s.is, r.is, q.is, p.is))
+
+answered : (call : Call) (params : List ℕ) → ((a : Answer) × IsAnswer call params a) ⊎ ((e : _) × IsUnreadable call params e)
+answered call params =
+    let m = made (call_fields call).answer in
+    elim (each_list (kinds_of (answer_fields m.some).values) params) [
+      | inl read ↦
+          let a = m.each read.0 read.1 in
+          inl (a.0, record { of_call = a.1; values = subst (AreParams params) (sym a.2) read.2 })
+      | inr faulty ↦ inr (faulty.0, (m.some, m.shape, faulty.1))
+    ]
+
+pub each_reply : EachReplyIsRead
+each_reply call r = elim (cases_eq r.rc_com 0) [
+  | inr fault ↦ (reading.ComFault r.rc_com, (fault, refl))
+  | inl sent ↦ elim (cases_eq r.rc 0) [
+    | inr refused ↦ (reading.Refused r.rc, (sent, refused, refl))
+    | inl well ↦ elim (answered call r.params) [
+      | inl found ↦ (reading.Value found.0, (sent, well, found.1))
+      | inr none ↦ (reading.Unreadable none.0, (sent, well, none.1))
+    ]
+  ]
+]

@@ -1,0 +1,164 @@
+-- Each text spells a decimal, or a number out of its range, or none.
+use Rattle.std.proofs.Common.{◌≡◌, ℕ, ◌+◌, ◌*◌, ◌^◌, ◌<◌, ◌≤◌, Bool, true, false, List, [], ◌∷◌, ◌++◌, length, ℤ, unsigned_abs, Option, Some, None, refl, sym, ap, ◌∙◌, subst, ◌⊎◌, inl, inr, arith}
+use Rattle.std.proofs.lemmas.Bool.{cases_lt, cases_eq}
+use Rattle.std.proofs.lemmas.List.{append-nil}
+use Rattle.gc_values.specs.Cut.{StartsNoDigit, StartsNoSign, StartsNoPoint, CutsSign, CutsDigits, CutsFraction}
+use Rattle.gc_values.specs.Digits.{AreDigits, number}
+use Rattle.gc_values.specs.Fraction.{Fraction, signed, IsRounded}
+use Rattle.gc_values.specs.Nearest.{half_up}
+use Rattle.gc_values.specs.RoundedFacts.{half_up_rounds}
+use Rattle.gc_values.specs.Spelling.{Sign, is_minus, Exponent, IsShort, IsExponent, exponent_text, mark, ups, downs, fraction_digits, fraction_text, Parts, IsNumeral, spelling, value, Names, Spells, SpellsBeyond, SpellsNothing}
+use Rattle.gc_values.specs.declared.decimal.Decimal.{Decimal}
+use Rattle.gc_values.proofs.EachWhole.{Decided, digits_or_not, digits_cut, sign_cut}
+use Rattle.gc_values.proofs.Powers.{ten_pow_pos}
+use Rattle.gc_values.proofs.Rounded.{zeros_off, rounded_from}
+use Rattle.gc_values.proofs.Unique.{SameParts, same_parts, sign_once, digits_no_sign}
+
+-- a point and the digits behind it
+fraction_cut : (text : List ℕ) → StartsNoDigit text → (run : List ℕ) × (rest : List ℕ) × CutsFraction text run rest
+fraction_cut [] none = ([], [], record { fraction = None; text_is = refl; run_is = refl; digits = tt; no_point = λ _. tt; longest = tt })
+fraction_cut (b ∷ bs) none = elim (cases_eq b 46) [
+  | inr other ↦ ([], b ∷ bs, record { fraction = None; text_is = refl; run_is = refl; digits = tt; no_point = λ _. other; longest = none })
+  | inl point ↦
+      let cut = digits_cut bs in (
+        cut.0,
+        cut.1,
+        record {
+          fraction = Some cut.0;
+          text_is = ap (λ x. x ∷ bs) point ∙ ap (λ xs. 46 ∷ xs) cut.2.text_is;
+          run_is = refl;
+          digits = cut.2.digits;
+          no_point = λ e. absurd (cc);
+          longest = cut.2.longest;
+        },
+      )
+]
+
+short_or_not : (text : List ℕ) → Decided (IsShort text)
+short_or_not [] = inr (λ s. let some = s.some in omega (arith, some))
+short_or_not (b ∷ bs) = elim (cases_lt 3 (length (b ∷ bs))) [
+  | inl long ↦ inr (λ s. let few = s.few in omega (arith, long, few))
+  | inr few ↦ elim (digits_or_not (b ∷ bs)) [
+    | inl digits ↦ inl (record { digits_are = digits; some = omega arith; few = few })
+    | inr other ↦ inr (λ s. other s.digits_are)
+  ]
+]
+
+-- an exponent's text, and that it is one or none
+abbrev ExponentOf : List ℕ → Type 0
+ExponentOf text = (e : Option Exponent) × IsExponent e × (text ≡ exponent_text e)
+
+same_digits : (capital : Bool) (bs : List ℕ) (negative : Bool) (rest : List ℕ) → CutsSign bs negative rest → (e : Exponent) → IsShort e.digits
+    → mark capital ∷ bs ≡ exponent_text (Some e) → rest ≡ e.digits
+same_digits capital bs negative rest cut e short is =
+    let behind : bs ≡ Rattle.gc_values.specs.Spelling.sign_text e.sign ++ e.digits = cc in
+    let bare : StartsNoSign e.digits = subst StartsNoSign (append-nil e.digits) (digits_no_sign e.digits [] short.digits_are short.some) in
+    (sign_once cut.sign e.sign rest e.digits cut.first bare (sym cut.text_is ∙ behind)).1
+
+marked : (capital : Bool) (bs : List ℕ) → Decided (ExponentOf (mark capital ∷ bs))
+marked capital bs =
+    let cut = sign_cut bs in
+    elim (short_or_not cut.1) [
+      | inl short ↦ inl (Some (record { capital = capital; sign = cut.2.sign; digits = cut.1 }), short, ap (λ xs. mark capital ∷ xs) cut.2.text_is)
+      | inr other ↦ inr (none other)
+    ] where
+      none : (IsShort (sign_cut bs).1 → ⊥) → ExponentOf (mark capital ∷ bs) → ⊥
+      none other (None, form, is) = absurd (cc)
+      none other (Some e, form, is) = let cut = sign_cut bs in other (subst IsShort (sym (same_digits capital bs cut.0 cut.1 cut.2 e form is)) form)
+
+no_mark : (b : ℕ) (bs : List ℕ) → (b ≡ 101 → ⊥) → (b ≡ 69 → ⊥) → ExponentOf (b ∷ bs) → ⊥
+no_mark b bs small large (None, form, is) = absurd (cc)
+no_mark b bs small large (Some e, form, is) = by_capital e.capital refl where
+  by_capital : (c : Bool) → e.capital ≡ c → ⊥
+  by_capital true same = let first : b ≡ mark e.capital = cc in large (first ∙ ap mark same)
+  by_capital false same = let first : b ≡ mark e.capital = cc in small (first ∙ ap mark same)
+
+exponent_or_not : (text : List ℕ) → Decided (ExponentOf text)
+exponent_or_not [] = inl (None, tt, refl)
+exponent_or_not (b ∷ bs) = elim (cases_eq b 101) [
+  | inl small ↦ subst (λ x. Decided (ExponentOf (x ∷ bs))) (sym small) (marked false bs)
+  | inr no_small ↦ elim (cases_eq b 69) [
+    | inl large ↦ subst (λ x. Decided (ExponentOf (x ∷ bs))) (sym large) (marked true bs)
+    | inr no_large ↦ inr (no_mark b bs no_small no_large)
+  ]
+]
+
+-- a number's text, in its parts
+abbrev NumeralOf : List ℕ → Type 0
+NumeralOf text = (p : Parts) × IsNumeral p × (text ≡ spelling p)
+
+-- what was cut off from the left
+record Cut (text : List ℕ) : Type 0 where
+  negative : Bool
+  behind_sign : List ℕ
+  whole : List ℕ
+  behind_whole : List ℕ
+  fraction : List ℕ
+  rest : List ℕ
+  sign : CutsSign text negative behind_sign
+  digits : CutsDigits behind_sign whole behind_whole
+  point : CutsFraction behind_whole fraction rest
+
+cut_of : (text : List ℕ) → Cut text
+cut_of text =
+    let s = sign_cut text in
+    let d = digits_cut s.1 in
+    let f = fraction_cut d.1 d.2.longest in
+    record { negative = s.0; behind_sign = s.1; whole = d.0; behind_whole = d.1; fraction = f.0; rest = f.1; sign = s.2; digits = d.2; point = f.2 }
+
+cut_same : (text : List ℕ) (c : Cut text) (n : NumeralOf text) → SameParts c.negative c.whole c.fraction c.rest n.0
+cut_same text c n = same_parts text c.negative c.behind_sign c.whole c.behind_whole c.fraction c.rest c.sign c.digits c.point n.0 n.1 n.2
+
+numeral_made : (text : List ℕ) (c : Cut text) → 0 < length c.whole + length c.fraction → ExponentOf c.rest → NumeralOf text
+numeral_made text c some x = (
+  record { sign = c.sign.sign; whole = c.whole; fraction = c.point.fraction; exponent = x.0 },
+  record {
+    whole = c.digits.digits;
+    fraction = subst AreDigits c.point.run_is c.point.digits;
+    some = subst (λ run. 0 < length c.whole + length run) c.point.run_is some;
+    exponent = x.1;
+  },
+  c.sign.text_is
+      ∙ ap (λ xs. Rattle.gc_values.specs.Spelling.sign_text c.sign.sign ++ xs) (c.digits.text_is
+      ∙ ap (λ xs. c.whole ++ xs) (c.point.text_is ∙ ap (λ xs. fraction_text c.point.fraction ++ xs) x.2)),
+)
+
+numeral_or_not : (text : List ℕ) → Decided (NumeralOf text)
+numeral_or_not text =
+    let c = cut_of text in
+    elim (cases_lt 0 (length c.whole + length c.fraction)) [
+      | inr empty ↦ inr (λ n. let same = cut_same text c n in
+          let none = n.1.some in omega (arith, empty, none, ap length same.whole_is, ap length same.fraction_is))
+      | inl some ↦ elim (exponent_or_not c.rest) [
+        | inl x ↦ inl (numeral_made text c some x)
+        | inr none ↦ inr (λ n. none (n.0.exponent, n.1.exponent, (cut_same text c n).rest_is))
+      ]
+    ]
+
+-- each fraction of a numeral is rounded
+abbrev RoundedOf : List ℕ → Type 0
+RoundedOf text = (m : ℤ) × (s : ℕ) × Spells text m s
+
+rounded_of : (text : List ℕ) → NumeralOf text → RoundedOf text
+rounded_of text n =
+    let p = n.0 in
+    let neg = is_minus p.sign in
+    let a = number (p.whole ++ fraction_digits p.fraction) * 10 ^ ups p.exponent in
+    let k = length (fraction_digits p.fraction) + downs p.exponent in
+    let near = half_up_rounds (a * 10 ^ 24) (10 ^ k) (ten_pow_pos k) in
+    let z = zeros_off (half_up (a * 10 ^ 24) (10 ^ k)) 24 in
+    (signed neg z.0, z.1, (value p, (p, n.1, n.2, refl), rounded_from neg a k 24 (half_up (a * 10 ^ 24) (10 ^ k)) z.0 z.1 near z.2))
+
+pub each_decimal : (text : List ℕ) → ((d : Decimal) × Spells text d.digits d.scale) ⊎ (SpellsNothing text ⊎ SpellsBeyond text)
+each_decimal text = elim (numeral_or_not text) [
+  | inr none ↦ inr (inl (λ q named. none (named.0, named.1, named.2)))
+  | inl n ↦
+      let r = rounded_of text n in
+      elim (cases_lt (10 ^ 13 * 10 ^ r.1) (unsigned_abs r.0)) [
+        | inl far ↦ inr (inr (r.0, r.1, r.2, far))
+        | inr near ↦ inl (
+          record { digits = r.0; scale = r.1; has_few_places = r.2.2.places; is_in_range = near; is_canonical = r.2.2.canonical },
+          r.2,
+        )
+      ]
+]

@@ -1,0 +1,218 @@
+-- Each item is read as a value of a kind, or has a fault; and so has each parameter list.
+use Rattle.std.proofs.Common.{◌≡◌, ◌≢◌, ℕ, zero, suc, ◌+◌, ◌*◌, ◌%◌, ◌<◌, ◌≤◌, Bool, true, false, List, [], ◌∷◌, ◌++◌, length, replicate, ℤ, pos, negsuc, Option, Some, None, refl, sym, ap, ◌∙◌, subst, ◌⊎◌, inl, inr, arith}
+use Rattle.std.proofs.lemmas.Bool.{cases_lt, cases_eq}
+use Rattle.std.proofs.lemmas.Int.{ints}
+use Rattle.hex.specs.Hex.{hex_digit_value}
+use Rattle.gc_values.specs.Boolean.{number_of, NamesBoolean}
+use Rattle.gc_values.specs.Byte.{IsByte, IsNoByte}
+use Rattle.gc_values.specs.Item.{kind_of, IsItem, IsItemFault}
+use Rattle.gc_values.specs.Lists.{kinds_of, AreItems, AreParams, FirstFault, IsListRead, too_many, wrong_count, faulty_item, open_quote, faulty_items}
+use Rattle.gc_values.specs.Params.{quotes, AreSpaces, IsParams}
+use Rattle.gc_values.specs.Text.{IsStringByte, AreStringBytes, quoted, IsString, IsTextItem, IsNoString, IsLongString}
+use Rattle.gc_values.specs.Whole.{NamesWhole, NamesNoWhole, NamesWholeBeyond, IsBetween}
+use Rattle.gc_values.specs.declared.fault.ValueFault.{ValueFault}
+use Rattle.gc_values.specs.declared.fault.ValueFault.TheVariants as fault
+use Rattle.gc_values.specs.declared.value.Kind.{Kind}
+use Rattle.gc_values.specs.declared.value.Kind.TheVariants as kind
+use Rattle.gc_values.specs.declared.value.Value.{Value}
+use Rattle.gc_values.specs.declared.value.Value.TheVariants as value
+use Rattle.gc_values.proofs.EachDecimal.{each_decimal}
+use Rattle.gc_values.proofs.EachWhole.{Decided, whole_between}
+use Rattle.gc_values.proofs.ParamLists.{has_pieces, odd_or}
+use Rattle.gc_values.proofs.TextLemmas.{one_quoted}
+
+-- an item is a value of the kind, or why it is none
+abbrev pub IsReadOrFaulty : Kind → List ℕ → Type 0
+IsReadOrFaulty k item = ((v : Value) × (kind_of v ≡ k) × IsItem item v) ⊎ ((e : ValueFault) × IsItemFault k item e)
+
+abbrev ByteOf : List ℕ → Type 0
+ByteOf item = (n : ℕ) × IsByte item n
+
+-- two digits, or none
+byte_or_not : (a b : ℕ) → Decided (ByteOf (39 ∷ a ∷ b ∷ 39 ∷ []))
+byte_or_not a b = by_high (hex_digit_value a) refl where
+  by_low : (high : ℕ) → hex_digit_value a ≡ Some high → (low : Option ℕ) → hex_digit_value b ≡ low → Decided (ByteOf (39 ∷ a ∷ b ∷ 39 ∷ []))
+  by_low high h (Some low) l = inl (high * 16 + low, record { a = a; b = b; high = high; low = low; text_is = refl; high_is = h; low_is = l; value = refl })
+  by_low high h None l = inr (λ x. let same : b ≡ x.1.b = let e = x.1.text_is in cc in let is = x.1.low_is in let none = ap hex_digit_value same in absurd (cc))
+
+  by_high : (high : Option ℕ) → hex_digit_value a ≡ high → Decided (ByteOf (39 ∷ a ∷ b ∷ 39 ∷ []))
+  by_high (Some high) h = by_low high h (hex_digit_value b) refl
+  by_high None h = inr (λ x. let same : a ≡ x.1.a = let e = x.1.text_is in cc in let is = x.1.high_is in let none = ap hex_digit_value same in absurd (cc))
+
+no_quoted_byte : (p a b q : ℕ) → (p ≡ 39 → q ≡ 39 → ⊥) → ByteOf (p ∷ a ∷ b ∷ q ∷ []) → ⊥
+no_quoted_byte p a b q none x = let e = x.1.text_is in none (let first : p ≡ 39 = cc in first) (let last : q ≡ 39 = cc in last)
+
+each_byte : (item : List ℕ) → Decided (ByteOf item)
+each_byte [] = inr (λ x. let e = x.1.text_is in absurd (cc))
+each_byte (p ∷ []) = inr (λ x. let e = x.1.text_is in absurd (cc))
+each_byte (p ∷ a ∷ []) = inr (λ x. let e = x.1.text_is in absurd (cc))
+each_byte (p ∷ a ∷ b ∷ []) = inr (λ x. let e = x.1.text_is in absurd (cc))
+each_byte (p ∷ a ∷ b ∷ q ∷ r ∷ rest) = inr (λ x. let e = x.1.text_is in absurd (cc))
+each_byte (p ∷ a ∷ b ∷ q ∷ []) = elim (cases_eq p 39) [
+  | inr other ↦ inr (no_quoted_byte p a b q (λ first last. other first))
+  | inl first ↦ elim (cases_eq q 39) [
+    | inr other ↦ inr (no_quoted_byte p a b q (λ first last. other last))
+    | inl last ↦ subst (λ x. Decided (ByteOf (x ∷ a ∷ b ∷ q ∷ []))) (sym first) (subst (λ x. Decided (ByteOf (39 ∷ a ∷ b ∷ x ∷ []))) (sym last) (byte_or_not a b))
+  ]
+]
+
+-- what stands before a quote at the end
+abbrev EndsInQuote : List ℕ → Type 0
+EndsInQuote text = (bytes : List ℕ) × (text ≡ bytes ++ 34 ∷ [])
+
+no_end : (b : ℕ) → b ≢ 34 → EndsInQuote (b ∷ []) → ⊥
+no_end b other ([], is) = other (let same : b ≡ 34 = cc in same)
+no_end b other (x ∷ [], is) = absurd (cc)
+no_end b other (x ∷ y ∷ xs, is) = absurd (cc)
+
+end_behind : (b c : ℕ) (rest : List ℕ) → EndsInQuote (b ∷ c ∷ rest) → EndsInQuote (c ∷ rest)
+end_behind b c rest ([], is) = absurd (cc)
+end_behind b c rest (x ∷ xs, is) = (xs, let same : c ∷ rest ≡ xs ++ 34 ∷ [] = cc in same)
+
+end_or_not : (text : List ℕ) → Decided (EndsInQuote text)
+end_or_not [] = inr none where
+  none : EndsInQuote [] → ⊥
+  none ([], is) = absurd (cc)
+  none (x ∷ xs, is) = absurd (cc)
+end_or_not (b ∷ []) = elim (cases_eq b 34) [
+  | inl quote ↦ inl ([], ap (λ x. x ∷ []) quote)
+  | inr other ↦ inr (no_end b other)
+]
+end_or_not (b ∷ c ∷ rest) = elim (end_or_not (c ∷ rest)) [
+  | inl found ↦ inl (b ∷ found.0, ap (λ xs. b ∷ xs) found.1)
+  | inr none ↦ inr (λ h. none (end_behind b c rest h))
+]
+
+string_byte_or_not : (b : ℕ) → Decided (IsStringByte b)
+string_byte_or_not b = elim (cases_eq b 34) [
+  | inl quote ↦ inr (λ h. h.0 quote)
+  | inr no_quote ↦ elim (cases_eq b 13) [
+    | inl return ↦ inr (λ h. h.1 return)
+    | inr no_return ↦ elim (cases_eq b 10) [
+      | inl feed ↦ inr (λ h. h.2 feed)
+      | inr no_feed ↦ inl (no_quote, no_return, no_feed)
+    ]
+  ]
+]
+
+string_bytes_or_not : (bytes : List ℕ) → Decided (AreStringBytes bytes)
+string_bytes_or_not [] = inl tt
+string_bytes_or_not (b ∷ bs) = elim (string_byte_or_not b) [
+  | inr other ↦ inr (λ h. other h.0)
+  | inl plain ↦ elim (string_bytes_or_not bs) [ inl more ↦ inl (plain, more) | inr none ↦ inr (λ h. none h.1) ]
+]
+
+abbrev StringOf : List ℕ → Type 0
+StringOf item = (bytes : List ℕ) × IsString item bytes
+
+string_or_not : (item : List ℕ) → Decided (StringOf item)
+string_or_not [] = inr (λ s. let e = s.1.item_is in absurd (cc))
+string_or_not (b ∷ rest) = elim (cases_eq b 34) [
+  | inr other ↦ inr (λ s. let e = s.1.item_is in other (let same : b ≡ 34 = cc in same))
+  | inl quote ↦ elim (end_or_not rest) [
+    | inr none ↦ inr (λ s. let e = s.1.item_is in none (s.0, let same : rest ≡ s.0 ++ 34 ∷ [] = cc in same))
+    | inl found ↦
+        let whole : b ∷ rest ≡ quoted found.0 = ap (λ x. x ∷ rest) quote ∙ ap (λ xs. 34 ∷ xs) found.1 in
+        elim (string_bytes_or_not found.0) [
+          | inl plain ↦ inl (found.0, record { item_is = whole; plain = plain })
+          | inr other ↦ inr (λ s. other (subst AreStringBytes (one_quoted s.0 found.0 (sym s.1.item_is ∙ whole)) s.1.plain))
+        ]
+  ]
+]
+
+-- a number from 0 to 1 is that of a truth value
+truth : (z : ℤ) → IsBetween 0 1 z → (b : Bool) × (z ≡ pos (number_of b))
+truth (pos zero) within = (false, refl)
+truth (pos (suc zero)) within = (true, refl)
+truth (pos (suc (suc n))) within = let high = within.1 in absurd (omega (arith, ints, high))
+truth (negsuc n) within = let low = within.0 in absurd (omega (arith, ints, low))
+
+boolean_of : (item : List ℕ) → ((z : ℤ) × NamesWhole item z × IsBetween 0 1 z) → (b : Bool) × NamesBoolean item b
+boolean_of item found = let t = truth found.0 found.2 in (t.0, subst (NamesWhole item) t.1 found.1)
+
+pub each_item : (k : Kind) (item : List ℕ) → IsReadOrFaulty k item
+each_item kind.Double item = elim (each_decimal item) [
+  | inl found ↦ inl (value.Double found.0, refl, found.1)
+  | inr (inl none) ↦ inr (fault.Spelling, inl (refl, none))
+  | inr (inr far) ↦ inr (fault.Range, inr (refl, far))
+]
+each_item kind.Long item = elim (whole_between 2147483648 2147483647 item) [
+  | inl found ↦ inl (value.Long found.0, refl, (found.1, found.2))
+  | inr (inl none) ↦ inr (fault.Spelling, inl (refl, none))
+  | inr (inr far) ↦ inr (fault.Range, inr (refl, far))
+]
+each_item kind.Short item = elim (whole_between 32768 32767 item) [
+  | inl found ↦ inl (value.Short found.0, refl, (found.1, found.2))
+  | inr (inl none) ↦ inr (fault.Spelling, inl (refl, none))
+  | inr (inr far) ↦ inr (fault.Range, inr (refl, far))
+]
+each_item kind.Bool item = elim (whole_between 0 1 item) [
+  | inl found ↦ let b = boolean_of item found in inl (value.Bool b.0, refl, b.1)
+  | inr (inl none) ↦ inr (fault.Spelling, inl (refl, none))
+  | inr (inr far) ↦ inr (fault.Range, inr (refl, far))
+]
+each_item kind.Byte item = elim (each_byte item) [
+  | inl found ↦ inl (value.Byte found.0, refl, found.1)
+  | inr none ↦ inr (fault.Spelling, inl (refl, λ n is. none (n, is)))
+]
+each_item kind.Text item = elim (string_or_not item) [
+  | inr none ↦ inr (fault.Spelling, inl (refl, λ bytes is. none (bytes, is)))
+  | inl s ↦ elim (cases_lt 64 (length s.0)) [
+    | inl long ↦ inr (fault.Range, inr (refl, (s.0, s.1, long)))
+    | inr few ↦ inl (value.Text s.0, refl, record { string = s.1; few = few })
+  ]
+]
+
+-- items as many as kinds
+items_read : (ks : List Kind) (items : List (List ℕ)) → length items ≡ length ks
+    → ((vs : List Value) × (kinds_of vs ≡ ks) × AreItems items vs) ⊎ ((e : ValueFault) × FirstFault ks items e)
+items_read [] [] same = inl ([], refl, tt)
+items_read [] (item ∷ items) same = absurd (omega (arith, same))
+items_read (k ∷ ks) [] same = absurd (omega (arith, same))
+items_read (k ∷ ks) (item ∷ items) same = elim (each_item k item) [
+  | inr faulty ↦ inr (faulty.0, inl faulty.1)
+  | inl read ↦ elim (items_read ks items (omega (arith, same))) [
+    | inl more ↦ inl (read.0 ∷ more.0, cc (read.1, more.1), (read.2, more.2))
+    | inr faulty ↦ inr (faulty.0, inr (read.0, read.1, read.2, faulty.1))
+  ]
+]
+
+params_read : (ks : List Kind) (params : List ℕ) (items : List (List ℕ)) → IsParams params items → IsListRead ks params
+params_read ks params items split = elim (cases_lt 16 (length items)) [
+  | inl many ↦ inr (fault.TooMany, faulty_items items split (too_many refl many))
+  | inr few ↦ elim (cases_eq (length items) (length ks)) [
+    | inr other ↦ inr (fault.Count, faulty_items items split (wrong_count refl few other))
+    | inl same ↦ elim (items_read ks items same) [
+      | inl read ↦ inl (read.0, read.1, record { items = items; split = split; read = read.2 })
+      | inr faulty ↦ inr (faulty.0, faulty_items items split (faulty_item few same faulty.1))
+    ]
+  ]
+]
+
+spaces_or_not : (bytes : List ℕ) → Decided (AreSpaces bytes)
+spaces_or_not [] = inl (0, refl)
+spaces_or_not (b ∷ bs) = elim (cases_eq b 32) [
+  | inr other ↦ inr (first b bs other)
+  | inl space ↦ elim (spaces_or_not bs) [
+    | inl more ↦ inl (suc more.0, cc (space, more.1))
+    | inr none ↦ inr (rest b bs none)
+  ]
+] where
+  first : (b : ℕ) (bs : List ℕ) → b ≢ 32 → AreSpaces (b ∷ bs) → ⊥
+  first b bs other (zero, is) = absurd (cc)
+  first b bs other (suc n, is) = other (let same : b ≡ 32 = cc in same)
+
+  rest : (b : ℕ) (bs : List ℕ) → (AreSpaces bs → ⊥) → AreSpaces (b ∷ bs) → ⊥
+  rest b bs none (zero, is) = absurd (cc)
+  rest b bs none (suc n, is) = none (n, let same : bs ≡ replicate n 32 = cc in same)
+
+pub each_list : (ks : List Kind) (params : List ℕ) → IsListRead ks params
+each_list ks params = elim (cases_eq (quotes params % 2) 0) [
+  | inr odd ↦ inr (fault.OpenQuote, open_quote refl (odd_or (quotes params) odd))
+  | inl even ↦ elim (spaces_or_not params) [
+    | inl spaces ↦ params_read ks params [] spaces
+    | inr some ↦
+        let h = has_pieces params even in
+        params_read ks params (h.item ∷ h.items) (record { pieces = h.first ∷ h.others; bytes_are = h.text_is; pieces_are = h.are; some = some })
+  ]
+]

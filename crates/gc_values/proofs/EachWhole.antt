@@ -1,0 +1,86 @@
+-- Each text is cut at its sign and its digits, and writes a whole number or none.
+use Rattle.std.proofs.Common.{◌≡◌, ℕ, suc, ◌<◌, ◌≤◌, Bool, true, false, List, [], ◌∷◌, ◌++◌, length, ℤ, pos, negsuc, refl, sym, ap, ◌∙◌, subst, ◌⊎◌, inl, inr, arith}
+use Rattle.std.proofs.lemmas.Bool.{cases_lt, cases_eq}
+use Rattle.std.proofs.lemmas.Int.{ints}
+use Rattle.gc_values.specs.Cut.{StartsNoDigit, CutsSign, CutsDigits}
+use Rattle.gc_values.specs.Digits.{IsDigit, AreDigits, number}
+use Rattle.gc_values.specs.Fraction.{signed}
+use Rattle.gc_values.specs.Spelling.{Absent, Plus, Minus}
+use Rattle.gc_values.specs.Whole.{NamesNumber, NamesWhole, NamesNoWhole, NamesWholeBeyond, IsBetween}
+use Rattle.gc_values.proofs.WholeLemmas.{cut_names, names_cut}
+
+-- it holds, or it doesn't
+abbrev pub Decided : Type 0 → Type 0
+Decided P = P ⊎ (P → ⊥)
+
+pub digit_or_not : (b : ℕ) → Decided (IsDigit b)
+digit_or_not b = elim (cases_lt b 48) [
+  | inl below ↦ inr (λ d. let low = d.0 in omega (arith, below, low))
+  | inr above ↦ elim (cases_lt 57 b) [
+    | inl far ↦ inr (λ d. let high = d.1 in omega (arith, far, high))
+    | inr near ↦ inl (above, near)
+  ]
+]
+
+pub digits_or_not : (text : List ℕ) → Decided (AreDigits text)
+digits_or_not [] = inl tt
+digits_or_not (b ∷ bs) = elim (digit_or_not b) [
+  | inr other ↦ inr (λ d. other d.0)
+  | inl digit ↦ elim (digits_or_not bs) [ inl more ↦ inl (digit, more) | inr none ↦ inr (λ d. none d.1) ]
+]
+
+-- the longest run of digits
+pub digits_cut : (text : List ℕ) → (run : List ℕ) × (rest : List ℕ) × CutsDigits text run rest
+digits_cut [] = ([], [], record { text_is = refl; digits = tt; longest = tt })
+digits_cut (b ∷ bs) = elim (digit_or_not b) [
+  | inr other ↦ ([], b ∷ bs, record { text_is = refl; digits = tt; longest = other })
+  | inl digit ↦
+      let more = digits_cut bs in
+      (b ∷ more.0, more.1, record { text_is = ap (λ xs. b ∷ xs) more.2.text_is; digits = (digit, more.2.digits); longest = more.2.longest })
+]
+
+-- a sign, where one stands first
+pub sign_cut : (text : List ℕ) → (negative : Bool) × (rest : List ℕ) × CutsSign text negative rest
+sign_cut [] = (false, [], record { sign = Absent; text_is = refl; negative_is = refl; first = λ _. tt })
+sign_cut (b ∷ bs) = elim (cases_eq b 43) [
+  | inl plus ↦ (false, bs, record { sign = Plus; text_is = ap (λ x. x ∷ bs) plus; negative_is = refl; first = λ e. absurd (cc) })
+  | inr no_plus ↦ elim (cases_eq b 45) [
+    | inl minus ↦ (true, bs, record { sign = Minus; text_is = ap (λ x. x ∷ bs) minus; negative_is = refl; first = λ e. absurd (cc) })
+    | inr no_minus ↦ (false, b ∷ bs, record { sign = Absent; text_is = refl; negative_is = refl; first = λ _. (no_plus, no_minus) })
+  ]
+]
+
+number_or_not : (text : List ℕ) → ((n : ℕ) × NamesNumber text n) ⊎ ((n : ℕ) → NamesNumber text n → ⊥)
+number_or_not [] = inr (λ n h. let some = h.some in absurd (omega (arith, some)))
+number_or_not (b ∷ bs) = elim (digits_or_not (b ∷ bs)) [
+  | inl digits ↦ inl (number (b ∷ bs), record { digits = digits; some = omega arith; value = refl })
+  | inr other ↦ inr (λ n h. other h.digits)
+]
+
+pub whole_or_not : (text : List ℕ) → ((z : ℤ) × NamesWhole text z) ⊎ NamesNoWhole text
+whole_or_not text =
+    let cut = sign_cut text in
+    elim (number_or_not cut.1) [
+      | inl found ↦ inl (signed cut.0 found.0, cut_names text cut.1 cut.0 found.0 cut.2 found.1)
+      | inr none ↦ inr (λ z w. let r = names_cut text cut.1 cut.0 z cut.2 w in none r.0 r.1)
+    ]
+
+between_or_not : (below above : ℕ) (z : ℤ) → Decided (IsBetween below above z)
+between_or_not below above (pos n) = elim (cases_lt above n) [
+  | inl far ↦ inr (λ b. let h = b.1 in omega (arith, ints, far, h))
+  | inr near ↦ inl (omega (arith, ints), omega (arith, ints, near))
+]
+between_or_not below above (negsuc n) = elim (cases_lt below (suc n)) [
+  | inl far ↦ inr (λ b. let h = b.0 in omega (arith, ints, far, h))
+  | inr near ↦ inl (omega (arith, ints, near), omega (arith, ints))
+]
+
+-- a whole number between the two, or none, or another one
+pub whole_between : (below above : ℕ) (text : List ℕ) → ((z : ℤ) × NamesWhole text z × IsBetween below above z) ⊎ (NamesNoWhole text ⊎ NamesWholeBeyond below above text)
+whole_between below above text = elim (whole_or_not text) [
+  | inr none ↦ inr (inl none)
+  | inl found ↦ elim (between_or_not below above found.0) [
+    | inl within ↦ inl (found.0, found.1, within)
+    | inr far ↦ inr (inr (found.0, found.1, far))
+  ]
+]
