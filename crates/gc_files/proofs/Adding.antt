@@ -1,11 +1,12 @@
 -- How calls of a file add up.
-use Rattle.std.proofs.Common.{◌≡◌, inl, inr, ℕ, ◌≤◌, ◌<◌, ◌==◌, true, false, List, [], ◌∷◌, ◌++◌, length, take, refl, sym, ◌∙◌, ap, subst, arith, append_assoc, if◌then◌else◌, Option, Some, None}
+use Rattle.std.proofs.Common.{◌≡◌, inl, inr, ℕ, ◌≤◌, ◌<◌, ◌==◌, true, false, List, [], ◌∷◌, ◌++◌, length, take, refl, sym, ◌∙◌, ap, subst, arith, append_assoc, Bool, if◌then◌else◌, Option, Some, None}
 use Rattle.std.proofs.lemmas.Bool.{cases_Bool, eqb-true, eq-eqb}
 use Rattle.std.proofs.lemmas.List.{append-nil}
 use Rattle.std.specs.Io.KnownBytes.{Appends, Keeps}
 use Rattle.gc_files.specs.Sinks.{known_content}
 use Rattle.gc_files.proofs.Moments.{behind_two}
-use Rattle.gc_files.specs.Files.{Step, Append, Cut, Sync, Life, content, later_by, Adds}
+use Rattle.gc_files.specs.Files.{Step, Append, Cut, Sync, Life, has_sync, content, later_by, Adds}
+use Rattle.gc_files.specs.Runs.{synced}
 use Rattle.gc_files.specs.Rows.{whole, is_none, mended, cuts_none, appended, Ran, IsFront, Opens, OpensInPart, PutsAll}
 
 pub later_two : (xs ys : List Step) (life : Life) → later_by ys (later_by xs life) ≡ later_by (xs ++ ys) life
@@ -121,3 +122,23 @@ pub content_same : (old new : Option Life) → Adds old new (Sync ∷ []) → Ke
 content_same None new adds = tt
 content_same (Some life) new adds =
     subst (λ (now : Option Life). Keeps (Some (content life)) (known_content now)) (sym (adds life refl)) (behind_two life.start life.steps (Sync ∷ []))
+
+-- one more append, and one more sync
+pub appended_more : (steps : List Step) (bytes : List ℕ) → appended (steps ++ Append bytes ∷ []) ≡ appended steps ++ bytes
+appended_more steps bytes = appended_two steps (Append bytes ∷ []) ∙ ap (λ (xs : List ℕ). appended steps ++ xs) (append-nil bytes)
+
+pub appended_sync : (steps : List Step) → appended (steps ++ Sync ∷ []) ≡ appended steps
+appended_sync steps = appended_two steps (Sync ∷ []) ∙ append-nil (appended steps)
+
+-- all that was appended stands before a sync behind it
+has_last : (steps : List Step) → has_sync (steps ++ Sync ∷ []) ≡ true
+has_last [] = refl
+has_last (Append bytes ∷ steps) = has_last steps
+has_last (Cut size ∷ steps) = has_last steps
+has_last (Sync ∷ steps) = refl
+
+pub synced_all : (steps : List Step) → synced (steps ++ Sync ∷ []) ≡ appended steps
+synced_all [] = refl
+synced_all (Append bytes ∷ steps) = ap (λ (b : Bool). if b then bytes ++ synced (steps ++ Sync ∷ []) else []) (has_last steps) ∙ ap (λ (xs : List ℕ). bytes ++ xs) (synced_all steps)
+synced_all (Cut size ∷ steps) = synced_all steps
+synced_all (Sync ∷ steps) = synced_all steps

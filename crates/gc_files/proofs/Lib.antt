@@ -5,3 +5,4 @@ pub mod Adding
 pub mod Looking
 pub mod Remembering
 pub mod Killing
+mod Walks

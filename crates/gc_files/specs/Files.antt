@@ -36,7 +36,8 @@ has_sync (Sync ∷ steps) = true
 has_sync (Append bytes ∷ steps) = has_sync steps
 has_sync (Cut size ∷ steps) = has_sync steps
 
--- what a crash may leave behind these steps: what the file holds now, or what it held in the course of a step with no sync behind it
+-- what a crash may leave behind these steps: what the file holds now, or what it held in the course of a step with no sync behind it.
+-- Outside of this is a crash that leaves bytes without those before them, since the system wrote pages back in another order
 abbrev pub MayLeave : List ℕ → List Step → List ℕ → Type 0
 MayLeave held [] left = left ≡ held
 MayLeave held (step ∷ steps) left = ((has_sync (step ∷ steps) ≡ false) × InPart held step left) ⊎ MayLeave (stepped held step) steps left
@@ -57,7 +58,8 @@ later_by steps life = record { start = life.start; steps = life.steps ++ steps }
 abbrev pub Adds : Option Life → Option Life → List Step → Type 0
 Adds old new steps = (life : Life) → old ≡ Some life → new ≡ Some (later_by steps life)
 
--- a call made this step, and none where it failed
+-- a call made this step, and none where it failed. Outside of this are an append that failed and wrote a part all the same, and a cut that
+-- failed and was made, or made in part
 abbrev pub Makes : {X E : Type 0} → Option Life → Option Life → Result X E → (X → Step) → Type 0
 Makes old new (Ok x) step = Adds old new (step x ∷ [])
 Makes old new (Err _) step = new ≡ old

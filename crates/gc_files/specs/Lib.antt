@@ -3,3 +3,5 @@ pub mod Calls
 pub mod Rows
 pub mod Runs
 pub mod Sinks
+pub mod Coding
+pub mod Noted

@@ -2,7 +2,8 @@
 use Rattle.std.specs.Prelude.{◌≡◌, ◌⊎◌, ℕ, List, [], ◌∷◌, Bool, true, not, if◌then◌else◌, Option, Some, None}
 use Rattle.gc_files.specs.declared.appending.Appending.{Ghosts}
 use Rattle.gc_files.specs.declared.rows_file.RowsFile.{RowsFile}
-use Rattle.gc_files.specs.Files.{Life, Sync, content, Adds}
+use Rattle.gc_files.specs.Files.{Step, Life, Sync, content, Adds}
+use Rattle.gc_files.specs.Rows.{appended}
 
 -- what a read returns, where it is known
 abbrev pub known_content : Option Life → Option (List ℕ)
@@ -16,6 +17,14 @@ KeepsAll old new = (new ≡ old) ⊎ Adds old new (Sync ∷ [])
 -- the life of the file behind a sink
 abbrev pub life_in : {F : Type 0} {D : Ghosts F} → RowsFile F D → Option Life
 life_in {F} {D} sink = D.life sink.file
+
+-- what was done to it since it was opened
+abbrev pub steps_in : {F : Type 0} {D : Ghosts F} → RowsFile F D → List Step
+steps_in sink = sink.past.steps
+
+-- what was appended to it since it was opened
+abbrev pub taken_in : {F : Type 0} {D : Ghosts F} → RowsFile F D → List ℕ
+taken_in sink = appended (steps_in sink)
 
 -- whether the sink has failed
 abbrev pub has_failed : {F : Type 0} {D : Ghosts F} → RowsFile F D → Bool

@@ -6,7 +6,7 @@
 //! - [`open_rows`] touches only a file that begins with the sign, or is a front of it. It cuts off a torn last row, and counts
 //!   its bytes. It writes the head where no whole row stands, and nowhere else. The sink says with which head and sign it was
 //!   opened, also where the file is one of the system.
-//! - What `write` acknowledged is in the file, in order. After [`RowsFile::keep`] a crash leaves it, where the file was opened
+//! - What `write` acknowledged is in the file, in order. A sink over a file of the system tells it, too ([`RowsFile::past`]). After [`RowsFile::keep`] a crash leaves it, where the file was opened
 //!   with `sync`.
 //! - Over any runs and crashes ([`laws::tables_last`]) the next opening makes of the file the table that was there before and,
 //!   for each run in order, the first rows of its own: at least those that were kept, each once, none in part. Without
@@ -20,8 +20,10 @@
 //! - A call that fails has changed nothing. A crash leaves a front of what was appended since the last sync. A sync is kept.
 //! - What the file held before the first run is on the disk.
 //!
-//! Two things are outside of that. Behind a sync that failed the system may count bytes as written that aren't. A cut whose
-//! sync failed may be taken back by a later crash. No clause says when a file can be opened, which path is refused,
+//! Outside of that are: a sync that failed, behind which the system may count bytes as written that aren't; a cut whose sync
+//! failed, which a later crash may take back; an append that failed and wrote a part, and a cut that failed and was made; and a
+//! crash that leaves bytes without those before them, since the system wrote pages back in another order. A sink appends nothing
+//! behind a failed call, and the next opening cuts off half a row. No clause says when a file can be opened, which path is refused,
 //! and whether a path leads to a file.
 #![tactic(auto)]
 
@@ -29,11 +31,13 @@ mod appending;
 pub mod laws;
 mod memory_file;
 mod opening;
+mod past;
 mod rows_file;
 mod system;
 
 pub use appending::Appending;
 pub use memory_file::{Call, MemoryFile};
 pub use opening::{Refused, open_rows};
+pub use past::{Done, Past};
 pub use rows_file::RowsFile;
 pub use system::{SystemFile, Unfit, open_at, open_file};

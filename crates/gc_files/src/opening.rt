@@ -3,7 +3,7 @@
 
 ghost use Rattle.std.specs.Prelude.{◌≡◌, ◌<◌, ◌≤◌, ◌+◌, ◌-◌, ◌^◌, ◌++◌, [], List, ℕ, length, take, drop, true, false, Some, IfOk, IfErr, OnOk, OnErr, IsErrOf, IsTrue, IsFalse};
 ghost use Rattle.gc_files.specs.declared.opening.Refused.TheVariants.{Foreign};
-ghost use Rattle.gc_files.specs.Sinks.{life_in, has_failed, torn_in, IsOpenedAs};
+ghost use Rattle.gc_files.specs.Sinks.{life_in, has_failed, torn_in, steps_in, IsOpenedAs};
 ghost use Rattle.gc_files.specs.Files.{Life, Step, content, Adds};
 ghost use Rattle.gc_files.specs.Rows.{whole, fits, start_of, mended, table, Mending, Opens, OpensInPart, PutsAll, IsFront};
 
@@ -219,6 +219,7 @@ pub fn open_rows<F: Appending>(
     ensures torn { IfOk result (λ rows. (known : Life) → F.life file ≡ Some known → length (content known) ≡ length (whole (content known)) + torn_in rows) }
     ensures sound { IfOk result (λ rows. has_failed rows ≡ false) }
     ensures asked { IfOk result (λ rows. IsOpenedAs head.now sign.now sync rows) }
+    ensures fresh { IfOk result (λ rows. steps_in rows ≡ []) }
 
     // What hasn't the sign is refused, and only that; it was not touched.
     ensures foreign { IfErr result (λ why. why.0 ≡ Foreign → F.life why.1 ≡ F.life file) }

@@ -1,15 +1,19 @@
 //! A sink whose bytes stay in a file: a row is appended as it ends, and synced where that is asked for.
 
-ghost use Rattle.std.specs.Prelude.{◌≡◌, ◌<◌, true, false, take, length, Some, OnOk, IsTrue};
-ghost use Rattle.gc_files.specs.Files.{Life, Append, IsKept, Makes};
+ghost use Rattle.std.specs.Prelude.{◌≡◌, ◌<◌, ◌⊎◌, ◌++◌, ◌∷◌, [], true, false, take, length, Some, OnOk, IsTrue};
+ghost use Rattle.gc_files.specs.Files.{Life, Append, Sync, IsKept, Makes};
+ghost use Rattle.gc_files.specs.Noted.{Notes};
+ghost use Rattle.gc_files.specs.Rows.{cuts_none, appended, Puts};
+ghost use Rattle.gc_files.specs.Runs.{synced};
 ghost use Rattle.std.specs.Io.KnownBytes.{Keeps};
 ghost use Rattle.gc_lines.specs.Ports.{TakesBytes, Fails};
 
 use crate::appending::Appending;
+use crate::past::{Done, Past};
 use gc_lines::{Durable, PortFailed, Sink};
 
-/// A file that rows are appended to, as a sink. What the file holds counts as taken. After a failure it stays failed, so that
-/// no row stands behind half of another.
+/// A file that rows are appended to, as a sink. What was appended since it was opened counts as taken, of a file of the system, too.
+/// After a failure it stays failed, so that no row stands behind half of another.
 #[derive(Drop)]
 pub struct RowsFile<F: Appending> {
     file: F,
@@ -23,12 +27,18 @@ pub struct RowsFile<F: Appending> {
     // Whether something may not be on the disk.
     unkept: bool,
     broken: bool,
+    // What was done to the file since it was opened: in proofs alone.
+    past: Past,
+    // Since then it was appended to and synced, and no more.
+    ghost only_appends: { cuts_none past.steps ≡ true },
+    // Where `unkept` is false, all that was appended since then stands before a sync.
+    ghost kept: { unkept ≡ false → synced past.steps ≡ appended past.steps },
     // Where `unkept` is false, all that the file holds is on the disk.
     ghost durable: { unkept ≡ false → (known : Life) → F.life file ≡ Some known → IsKept known },
 }
 
 impl<F: Appending> RowsFile<F> {
-    ghost use Rattle.gc_files.specs.Sinks.{life_in, has_failed, torn_in, asks_sync, is_durable, head_in, sign_in, IsOpenedAs};
+    ghost use Rattle.gc_files.specs.Sinks.{life_in, has_failed, torn_in, asks_sync, is_durable, head_in, sign_in, steps_in, taken_in, IsOpenedAs};
 
     // A sink over a file that ends in a whole row, or has none. What it holds may not be on the disk yet.
     pub(crate) fn new(
@@ -42,6 +52,7 @@ impl<F: Appending> RowsFile<F> {
         ensures failed { has_failed result ≡ false }
         ensures torn { torn_in result ≡ torn }
         ensures asked { IsOpenedAs head.now sign.now sync result }
+        ensures fresh { steps_in result ≡ [] }
     {
         RowsFile {
             file,
@@ -51,6 +62,7 @@ impl<F: Appending> RowsFile<F> {
             torn,
             unkept: true,
             broken: false,
+            past: Past::new(),
         }
     }
 
@@ -82,6 +94,15 @@ impl<F: Appending> RowsFile<F> {
         self.torn
     }
 
+    /// What was done to the file since it was opened.
+    pub fn past(&self) -> &Past
+        ensures is { result.now.steps ≡ steps_in self.now }
+        ensures puts { Puts (steps_in self.now) (taken_in self.now) }
+        ensures is_durable { is_durable self.now ≡ true → asks_sync self.now ≡ true → synced (steps_in self.now) ≡ taken_in self.now }
+    {
+        &self.past
+    }
+
     /// The file behind it. Where the sink lasts and was opened with `sync`, a crash leaves all that was taken.
     pub fn file(&self) -> &F
         ensures is { F.life result.now ≡ life_in self.now }
@@ -92,18 +113,20 @@ impl<F: Appending> RowsFile<F> {
 }
 
 impl<F: Appending> Sink for RowsFile<F> {
-    ghost use Rattle.gc_files.specs.Sinks.{known_content, life_in, has_failed, asks_sync};
+    ghost use Rattle.gc_files.specs.Sinks.{known_content, life_in, has_failed, asks_sync, steps_in, taken_in};
 
-    ghost taken = { λ r. known_content (F.life r.file) };
+    ghost taken = { λ r. Some (taken_in r) };
 
     ghost failed = { λ r. r.broken };
 
     fn write(&mut self, bytes: &[u8]) -> Result<usize, PortFailed>
         requires { 0 < length bytes.now }
-        ensures bytes { TakesBytes (known_content (life_in self.old)) (known_content (life_in self.new)) result bytes.now }
+        ensures bytes { TakesBytes (Some (taken_in self.old)) (Some (taken_in self.new)) result bytes.now }
         ensures fails { Fails (has_failed self.old) (has_failed self.new) result }
-        // One piece is appended, and none where it failed.
+        // One piece is appended, and none where it failed; and that is noted.
+        ensures content { TakesBytes (known_content (life_in self.old)) (known_content (life_in self.new)) result bytes.now }
         ensures step { Makes (life_in self.old) (life_in self.new) result (λ n. Append (take n bytes.now)) }
+        ensures noted { Notes (steps_in self.old) (steps_in self.new) result (λ n. Append (take n bytes.now)) }
         ensures sync { asks_sync self.new ≡ asks_sync self.old }
     {
         if self.broken {
@@ -111,7 +134,10 @@ impl<F: Appending> Sink for RowsFile<F> {
         }
         self.unkept = true;
         match self.file.append(bytes) {
-            Ok(n) => Ok(n),
+            Ok(n) => {
+                self.past = self.past.then(&Done::Append(&bytes[..n]));
+                Ok(n)
+            }
             Err(why) => {
                 self.broken = true;
                 Err(why)
@@ -125,7 +151,7 @@ impl<F: Appending> Sink for RowsFile<F> {
 }
 
 impl<F: Appending> Durable for RowsFile<F> {
-    ghost use Rattle.gc_files.specs.Sinks.{KeepsAll, known_content, life_in, has_failed, asks_sync, is_durable};
+    ghost use Rattle.gc_files.specs.Sinks.{KeepsAll, known_content, life_in, has_failed, asks_sync, is_durable, steps_in, taken_in};
 
     ghost is_durable = { λ r. is_durable r };
 
@@ -135,8 +161,11 @@ impl<F: Appending> Durable for RowsFile<F> {
     /// It fails where the file failed in this call or has failed before.
     fn sync(&mut self) -> Result<(), PortFailed>
         ensures is_durable { OnOk result (is_durable self.new ≡ true) }
-        ensures same { Keeps (known_content (life_in self.old)) (known_content (life_in self.new)) }
+        ensures same { Keeps (Some (taken_in self.old)) (Some (taken_in self.new)) }
         ensures fails { Fails (has_failed self.old) (has_failed self.new) result }
+        ensures content { Keeps (known_content (life_in self.old)) (known_content (life_in self.new)) }
+        ensures noted { (steps_in self.new ≡ steps_in self.old) ⊎ (steps_in self.new ≡ steps_in self.old ++ Sync ∷ []) }
+        ensures lasts { OnOk result (asks_sync self.new ≡ true → synced (steps_in self.new) ≡ taken_in self.new) }
         ensures kept { OnOk result (asks_sync self.new ≡ true → (known : Life) → life_in self.new ≡ Some known → IsKept known) }
         ensures steps { KeepsAll (life_in self.old) (life_in self.new) }
         ensures idle { asks_sync self.old ≡ false → life_in self.new ≡ life_in self.old }
@@ -150,6 +179,7 @@ impl<F: Appending> Durable for RowsFile<F> {
         }
         match self.file.sync() {
             Ok(()) => {
+                self.past = self.past.then(&Done::Sync);
                 self.unkept = false;
                 Ok(())
             }

@@ -1,7 +1,7 @@
 //! The files of the system: opened so that nothing is lost by it, and held against other programs.
 
-ghost use Rattle.std.specs.Prelude.{◌≡◌, None, false, IfOk};
-ghost use Rattle.gc_files.specs.Sinks.{has_failed, IsOpenedAs};
+ghost use Rattle.std.specs.Prelude.{◌≡◌, [], None, false, IfOk};
+ghost use Rattle.gc_files.specs.Sinks.{has_failed, steps_in, IsOpenedAs};
 
 use crate::appending::Appending;
 use crate::opening::{Refused, open_rows};
@@ -157,6 +157,7 @@ pub fn open_at<R: Files<File = File>>(
 ) -> Result<RowsFile<SystemFile>, Unfit>
     ensures asked { IfOk result (λ rows. IsOpenedAs head.now sign.now sync rows) }
     ensures sound { IfOk result (λ rows. has_failed rows ≡ false) }
+    ensures fresh { IfOk result (λ rows. steps_in rows ≡ []) }
 {
     let file = open_file(rt, path)?;
     file.hold()?;

@@ -1,5 +1,18 @@
-use Rattle.gc_files.proofs.Adding.{content_same}
+use Rattle.std.proofs.Common.{ap, sym, ◌∙◌, refl}
+use Rattle.gc_files.specs.Rows.{cuts_none, appended}
+use Rattle.gc_files.specs.Runs.{synced}
+use Rattle.gc_files.proofs.Adding.{content_same, cuts_two, appended_sync, synced_all}
 use Rattle.gc_files.proofs.rows_file.RowsFileDurable.sync.Goals as goal
 
+pub invariant_of-self : goal.invariant_of-self
+invariant_of-self g c = record {
+  only_appends = ap cuts_none c.then-self.ensures ∙ cuts_two c.args.self.now.past.steps _ c.args.self.now.only_appends refl;
+  kept = λ _. ap synced c.then-self.ensures ∙ synced_all c.args.self.now.past.steps ∙ sym (ap appended c.then-self.ensures ∙ appended_sync c.args.self.now.past.steps);
+  durable = λ _. c.in-Ok.ensures.durable;
+}
+
 pub returns-in-Ok-clause-same : goal.returns-in-Ok-clause-same
-returns-in-Ok-clause-same g c = content_same _ _ c.in-Ok.ensures.step
+returns-in-Ok-clause-same g c = ap appended c.then-self.ensures ∙ appended_sync c.args.self.now.past.steps
+
+pub returns-in-Ok-clause-content : goal.returns-in-Ok-clause-content
+returns-in-Ok-clause-content g c = content_same _ _ c.in-Ok.ensures.step

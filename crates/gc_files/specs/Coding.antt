@@ -1,0 +1,24 @@
+-- How the logic stores the steps of a file.
+use Rattle.std.specs.Prelude.{◌≡◌, ℕ, List, [], cond, ◌==◌, refl}
+use Rattle.std.specs.Coded.{Coded, code_by, coded×, coded_ℕ, coded_list}
+use Rattle.gc_files.specs.Files.{Step, Append, Cut, Sync}
+
+-- which step, its bytes, and how many
+abbrev Parts : Type 0
+Parts = ℕ × (List ℕ × ℕ)
+
+abbrev to_parts : Step → Parts
+to_parts (Append bytes) = (0, (bytes, 0))
+to_parts (Cut size) = (1, ([], size))
+to_parts Sync = (2, ([], 0))
+
+abbrev from_parts : Parts → Step
+from_parts p = cond (p.0 == 0) (Append p.1.0) (cond (p.0 == 1) (Cut p.1.1) Sync)
+
+pub from_parts-to_parts : (step : Step) → from_parts (to_parts step) ≡ step
+from_parts-to_parts (Append bytes) = refl
+from_parts-to_parts (Cut size) = refl
+from_parts-to_parts Sync = refl
+
+abbrev pub steps_code : Coded (List Step)
+steps_code = coded_list (code_by Parts (coded× coded_ℕ (coded× (coded_list coded_ℕ) coded_ℕ)) to_parts from_parts from_parts-to_parts)

@@ -1,0 +1,16 @@
+-- The steps that were done.
+use Rattle.std.specs.Prelude.{◌≡◌, List, [], ◌∷◌, ◌++◌, Result, Ok, Err}
+use Rattle.gc_files.specs.Files as step
+use Rattle.gc_files.specs.Files.{Step}
+use Rattle.gc_files.specs.declared.past.Done.{Done}
+use Rattle.gc_files.specs.declared.past.Done.TheVariants.{Append, Sync, All}
+
+abbrev pub steps_done : Done → List Step
+steps_done (Append bytes) = step.Append bytes.now ∷ []
+steps_done Sync = step.Sync ∷ []
+steps_done (All past) = past.now.steps
+
+-- a call that went well is noted as this step, and one that failed isn't noted
+abbrev pub Notes : {X E : Type 0} → List Step → List Step → Result X E → (X → Step) → Type 0
+Notes old new (Ok x) step = new ≡ old ++ step x ∷ []
+Notes old new (Err _) step = new ≡ old

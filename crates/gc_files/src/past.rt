@@ -1,0 +1,46 @@
+//! What was done to a file since it was opened. It stands in proofs alone: no code reads it, and it takes no memory.
+
+ghost use Rattle.std.specs.Prelude.{◌≡◌, [], ◌++◌, List};
+ghost use base.Fml.{ftrue};
+ghost use Rattle.gc_files.specs.Files.{Step};
+ghost use Rattle.gc_files.specs.Coding.{steps_code};
+
+use std::marker::Model;
+
+/// The calls that changed a file, or synced it, in order.
+#[derive(Drop)]
+pub struct Past {
+    pub ghost steps: { List Step } by { steps_code },
+}
+
+impl Model for Past {
+    ghost also_owns = { λ _. ftrue };
+}
+
+/// A call of a file, or all calls of another past.
+#[derive(Clone, Copy, Drop)]
+pub enum Done<'a> {
+    /// These bytes were appended.
+    Append(&'a [u8]),
+    /// All that the file holds was synced.
+    Sync,
+    All(&'a Past),
+}
+
+impl Past {
+    ghost use Rattle.gc_files.specs.Noted.{steps_done};
+
+    /// No call yet.
+    pub fn new() -> Past
+        ensures { result.steps ≡ [] }
+    {
+        Past {}
+    }
+
+    /// The past with this behind it. Its calls are ghost, so there is nothing to copy.
+    pub fn then(&self, _done: &Done<'_>) -> Past
+        ensures { result.steps ≡ self.now.steps ++ steps_done _done.now }
+    {
+        Past {}
+    }
+}
