@@ -2,20 +2,16 @@
 
 ghost use Rattle.std.specs.Prelude.{◌≡◌, ◌≤◌, false, IfOk};
 ghost use Rattle.std.specs.Process.{exit_status};
-ghost use Rattle.gc_console.specs.Streams.{are_open, TellsClosed};
+ghost use Rattle.gc_messages.specs.Streams.{are_open, TellsClosed};
 
-use crate::ask::ask_place;
-use crate::logging::LogPlace;
-use crate::looped::loop_port;
-use crate::lossy::Lossy;
-use crate::noting::Noting;
-use crate::oddity::{Noticed, Spot};
-use crate::recording::{Recording, append_at};
-use crate::standard::Standard;
-use crate::station::{Site, Station, measure_at};
-use crate::streams::Streams;
 use gc_lines::{Durable, Source};
 use gc_links::Place;
+use gc_measuring::{append_at, measure_at};
+use gc_messages::{Lossy, Noticed, Noting, Spot, Standard, Streams};
+use gc_subcommands::Asking;
+use gc_subcommands::ask::ask_place;
+use gc_subcommands::looped::loop_port;
+use gc_words::{LogPlace, Recording, Site, Station};
 use std::alloc::Global;
 use std::cell::Cell;
 use std::fs::File;
@@ -24,24 +20,6 @@ use std::net::{Net, TcpListener, TcpStream};
 use std::process::ExitCode;
 use std::rt::Files;
 use std::time::Clock;
-
-/// What is to be asked over a connection: commands once, of a simulator or at a place, or a station's.
-#[derive(Drop)]
-pub(crate) enum Asking<'a> {
-    // Of the instrument in the file of a scene, where one is named.
-    Loop {
-        scene: Option<&'a str>,
-    },
-    Ask {
-        place: Place<'a>,
-    },
-    // With its records in a file, where one is named.
-    Station {
-        site: Site<'a>,
-        station: Station,
-        recording: Option<Recording<'a>>,
-    },
-}
 
 /// Asks, and tells how it ended; or tells that a standard stream is closed. The streams are handed back.
 pub(crate) fn run_asking<

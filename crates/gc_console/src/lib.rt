@@ -1,57 +1,17 @@
-//! The program `geocom`: its command line, and a station over its ports; the engines behind the other subcommands under one name.
+//! The program `geocom`: a command line over standard streams. What the crates below offer has its name here, too.
 #![tactic(auto)]
 
-mod arguments;
-mod ask;
 mod asking;
-mod bounded;
-mod check;
-mod choice;
-mod counts;
-mod drill;
-mod ending;
-mod exec;
-mod files;
-mod following;
-mod help;
-pub mod laws;
-mod layout;
-mod logging;
-mod looped;
-mod lossy;
-mod measure;
-mod noting;
-mod oddity;
 mod program;
-mod recording;
-mod scene;
-mod serve;
-mod signs;
-mod standard;
-mod station;
-mod stop;
-mod streams;
-mod task_text;
-mod telling;
-mod turns;
-mod version;
-mod wanted;
-mod words;
 
-pub use choice::{Choice, Watch};
-pub use files::{FilesSeen, LogSeen};
 pub use gc_ask::{ask_at, ask_tcp, loop_tcp, run_ask, run_loop, serve_tcp};
 pub use gc_engines::{read_schedule, run_check, run_drill, run_drill_width, run_exec};
 pub use gc_instrument::{ServeFault, Served};
 pub use gc_links::{Link, Place};
+pub use gc_measuring::{Stop, laws, run_station_text};
+pub use gc_messages::{FilesSeen, LogSeen, Noticed, Oddities, Spot, Standard, Streams};
 pub use gc_rows::Form;
 pub use gc_station::Tally;
 pub use gc_texts::{Command, RunFault, Trouble, read_commands};
-pub use layout::Layout;
-pub use measure::run_station_text;
-pub use oddity::{Noticed, Oddities, Spot};
+pub use gc_words::{Choice, Layout, Station, Watch};
 pub use program::run_program;
-pub use standard::Standard;
-pub use station::Station;
-pub use stop::Stop;
-pub use streams::Streams;

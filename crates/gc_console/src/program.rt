@@ -6,19 +6,16 @@ ghost use Rattle.std.specs.Process.{exit_status};
 ghost use Rattle.gc_texts.specs.declared.fault.RunFault.{RunFault};
 ghost use Rattle.gc_texts.specs.Faults.{run_fault_text, fault_line};
 
-use crate::asking::{Asking, run_asking};
-use crate::check::check;
-use crate::drill::{Drilling, drill_scene};
-use crate::ending::{refuse_numbers, refuse_place};
-use crate::exec::exec_scene;
-use crate::noting::Noting;
-use crate::serve::{Serving, serve_filled};
-use crate::standard::Standard;
-use crate::streams::Streams;
-use crate::words::{Asked, Subcommand, asked_of};
+use crate::asking::run_asking;
 use clap::Error;
 use clap::error::ErrorKind;
 use gc_lines::{FromReader, ReadAhead, ToWriter};
+use gc_messages::{Noting, Standard, Streams, refuse_numbers, refuse_place};
+use gc_subcommands::check::check;
+use gc_subcommands::drill::{Drilling, drill_scene};
+use gc_subcommands::exec::exec_scene;
+use gc_subcommands::serve::{Serving, serve_filled};
+use gc_subcommands::{Asked, Asking, Subcommand, asked_of};
 use gc_texts::RunFault;
 use std::alloc::Global;
 use std::env::Args;
@@ -49,10 +46,27 @@ pub fn run_program<
 ) -> io::Result<ExitCode>
     ensures { IfOk result (λ status. exit_status status ≤ 2) }
 {
-    let words = match all_words(alloc, words) {
-        Ok(words) => words,
-        Err(error) => return refuse_words(&error, &mut streams.messages),
-    };
+    match all_words(alloc, words) {
+        Ok(words) => run_words(rt, alloc, standard, words, streams),
+        Err(error) => refuse_words(&error, &mut streams.messages),
+    }
+}
+
+// Runs what these words ask for, or answers words that ask for no subcommand.
+fn run_words<
+    R: Net<Listener = TcpListener, Stream = TcpStream> + Clock + Files<File = File>,
+    I: Read + Drop,
+    O: Write + Drop,
+    E: Write + Drop,
+>(
+    rt: &R,
+    alloc: Global,
+    standard: Standard,
+    words: Vec<String>,
+    mut streams: Streams<I, O, E>,
+) -> io::Result<ExitCode>
+    ensures { IfOk result (λ status. exit_status status ≤ 2) }
+{
     match asked_of(alloc, words.as_slice()) {
         Ok(asked) => run_asked(rt, alloc, standard, asked, streams),
         Err(error) => {
@@ -81,7 +95,7 @@ fn run_asked<
         Asked::Exec { scene } => run_exec(rt, alloc, scene, streams),
         Asked::Check { log } => run_check(log, streams),
         Asked::Drill(drilling) => run_drill(rt, alloc, drilling, streams),
-        Asked::Serve(serving) => run_serve(rt, alloc, standard, serving, &mut streams.messages),
+        Asked::Serve(serving) => run_serve(rt, alloc, standard, serving, streams),
         Asked::Over(asking) => run_over(rt, alloc, standard, asking, streams),
         Asked::Nowhere { serves } => refuse_place(serves, &mut streams.messages),
         Asked::Unnumbered => refuse_numbers(&mut streams.messages),
@@ -146,19 +160,21 @@ fn run_drill<R: Files, I: Read + Drop, O: Write + Drop, E: Write + Drop>(
 // Serves a simulator.
 fn run_serve<
     R: Net<Listener = TcpListener, Stream = TcpStream> + Clock + Files<File = File>,
-    E: Write,
+    I: Drop,
+    O: Drop,
+    E: Write + Drop,
 >(
     rt: &R,
     alloc: Global,
     standard: Standard,
     serving: Serving<'_>,
-    messages: &mut E,
+    mut streams: Streams<I, O, E>,
 ) -> io::Result<ExitCode>
     ensures { IfOk result (λ status. exit_status status ≤ 2) }
 {
     let noting = Noting::new(rt);
-    let ended = serve_filled(&noting, alloc, standard, serving, messages);
-    noting.tell(standard, ended, messages)
+    let ended = serve_filled(&noting, alloc, standard, serving, &mut streams.messages);
+    noting.tell(standard, ended, &mut streams.messages)
 }
 
 // Asks over a connection.

@@ -1,6 +1,0 @@
-mod Measured
-mod Played
-mod Started
-mod Unbegun
-mod Unseen
-mod Wants

@@ -1,6 +1,0 @@
-use Rattle.std.proofs.Common.{◌≡◌, drop}
-use Rattle.gc_console.specs.Choices.{longest}
-use Rattle.gc_console.proofs.choice.longest.Given as goal
-
-abbrev pub invariant-loop-task : goal.invariant-loop-task
-invariant-loop-task l = longest l.longest (drop l.task-index l.tasks) ≡ longest l.deadline l.tasks

@@ -1,6 +1,0 @@
-use Rattle.std.proofs.lemmas.Result.{IfOk-weaker}
-use Rattle.gc_lines.proofs.Known.{Appends-append}
-use Rattle.gc_console.proofs.counts.write_counts.Goals as goal
-
-pub returns : goal.returns
-returns g c = IfOk-weaker c.write_others.result _ _ (λ _ told. Appends-append _ _ _ _ _ c.in_ok-write_ends.ensures told) c.write_others.ensures

@@ -1,8 +1,0 @@
-use Rattle.std.proofs.lemmas.Result.{IfOk-weaker}
-use Rattle.gc_console.proofs.exec.exec.Goals as goal
-
-pub returns-clause-told : goal.returns-clause-told
-returns-clause-told g c =
-    IfOk-weaker c.tell_end.result _ _
-    (λ status told. record { end = c.serve.result; after = c.serve.new.instrument; serves = c.serve.ensures; tells = told })
-    c.tell_end.ensures.told

@@ -1,5 +1,0 @@
-use Rattle.gc_console.proofs.Wants.{want_stays}
-use Rattle.gc_console.proofs.laws.a_want_counts_over_connections.Goals as goal
-
-pub returns : goal.returns
-returns c = want_stays

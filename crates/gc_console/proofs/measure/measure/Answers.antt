@@ -1,4 +1,0 @@
-use Rattle.gc_console.proofs.measure.measure.Goals as goal
-
-pub returns-clause-ran : goal.returns-clause-ran
-returns-clause-ran g c = rw (c.plan-plan.ensures, c.as_slice.ensures.value, c.as_slice-2.ensures.value) at c.run_station-end.ensures.ran

@@ -1,7 +1,0 @@
-use Rattle.std.proofs.Common.{◌≡◌}
-use Rattle.gc_console.proofs.oddity.Noticing.look.Given as goal
-
-abbrev pub invariant-loop-b : goal.invariant-loop-b
-invariant-loop-b g l = record {
-  same : l.self.link ≡ l.fn.self.link;
-}

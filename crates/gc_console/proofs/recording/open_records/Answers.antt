@@ -1,7 +1,0 @@
-use Rattle.gc_console.proofs.recording.open_records.Goals as goal
-
-pub returns-in-Ok-clause-asked : goal.returns-in-Ok-clause-asked
-returns-in-Ok-clause-asked g c = rw (c.head.ensures, c.sign.ensures, c.form_of_rows-form.ensures) at c.in-Ok.ensures.asked
-
-pub returns-in-Ok-clause-told : goal.returns-in-Ok-clause-told
-returns-in-Ok-clause-told g c = rw (c.torn.ensures) at c.tell_torn-told.ensures

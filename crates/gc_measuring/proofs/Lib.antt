@@ -1,0 +1,4 @@
+mod Measured
+mod Unbegun
+mod Unseen
+mod Wants

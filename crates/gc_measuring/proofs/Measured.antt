@@ -1,0 +1,20 @@
+-- Status 0 is told only of a run that is done.
+use Rattle.std.proofs.Common.{◌≡◌, ℕ, List, Option, Result, Ok, Err, inl, inr, arith}
+use Rattle.std.specs.Io.KnownBytes.{Consumes}
+use Rattle.gc_measuring.specs.Measuring.{Places, Measures, IsMeasured, TellsCounts}
+use Rattle.gc_words.specs.declared.station.Station.{Station}
+use Rattle.gc_measuring.specs.declared.stop.Stop.{Stop}
+use Rattle.gc_measuring.specs.declared.stop.Stop.TheVariants.{Run}
+use Rattle.gc_station.specs.declared.tally.Tally.{Tally}
+use Rattle.gc_texts.specs.declared.fault.RunFault.TheVariants.{Output}
+
+never : {A : Type 0} (x : A) (stop : Stop) → ◌≡◌ {A = Result A Stop} (Ok x) (Err stop) → ⊥
+never x stop is = cc
+
+pub done_at_0 : (given : List ℕ) (station : Station) (old new : Places) (end : Result Tally Stop) (status : ℕ) (told messages : Option (List ℕ))
+    → Consumes old.input.remaining new.input.remaining given → Measures given station 18446744073709551615 old new end → TellsCounts end status told messages → status ≡ 0
+    → IsMeasured station old new
+done_at_0 given station old new (Ok tally) status told messages takes (inl refused) tells zero = absurd (never tally refused.0 refused.1)
+done_at_0 given station old new (Ok tally) status told messages takes (inr (tasks, names, gives, inl front)) tells zero = absurd (never tally (Run Output) front.is)
+done_at_0 given station old new (Ok tally) status told messages takes (inr (tasks, names, gives, inr behind)) tells zero = (given, takes, (tasks, names, tally, gives, behind))
+done_at_0 given station old new (Err stop) status told messages takes measures tells zero = absurd (omega (arith, tells.0, zero))

@@ -1,0 +1,66 @@
+use Rattle.std.specs.Option.{is_some}
+use Rattle.std.proofs.Common.{inl, inr, refl, false, Err, sym, ap, ◌∙◌}
+use Rattle.std.proofs.lemmas.Result.{IfOk-weaker}
+use Rattle.gc_measuring.specs.declared.stop.Stop.TheVariants.{Run}
+use Rattle.gc_measuring.proofs.Unbegun.{none_is_lost, sink_is_as_it_was}
+use Rattle.gc_measuring.proofs.station.measure_at.Goals as goal
+
+pub returns-in-Err-clause-told : goal.returns-in-Err-clause-told
+returns-in-Err-clause-told g c =
+    IfOk-weaker c.tell_counts-ended.result _ _
+    (λ status told. record {
+      end = Err (Run c.in-Err.fault);
+      between = c.args.streams.messages;
+      behind = c.tell_counts-ended.new.messages;
+      is_lost = false;
+      logged = none_is_lost _;
+      ran = inr (c.in-Err.fault, refl, c.in-Err.ensures.fault, refl, refl, refl);
+      fails = sink_is_as_it_was _ _ _ c.in-Err.ensures.fault;
+      counts = told;
+      loss = refl;
+    })
+    c.tell_counts-ended.ensures.told
+
+pub returns-in-None-clause-told : goal.returns-in-None-clause-told
+returns-in-None-clause-told g c =
+    IfOk-weaker c.measure_over.result.1 _ _
+    (λ status t. record {
+      end = t.end;
+      between = t.between;
+      behind = c.measure_over.result.0.messages;
+      is_lost = false;
+      logged = none_is_lost _;
+      ran = inl (c.measure_over.new.link.link.history.acts, (c.in-Ok.ends.moment.utc, t.measured));
+      fails = t.fails;
+      counts = t.counts;
+      loss = refl;
+    })
+    (rw (c.new-link.ensures, c.new-told.ensures, c.begun-station.ensures) at c.measure_over.ensures.told)
+
+pub returns-in-None-clause-done : goal.returns-in-None-clause-done
+returns-in-None-clause-done g c =
+    IfOk-weaker c.measure_over.result.1 _ _
+    (λ status d zero. (c.measure_over.new.link.link.history.acts, c.in-Ok.ends.moment.utc, d zero))
+    (rw (c.new-link.ensures, c.new-told.ensures, c.begun-station.ensures) at c.measure_over.ensures.done)
+
+pub returns-in-Some-clause-told : goal.returns-in-Some-clause-told
+returns-in-Some-clause-told g c =
+    IfOk-weaker c.measure_logged.result.1 _ _
+    (λ status t. record {
+      end = t.1.end;
+      between = t.1.between;
+      behind = t.0;
+      is_lost = _;
+      logged = λ _. sym c.in-Ok.ensures.logged ∙ ap is_some c.in-Some.is;
+      ran = inl (c.measure_logged.new.logged.link.link.history.acts, (c.in-Ok.ends.moment.utc, t.1.measured));
+      fails = t.1.fails;
+      counts = t.1.counts;
+      loss = t.2;
+    })
+    (rw (c.new-logged.ensures, c.new-link.ensures, c.new-told.ensures, c.begun-station.ensures) at c.measure_logged.ensures.told)
+
+pub returns-in-Some-clause-done : goal.returns-in-Some-clause-done
+returns-in-Some-clause-done g c =
+    IfOk-weaker c.measure_logged.result.1 _ _
+    (λ status d zero. (c.measure_logged.new.logged.link.link.history.acts, c.in-Ok.ends.moment.utc, d zero))
+    (rw (c.new-logged.ensures, c.new-link.ensures, c.new-told.ensures, c.begun-station.ensures) at c.measure_logged.ensures.done)

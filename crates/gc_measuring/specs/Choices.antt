@@ -1,0 +1,22 @@
+-- What an operator chooses, and the plan that it makes with the tasks of a text: this project's own.
+use Rattle.std.specs.Prelude.{ℕ, List, [], ◌∷◌, max}
+use Rattle.gc_words.specs.declared.choice.Choice.{Choice}
+use Rattle.gc_station.specs.declared.plan.Plan.{Plan}
+use Rattle.gc_texts.specs.declared.tasks.Task.{Task}
+
+-- the longest deadline in use: the greatest of this one and those of the tasks
+abbrev pub longest : ℕ → List Task → ℕ
+longest deadline [] = deadline
+longest deadline (task ∷ later) = longest (max deadline task.deadline) later
+
+-- the plan of a choice, for these tasks
+abbrev pub plan_of : Choice → List Task → Plan
+plan_of choice tasks =
+    record {
+      width = choice.width;
+      deadline = longest choice.deadline tasks;
+      every = choice.every;
+      cycles = choice.cycles;
+      quiet = choice.quiet;
+      retries = choice.retries;
+    }

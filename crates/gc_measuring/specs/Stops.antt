@@ -1,0 +1,44 @@
+-- Why a station that measures the commands of a text stopped before its end, and what the program tells of it: this project's own.
+use Rattle.std.specs.Prelude.{◌≡◌, ℕ, List, ◌++◌, Option, Some, None, Result, Ok, Err, codes}
+use Rattle.gc_ask.specs.Places.{fault_of_reason}
+use Rattle.gc_measuring.specs.declared.stop.Stop.{Stop}
+use Rattle.gc_measuring.specs.declared.stop.Stop.TheVariants.{Text, Empty, Line, Run}
+use Rattle.gc_links.specs.declared.device.Unusable.{Unusable}
+use Rattle.gc_texts.specs.Faults.{run_fault_text, fault_line}
+use Rattle.gc_texts.specs.Troubles.{trouble_line}
+use Rattle.gc_texts.specs.declared.fault.RunFault.{RunFault}
+use Rattle.gc_texts.specs.declared.fault.RunFault.TheVariants.{NoCommand, Schedule, Clock}
+
+-- the fault of a stop
+abbrev pub fault_of_stop : Stop → RunFault
+fault_of_stop (Text fault) = fault
+fault_of_stop Empty = NoCommand
+fault_of_stop (Line n trouble) = Schedule n
+fault_of_stop (Run fault) = fault
+
+-- what is told of a stop: the fault's line, behind that of a text without a command that it has none, and behind that of a faulty line the
+-- line's trouble
+abbrev pub stop_text : Stop → List ℕ
+stop_text (Text fault) = fault_line (run_fault_text fault)
+stop_text Empty = fault_line (run_fault_text NoCommand) ++ codes "geocom: the text has no command\n"
+stop_text (Line n trouble) = fault_line (run_fault_text (Schedule n)) ++ trouble_line n trouble
+stop_text (Run fault) = fault_line (run_fault_text fault)
+
+-- the end of a run, as the end of measuring
+abbrev pub end_of_run : {X : Type 0} → Result X RunFault → Result X Stop
+end_of_run (Ok x) = Ok x
+end_of_run (Err fault) = Err (Run fault)
+
+-- the end of measuring, by its fault
+abbrev pub with_fault : {X : Type 0} → Result X Stop → Result X RunFault
+with_fault (Ok x) = Ok x
+with_fault (Err stop) = Err (fault_of_stop stop)
+
+-- the fault where there is no link: what is wrong with the device, or that the clock can't be read
+abbrev pub fault_without_link : Option Unusable → RunFault
+fault_without_link (Some unusable) = fault_of_reason (Some unusable)
+fault_without_link None = Clock
+
+-- this is the fault where there is no link, for some reason
+abbrev pub IsWithoutLink : RunFault → Type 0
+IsWithoutLink fault = (reason : Option Unusable) × (fault ≡ fault_without_link reason)

@@ -1,0 +1,46 @@
+-- A station's text that is read whole: this project's own.
+use Rattle.std.specs.Prelude.{◌≡◌, ℕ, ◌+◌, ◌<◌, ◌≤◌, ◌⊎◌, Bool, List, [], length}
+use Rattle.std.specs.Io.KnownBytes.{Consumes}
+use Rattle.gc_words.specs.declared.choice.Choice.{Choice}
+use Rattle.gc_measuring.specs.declared.stop.Stop.{Stop}
+use Rattle.gc_measuring.specs.declared.stop.Stop.TheVariants.{Text, Empty, Line}
+use Rattle.gc_texts.specs.LineForms.{line_at}
+use Rattle.gc_texts.specs.Tasks.{IsTasks, TaskFault}
+use Rattle.gc_texts.specs.Texts.{end_reads}
+use Rattle.gc_texts.specs.Troubles.{IsTrouble}
+use Rattle.gc_texts.specs.WholeTexts.{Input, WasRead, RefusesText}
+use Rattle.gc_texts.specs.declared.fault.RunFault.{RunFault}
+use Rattle.gc_texts.specs.declared.fault.RunFault.TheVariants.{Schedule}
+use Rattle.gc_texts.specs.declared.name.Name.{Name}
+use Rattle.gc_texts.specs.declared.tasks.Task.{Task}
+use Rattle.gc_texts.specs.declared.trouble.Trouble.{Trouble}
+
+-- a source gave these bytes, by at most one read for each, and one for the end
+abbrev pub Gave : List ℕ → Input → Input → Type 0
+Gave given old new = Consumes old.remaining new.remaining given × (new.reads ≤ old.reads + length given + end_reads new.ended)
+
+-- why a text that has this fault is refused: of a faulty line the trouble is told
+abbrev pub IsRefusal : List ℕ → RunFault → Stop → Type 0
+IsRefusal text (Schedule n) stop = (trouble : Trouble) × IsTrouble (line_at text n) trouble × (stop ≡ Line n trouble)
+IsRefusal text fault stop = stop ≡ Text fault
+
+-- the text that a source gave is a station's text without a command
+pub record HasNoCommand (given : List ℕ) (old new : Input) (stop : Stop) : Type 0 where
+  pub read : WasRead given old new
+  pub deadline : ℕ
+  pub chained : Bool
+  pub names : List Name
+  pub are : IsTasks given deadline chained [] names
+  pub is : stop ≡ Empty
+
+-- the text that a source gave is no station's text, or wasn't read, or it has no command
+abbrev pub RefusesTasks : List ℕ → Input → Input → Stop → Type 0
+RefusesTasks given old new stop =
+    ((fault : RunFault) × RefusesText TaskFault given old new fault × IsRefusal given fault stop) ⊎ HasNoCommand given old new stop
+
+-- a source gave a station's text with these tasks, at least one, and these names. Until a line says otherwise its commands have the
+-- choice's deadline, and are chained or not as the choice says
+pub record GivesTasks (given : List ℕ) (old new : Input) (choice : Choice) (tasks : List Task) (names : List Name) : Type 0 where
+  pub read : WasRead given old new
+  pub are : IsTasks given choice.deadline choice.chained tasks names
+  pub some : 0 < length tasks

@@ -1,0 +1,52 @@
+-- Since when a station wants an answer that doesn't come: this project's own.
+use Rattle.std.specs.Prelude.{◌≡◌, ℕ, ◌-◌, Bool, true, false, ◌&&◌, not, nat_lt, List, [], ◌∷◌, Option, None, Some, if◌then◌else◌}
+use Rattle.gc_links.specs.declared.link.Moment.{Moment}
+use Rattle.gc_station.specs.declared.book.LinkHealth.{LinkHealth}
+use Rattle.gc_station.specs.declared.book.LinkHealth.TheVariants.{Fine, Idle, Unconnected, Unquiet, Unheard}
+use Rattle.gc_measuring.specs.declared.wanted.Wanted.{Wanted}
+
+-- behind an answer no answer is wanted, and the cycle has one
+abbrev pub behind_answer : Wanted → Wanted
+behind_answer w = record { since = None; heard = true; told = false }
+
+-- the moment since which an answer is wanted, where one is wanted at this moment: an earlier one stays
+abbrev pub wanted_from : Option Moment → Moment → Option Moment
+wanted_from None moment = Some moment
+wanted_from (Some since) moment = Some since
+
+-- the want behind a cycle of which nothing is left to be asked: it is over if the cycle had an answer, and the message that
+-- no answer comes wasn't told
+abbrev pub behind_cycle : Wanted → Wanted
+behind_cycle w = record { since = if w.heard && not w.told then None else w.since; heard = false; told = w.told }
+
+-- behind a look at a station: without a connection, while the line is to be quiet, and while a request waits, an answer is wanted
+abbrev pub behind_look : LinkHealth → Moment → Wanted → Wanted
+behind_look Fine moment w = w
+behind_look Idle moment w = behind_cycle w
+behind_look Unconnected moment w = record w { since = wanted_from w.since moment }
+behind_look Unquiet moment w = record w { since = wanted_from w.since moment }
+behind_look Unheard moment w = record w { since = wanted_from w.since moment }
+
+-- whether at least this time lies between two moments of the clock for deadlines
+abbrev pub has_lasted : ℕ → ℕ → ℕ → Bool
+has_lasted from now least = not (nat_lt (now - from) least)
+
+-- the moment since which an answer is wanted, if that is at least this long ago
+abbrev pub lasting : ℕ → ℕ → Option Moment → Option Moment
+lasting now least None = None
+lasting now least (Some since) = if has_lasted since.elapsed now least then Some since else None
+
+-- a look at a station: how things stand, and the moment
+pub record Look : Type 0 where
+  pub health : LinkHealth
+  pub moment : Moment
+
+-- the want behind these looks, where no answer comes before any of them
+abbrev pub behind_looks : List Look → Wanted → Wanted
+behind_looks [] w = w
+behind_looks (look ∷ later) w = behind_looks later (behind_look look.health look.moment w)
+
+-- while no answer comes the moment since which one is wanted stays, whatever becomes of connections and cycles meanwhile
+abbrev pub WantCountsOverConnections : Type 0
+WantCountsOverConnections =
+    (looks : List Look) (since : Moment) (w : Wanted) → w.heard ≡ false → w.since ≡ Some since → (behind_looks looks w).since ≡ Some since

@@ -1,0 +1,68 @@
+//! How a station's end is told: the counts of a run that is done, or why it stopped.
+
+ghost use Rattle.std.specs.Prelude.{◌≤◌, IfOk, OnOk};
+ghost use Rattle.std.specs.Io.KnownBytes.{Appends};
+ghost use Rattle.std.specs.Process.{exit_status};
+ghost use Rattle.gc_measuring.specs.Measuring.{TellsCounts, ends_text, others_text, tally_line};
+
+use crate::stop::Stop;
+use gc_station::Tally;
+use std::io::{self, Write};
+use std::process::ExitCode;
+
+/// Tells how a run ended: the status, and the counts, or why it stopped.
+pub(crate) fn tell_counts<E: Write>(
+    end: Result<Tally, Stop>,
+    messages: &mut E,
+) -> io::Result<ExitCode>
+    ensures told { IfOk result (λ status. TellsCounts end (exit_status status) (E.contents messages.old) (E.contents messages.new)) }
+    ensures bound { IfOk result (λ status. exit_status status ≤ 1) }
+{
+    match end {
+        Ok(tally) => {
+            write_counts(tally, messages)?;
+            Ok(ExitCode::SUCCESS)
+        }
+        Err(stop) => {
+            stop.tell(messages)?;
+            Ok(ExitCode::from(1))
+        }
+    }
+}
+
+// The line of the counts.
+fn write_counts<E: Write>(tally: Tally, messages: &mut E) -> io::Result<()>
+    ensures { OnOk result (Appends (E.contents messages.old) (E.contents messages.new) (tally_line tally)) }
+{
+    write_ends(tally, messages)?;
+    write_others(tally, messages)
+}
+
+// How many were answered, late and lost.
+fn write_ends<E: Write>(tally: Tally, messages: &mut E) -> io::Result<()>
+    ensures { OnOk result (Appends (E.contents messages.old) (E.contents messages.new) (ends_text tally)) }
+{
+    let Tally {
+        answered,
+        late,
+        lost,
+        ..
+    } = tally;
+    write!(messages, "answered {answered} late {late} lost {lost} ")
+}
+
+// How many were skipped, unreadable and missed, to the end of the line.
+fn write_others<E: Write>(tally: Tally, messages: &mut E) -> io::Result<()>
+    ensures { OnOk result (Appends (E.contents messages.old) (E.contents messages.new) (others_text tally)) }
+{
+    let Tally {
+        skipped,
+        unreadable,
+        missed,
+        ..
+    } = tally;
+    writeln!(
+        messages,
+        "skipped {skipped} unreadable {unreadable} missed {missed}"
+    )
+}

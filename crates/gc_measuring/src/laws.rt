@@ -1,0 +1,8 @@
+//! What is proved of the definitions themselves. The functions have no effect: their contracts are the laws.
+
+ghost use Rattle.gc_measuring.specs.Wanted.{WantCountsOverConnections};
+
+/// While no answer comes, the moment since which one is wanted stays, whatever becomes of connections and cycles meanwhile.
+pub fn a_want_counts_over_connections()
+    ensures { WantCountsOverConnections }
+{}

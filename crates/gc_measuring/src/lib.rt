@@ -1,0 +1,20 @@
+//! A station over its ports: its text, its records and their file, its log, and what it tells of itself while it measures.
+#![tactic(auto)]
+
+mod counts;
+pub mod laws;
+mod logging;
+mod measure;
+mod plan;
+mod recording;
+mod signs;
+mod station;
+mod stop;
+mod task_text;
+mod telling;
+mod wanted;
+
+pub use measure::run_station_text;
+pub use recording::append_at;
+pub use station::measure_at;
+pub use stop::Stop;

@@ -1,0 +1,188 @@
+//! The log of a station: what was on its link, written into a file.
+
+ghost use Rattle.std.specs.Prelude.{◌≡◌, ◌≤◌, true, None, IfOk, IfErr};
+ghost use Rattle.std.specs.Option.{is_some};
+ghost use Rattle.std.specs.Process.{exit_status};
+ghost use Rattle.gc_texts.specs.declared.fault.RunFault.{RunFault};
+ghost use Rattle.gc_measuring.specs.Logging.{TellsLoss};
+ghost use Rattle.gc_measuring.specs.Telling.{TellsMeasuring, MeasuresAll};
+ghost use Rattle.gc_logs.specs.Bounds.{has_ended, sink_of};
+
+use crate::station::measure_over;
+use gc_files::{Appending, RowsFile, SystemFile, Unfit, open_file, open_rows};
+use gc_lines::{Durable, PortFailed, Sink, Source};
+use gc_links::Link;
+use gc_logs::{Bounded, Logged};
+use gc_messages::{FilesSeen, LogSeen, Noticed, Spot, Streams};
+use gc_texts::RunFault;
+use gc_words::{LogPlace, Station};
+use std::alloc::Global;
+use std::cell::Cell;
+use std::fs::File;
+use std::io::{self, Write};
+use std::process::ExitCode;
+use std::rt::Files;
+
+// How a line of a log begins: a moment, of which each 0 stands for a digit, and behind it one of these marks.
+const MOMENT: &[u8] = b"0000-00-00T00:00:00.000Z ";
+
+const MARKS: &[u8] = b"<>-";
+
+const FRONT: usize = 26;
+
+// Whether the first bytes of a file, at most as many as stand in front of a line's text, are those of a log. An empty file is one.
+fn begins_log(front: &[u8]) -> bool {
+    for (at, b) in front.iter().enumerate() {
+        let fits = match MOMENT.get(at) {
+            Some(b'0') => b.is_ascii_digit(),
+            Some(form) => b == form,
+            None => MARKS.contains(b),
+        };
+        if !fits {
+            return false;
+        }
+    }
+    true
+}
+
+// Opens the file of a log, and cuts off a torn last line. It is refused, and stays, where it is no regular file, begins as no log does, or
+// another program, or the records of this one, hold it. Where a file can't be held it is nobody's.
+fn open_log<R: Files<File = File>>(rt: &R, path: &str) -> Result<RowsFile<SystemFile>, Unfit> {
+    let file = open_file(rt, path)?;
+    if file.hold() == Err(Unfit::Held) {
+        return Err(Unfit::Held);
+    }
+    let mut front = [0u8; FRONT];
+    let Ok(count) = file.read_at(0, &mut front) else {
+        return Err(Unfit::Failed);
+    };
+    if !begins_log(&front[..count]) {
+        return Err(Unfit::Foreign);
+    }
+    match open_rows(file, b"", b"", false) {
+        Ok(rows) => Ok(rows),
+        Err((why, _)) => Err(why.into()),
+    }
+}
+
+/// The log that is asked for, opened, of which is noted how many bytes of a torn line were cut off. `Log` comes where it can't be had.
+pub(crate) fn log_at<'a, R: Files<File = File>>(
+    rt: &R,
+    noticed: &'a Cell<Noticed>,
+    log: Option<LogPlace<'_>>,
+) -> Result<Option<Noted<'a, RowsFile<SystemFile>>>, RunFault>
+    ensures logged { IfOk result (λ opened. is_some opened ≡ is_some log.entry) }
+    ensures fault { IfErr result (λ fault. (is_some log.entry ≡ true) × (fault ≡ RunFault.Log)) }
+{
+    let Some(log) = log else {
+        return Ok(None);
+    };
+    let Ok(rows) = open_log(rt, log.path) else {
+        return Err(RunFault::Log);
+    };
+    note_torn(noticed, rows.torn());
+    let room = room_in(rows.file(), log.most);
+    Ok(Some(Noted {
+        sink: Bounded::new(rows, room),
+        noticed,
+    }))
+}
+
+// How many more bytes a file may have.
+fn room_in<F: Appending>(file: &F, most: u64) -> u64 {
+    match file.len() {
+        Ok(len) => most.saturating_sub(len),
+        Err(_) => 0,
+    }
+}
+
+/// A log that notes down when it ends before its time.
+#[derive(Drop)]
+pub(crate) struct Noted<'a, K> {
+    sink: Bounded<K>,
+    noticed: &'a Cell<Noticed>,
+}
+
+impl<'a, K: Sink> Sink for Noted<'a, K> {
+    ghost taken = { λ _. None };
+
+    ghost failed = { λ n. has_ended n.sink };
+
+    fn write(&mut self, bytes: &[u8]) -> Result<usize, PortFailed> {
+        match self.sink.write(bytes) {
+            Ok(n) => Ok(n),
+            Err(failed) => {
+                let is_full = self.sink.is_full();
+                note_log(self.noticed, is_full);
+                Err(failed)
+            }
+        }
+    }
+
+    fn has_failed(&self) -> bool {
+        self.sink.has_failed()
+    }
+}
+
+// Notes that the log ended, at its bound or since it couldn't be written.
+fn note_log(noticed: &Cell<Noticed>, is_full: bool) {
+    let seen = noticed.get();
+    let log = if is_full {
+        LogSeen::Full
+    } else {
+        LogSeen::Lost
+    };
+    noticed.set(Noticed {
+        files: FilesSeen { log, ..seen.files },
+        ..seen
+    });
+}
+
+// Notes how many bytes of a torn line were cut off.
+fn note_torn(noticed: &Cell<Noticed>, torn: u64) {
+    let seen = noticed.get();
+    noticed.set(Noticed {
+        files: FilesSeen {
+            log_torn: torn,
+            ..seen.files
+        },
+        ..seen
+    });
+}
+
+/// Measures over a link with a log, and tells how it ended, and behind that whether the log was lost. The streams are handed back.
+pub(crate) fn measure_logged<L: Link, G: Sink, S: Source, K: Durable, E: Write>(
+    alloc: Global,
+    logged: &mut Logged<L, G>,
+    station: Station,
+    spot: Spot<'_>,
+    streams: Streams<S, K, E>,
+) -> (Streams<S, K, E>, io::Result<ExitCode>)
+    // As without a log; and the log was lost exactly where that is told.
+    ensures told { IfOk result.1 (λ status. (behind : E)
+        × TellsMeasuring S.Source K.Sink E.contents station (L.acts logged.old.link) (L.acts logged.new.link) streams (record result.0 { messages = behind }) (exit_status status)
+        × TellsLoss (G.failed (sink_of logged.new)) (E.contents behind) (E.contents result.0.messages)) }
+
+    // Status 0 only where the source gave a text to its end, and the run over its commands is done.
+    ensures done { IfOk result.1 (λ status. exit_status status ≡ 0 → MeasuresAll S.Source K.Sink E.contents station (L.acts logged.old.link) (L.acts logged.new.link) streams result.0) }
+    ensures bound { IfOk result.1 (λ status. exit_status status ≤ 1) }
+{
+    let (mut streams, ended) = measure_over(alloc, logged, station, spot, streams);
+    let ended = tell_loss(ended, logged.has_lost_its_log(), &mut streams.messages);
+    (streams, ended)
+}
+
+// Tells that a log was lost, where it was, behind how the run ended, whose status stays.
+fn tell_loss<E: Write>(
+    ended: io::Result<ExitCode>,
+    is_lost: bool,
+    messages: &mut E,
+) -> io::Result<ExitCode>
+    ensures told { IfOk result (λ status. (ended ≡ Ok status) × TellsLoss is_lost (E.contents messages.old) (E.contents messages.new)) }
+{
+    let status = ended?;
+    if is_lost {
+        writeln!(messages, "geocom: the log could not be written to its end")?;
+    }
+    Ok(status)
+}

@@ -1,0 +1,227 @@
+//! A station's text, read from a source, measured over a link, and its records written into a sink, all in one form.
+
+ghost use Rattle.std.specs.Prelude.{◌≡◌, ◌+◌, ◌≤◌, OnOk, IfErr};
+ghost use Rattle.std.specs.Io.KnownBytes.{Appends};
+ghost use Rattle.gc_measuring.specs.Measuring.{text_in, front_text, course_of, RunsCourse, MeasuresText, IsUntouched, AllLast};
+ghost use Rattle.gc_measuring.specs.Stops.{with_fault};
+ghost use Rattle.gc_measuring.specs.Telling.{places_of};
+ghost use Rattle.gc_lines.specs.Ports.{FailsWith, TakesFront};
+ghost use Rattle.gc_station.specs.Runs.{FailsAtOutput, LastsBut};
+ghost use Rattle.gc_texts.specs.declared.text.TheConstants.{TEXT_LIMIT};
+
+use crate::plan::plan_of;
+use crate::stop::Stop;
+use crate::task_text::read_task_text;
+use crate::telling::Teller;
+use gc_lines::{Durable, PortFailed, Source, write_whole};
+use gc_links::{Link, Moment};
+use gc_messages::{Noticed, Spot, Streams, tell_turns};
+use gc_rows::{When, write_head, write_record};
+use gc_station::{Book, LinkHealth, Tally, run_station};
+use gc_texts::{Command, Ending, RunFault, Stamp, Task, Tasks};
+use gc_words::{Layout, Station};
+use std::alloc::Global;
+use std::cell::Cell;
+use std::io::Write;
+
+/// Reads the whole text of the input, writes what stands in front of the records on the output, and measures the commands over a
+/// link as the station is told, in at most `max_turns` acts. The streams are handed back, with how the run ended.
+///
+/// Before the link is used or anything is written, `Text` comes with `Read` where the input failed, with `InputTooLong` where it
+/// gave more than 65,536 bytes, and with `Memory` where a growth was refused, `Line` at the first line without form, and `Empty`
+/// where the text has no command. `Run`
+/// comes with the faults of [`run_station`], and with `Output` where the output failed: in front of the records, and then the link
+/// wasn't used, or at a record.
+///
+/// What is odd of the text is told on the messages at the start: each angle of a positioning that lies outside one turn. So are signs
+/// of life, each at most once a minute, where the choice has them, and once what is noticed of the line at the spot. Where that
+/// can't be written the station measures on.
+pub fn run_station_text<L: Link, S: Source, K: Durable, E: Write>(
+    alloc: Global,
+    link: &mut L,
+    station: Station,
+    spot: Spot<'_>,
+    mut streams: Streams<S, K, E>,
+    max_turns: u64,
+) -> (Streams<S, K, E>, Result<Tally, Stop>)
+    // What the text was, and what of its commands was measured: what the link told, what the output took, and why it ended.
+    ensures measures { MeasuresText station max_turns
+        (places_of S.Source K.Sink E.contents streams (L.acts link.old))
+        (places_of S.Source K.Sink E.contents result.0 (L.acts link.new))
+        result.1 }
+
+    // The output failed exactly where that is the fault.
+    ensures output { FailsAtOutput (K.failed streams.output) (K.failed result.0.output) (with_fault result.1) }
+
+    // At each end but that of the output all that was written lasts, as far as the output is meant for it. That it does before each
+    // act is a clause of the private function that makes one.
+    ensures is_durable { AllLast (K.is_durable result.0.output) result.1 }
+
+    // At most 65,537 reads of the input were answered.
+    ensures bounded { S.reads result.0.input ≤ S.reads streams.input + (TEXT_LIMIT + 1) }
+
+    // Where the text was refused nothing was done over the link, and nothing written.
+    ensures untouched { IsUntouched
+        (places_of S.Source K.Sink E.contents streams (L.acts link.old))
+        (places_of S.Source K.Sink E.contents result.0 (L.acts link.new))
+        result.1 }
+{
+    let (tasks, text) = match read_task_text(alloc, &mut streams.input, &station.choice) {
+        Ok(read) => read,
+        Err(stop) => return (streams, Err(stop)),
+    };
+    let Ok(()) = write_front(&mut streams.output, station.layout) else {
+        return (streams, Err(Stop::Run(RunFault::Output)));
+    };
+    let Tasks { tasks, names } = tasks;
+    let _ = tell_turns(text.as_slice(), tasks.as_slice(), &mut streams.messages);
+    // A run may take months.
+    drop(text);
+    let named = Tasks {
+        tasks: Vec::new(alloc),
+        names,
+    };
+    let work = Work {
+        tasks,
+        named,
+        max_turns,
+    };
+    let (streams, end) = measure(link, station, work, spot, streams);
+    match end {
+        Ok(tally) => (streams, Ok(tally)),
+        Err(fault) => (streams, Err(Stop::Run(fault))),
+    }
+}
+
+// What is measured: the tasks, the names of their targets (in a `Tasks` whose own tasks are empty), and the most acts that a run may make.
+#[derive(Drop)]
+struct Work {
+    tasks: Vec<Task>,
+    named: Tasks,
+    max_turns: u64,
+}
+
+// Measures tasks over a link as a station is told, and writes their records into the output. The streams are handed back.
+fn measure<L: Link, S, K: Durable, E: Write>(
+    link: &mut L,
+    station: Station,
+    work: Work,
+    spot: Spot<'_>,
+    streams: Streams<S, K, E>,
+) -> (Streams<S, K, E>, Result<Tally, RunFault>)
+    ensures ran { RunsCourse (course_of station work.max_turns work.tasks.items work.named.names.items)
+        (L.acts link.old) (L.acts link.new) (K.taken streams.output) (K.taken result.0.output) result.1 }
+    ensures output { FailsAtOutput (K.failed streams.output) (K.failed result.0.output) result.1 }
+    ensures is_durable { LastsBut (K.is_durable result.0.output) result.1 }
+    ensures input { result.0.input ≡ streams.input }
+{
+    let Streams {
+        input,
+        output,
+        messages,
+    } = streams;
+    let Work {
+        tasks,
+        named,
+        max_turns,
+    } = work;
+    let plan = plan_of(station.choice, tasks.as_slice());
+    let mut teller = Teller::new(station.choice.watch, messages);
+    teller.begin(spot.place, tasks.len());
+    let mut records = Records {
+        sink: output,
+        layout: station.layout,
+        named,
+        noticed: spot.noticed,
+        teller,
+    };
+    let end = run_station(link, &mut records, tasks.as_slice(), &plan, max_turns);
+    let Records {
+        sink,
+        layout: _,
+        named: _,
+        noticed: _,
+        teller,
+    } = records;
+    let streams = Streams {
+        input,
+        output: sink,
+        messages: teller.end(),
+    };
+    (streams, end)
+}
+
+// Writes what stands in front of the records, where it doesn't stand there.
+fn write_front<K: Durable>(sink: &mut K, layout: Layout) -> Result<(), usize>
+    ensures failed { FailsWith result (K.failed sink.old) (K.failed sink.new) }
+    ensures ok { OnOk result (Appends (K.taken sink.old) (K.taken sink.new) (front_text layout)) }
+    ensures err { IfErr result (λ n. TakesFront (K.taken sink.old) (K.taken sink.new) n (front_text layout)) }
+{
+    if layout.headed {
+        // The clauses want it shown that nothing is written: an empty text is.
+        return write_whole(sink, b"");
+    }
+    write_head(sink, layout.form)
+}
+
+// A book of records in one layout, with the names of targets, and what a station tells of itself while it writes them.
+struct Records<'a, K, E> {
+    sink: K,
+    layout: Layout,
+    // The names of targets: its tasks are empty.
+    named: Tasks,
+    noticed: &'a Cell<Noticed>,
+    teller: Teller<E>,
+}
+
+impl<'a, K: Durable, E: Write> Book for Records<'a, K, E> {
+    ghost text = { λ book. text_in book.layout book.named.names.items };
+
+    ghost taken = { λ book. K.taken book.sink };
+
+    ghost failed = { λ book. K.failed book.sink };
+
+    ghost is_durable = { λ book. K.is_durable book.sink };
+
+    // Writes a record, which counts for the signs of life also where it can't be written.
+    fn write(
+        &mut self,
+        stamp: Stamp,
+        command: &Command,
+        ending: Ending<'_>,
+    ) -> Result<(), PortFailed> {
+        self.teller.count(stamp, ending);
+        let when = When {
+            run: self.layout.run,
+            stamp,
+        };
+        let taken = write_record(
+            &mut self.sink,
+            self.layout.form,
+            &when,
+            self.named.name_of(command.target),
+            command,
+            ending,
+        );
+        match taken {
+            Ok(()) => Ok(()),
+            Err(_) => Err(PortFailed),
+        }
+    }
+
+    // What was written lasts then as far as the sink is meant for it.
+    fn sync(&mut self) -> Result<(), PortFailed> {
+        match self.sink.sync() {
+            Ok(()) => Ok(()),
+            Err(failed) => Err(failed),
+        }
+    }
+
+    fn sees(&mut self, health: LinkHealth, moment: Moment) {
+        self.teller.tell(self.noticed.get(), health, moment);
+    }
+
+    fn overran(&mut self, cycle: u64) {
+        self.teller.overran(cycle);
+    }
+}

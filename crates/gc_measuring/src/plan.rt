@@ -1,0 +1,33 @@
+//! The plan that an operator's choice makes with the tasks of a text.
+
+ghost use Rattle.std.specs.Prelude.{◌≡◌};
+ghost use Rattle.gc_measuring.specs.Choices.{longest, plan_of};
+
+use gc_station::Plan;
+use gc_texts::Task;
+use gc_words::Choice;
+
+/// The plan of a choice for these tasks. Its deadline is the longest in use.
+pub(crate) fn plan_of(choice: Choice, tasks: &[Task]) -> Plan
+    ensures { result ≡ plan_of choice tasks.now }
+{
+    Plan {
+        width: choice.width,
+        deadline: longest(choice.deadline, tasks),
+        every: choice.every,
+        cycles: choice.cycles,
+        quiet: choice.quiet,
+        retries: choice.retries,
+    }
+}
+
+// The longest deadline in use: the greatest of this one and those of the tasks.
+fn longest(deadline: u64, tasks: &[Task]) -> u64
+    ensures { result ≡ longest deadline tasks.now }
+{
+    let mut longest = deadline;
+    for task in tasks {
+        longest = longest.max(task.deadline);
+    }
+    longest
+}

@@ -1,0 +1,157 @@
+//! Records in a file that outlasts the program: a station that appends to it.
+
+ghost use Rattle.std.specs.Prelude.{◌≡◌, ◌≤◌, ◌⊎◌, Ok, IfOk, OnOk, OnErr};
+ghost use Rattle.std.specs.Io.KnownBytes.{Appends};
+ghost use Rattle.std.specs.Option.{is_some};
+ghost use Rattle.std.specs.Process.{exit_status};
+ghost use Rattle.gc_words.specs.Stations.{form_of_rows};
+ghost use Rattle.gc_measuring.specs.Recording.{fault_of_unfit, rotation_line, unfit_text, torn_line};
+ghost use Rattle.gc_measuring.specs.Telling.{RefusesFile, TellsAppended, AppendsAll};
+ghost use Rattle.gc_rows.specs.Records.{head_text, sign_text};
+ghost use Rattle.gc_files.specs.Sinks.{torn_in, IsOpenedAs};
+
+use crate::counts::tell_counts;
+use crate::station::measure_at;
+use crate::stop::Stop;
+use gc_files::{RowsFile, SystemFile, Unfit, open_at};
+use gc_lines::{Durable, Source};
+use gc_messages::{Followed, Spot, Streams};
+use gc_rows::{head, sign};
+use gc_texts::RunFault;
+use gc_words::{LogPlace, Recording, Station};
+use std::alloc::Global;
+use std::fs::File;
+use std::io::{self, Write};
+use std::net::{Net, TcpListener, TcpStream};
+use std::process::ExitCode;
+use std::rt::Files;
+use std::time::Clock;
+
+// The fault of a path that can't be had as a file of records.
+fn fault_of_unfit(why: Unfit) -> RunFault
+    ensures { result ≡ fault_of_unfit why }
+{
+    match why {
+        Unfit::Unopened => RunFault::RecordsUnopened,
+        Unfit::Held => RunFault::RecordsHeld,
+        Unfit::Foreign => RunFault::RecordsForeign,
+        Unfit::Failed => RunFault::Output,
+    }
+}
+
+// Tells how many bytes of a torn row were cut off, where there were some.
+fn tell_torn<E: Write>(torn: u64, messages: &mut E) -> io::Result<()>
+    ensures { OnOk result (Appends (E.contents messages.old) (E.contents messages.new) (torn_line torn)) }
+{
+    if torn == 0 {
+        // The clause wants it shown that nothing is written: an empty text is.
+        return write!(messages, "");
+    }
+    writeln!(messages, "geocom: {torn} bytes of a torn row were cut off")
+}
+
+// Adds to the fault's line, for a file that doesn't begin as this station's rows do, what may have happened and how to rotate it. The
+// status is passed on.
+fn tell_rotation<E: Write>(
+    ended: io::Result<ExitCode>,
+    why: Unfit,
+    messages: &mut E,
+) -> io::Result<ExitCode>
+    ensures told { IfOk result (λ status. (ended ≡ Ok status) × Appends (E.contents messages.old) (E.contents messages.new) (rotation_line why)) }
+{
+    let status = ended?;
+    write_rotation(why, messages)?;
+    Ok(status)
+}
+
+// Writes the line that says how to rotate a file: for `Foreign` alone.
+fn write_rotation<E: Write>(why: Unfit, messages: &mut E) -> io::Result<()>
+    ensures { OnOk result (Appends (E.contents messages.old) (E.contents messages.new) (rotation_line why)) }
+{
+    match why {
+        Unfit::Foreign => writeln!(
+            messages,
+            "geocom: the file does not begin as this station's rows do: it has other columns, or a rotation cut off its header (copytruncate). To rotate it, stop the station, rename the file, and start it"
+        ),
+        // The clause wants it shown that nothing is written: an empty text is.
+        Unfit::Unopened | Unfit::Held | Unfit::Failed => write!(messages, ""),
+    }
+}
+
+// Opens the file of records of a station, in the form of its rows, which then syncs as it was asked to, and tells how many bytes of a
+// torn row were cut off, where there were some. Whether that could be told stands beside the file.
+fn open_records<R: Files<File = File>, E: Write>(
+    rt: &R,
+    recording: Recording<'_>,
+    station: Station,
+    messages: &mut E,
+) -> Result<(RowsFile<SystemFile>, io::Result<()>), Unfit>
+    ensures asked { IfOk result (λ opened. IsOpenedAs (head_text (form_of_rows station.layout.form)) (sign_text (form_of_rows station.layout.form)) recording.entry.sync opened.0) }
+    ensures told { IfOk result (λ opened. OnOk opened.1 (Appends (E.contents messages.old) (E.contents messages.new) (torn_line (torn_in opened.0)))) }
+    ensures untold { OnErr result (E.contents messages.new ≡ E.contents messages.old) }
+{
+    let form = station.form_of_rows();
+    match open_at(rt, recording.path, head(form), sign(form), recording.sync) {
+        Ok(rows) => {
+            let told = tell_torn(rows.torn(), messages);
+            Ok((rows, told))
+        }
+        Err(why) => Err(why),
+    }
+}
+
+/// Measures at a site, and appends the records as rows to a file, which is opened before anything else is done. Where it can't be had,
+/// nothing is read, and nothing is sent: `RecordsUnopened`, `RecordsHeld`, `RecordsForeign`, and `Output` where a call of the system
+/// failed. Of `RecordsForeign` it is told, too, how a file is rotated. What stood in it stays, but for half a row at its end, which is
+/// cut off and told. Where the path no longer leads to the file, rows go on in a new one there, if it can be had. The streams are handed
+/// back.
+pub fn append_at<
+    R: Net<Listener = TcpListener, Stream = TcpStream> + Clock + Files<File = File>,
+    S: Source,
+    K: Durable,
+    E: Write,
+>(
+    rt: &R,
+    alloc: Global,
+    spot: Spot<'_>,
+    log: Option<LogPlace<'_>>,
+    station: Station,
+    recording: Recording<'_>,
+    mut streams: Streams<S, K, E>,
+) -> (Streams<S, K, E>, io::Result<ExitCode>)
+    // Either the file can't be had, which is told with status 1, and nothing was read; or the status and the messages tell how it ended, as
+    // where the rows go elsewhere, but for what was told of half a row.
+    ensures told { IfOk result.1 (λ status. RefusesFile E.contents streams result.0 (exit_status status)
+        ⊎ TellsAppended S.Source E.contents (is_some log.entry) station streams result.0 (exit_status status)) }
+
+    // Status 0 only where the source gave a text to its end, and the run over its commands is done.
+    ensures done { IfOk result.1 (λ status. exit_status status ≡ 0 → AppendsAll S.Source E.contents station streams result.0) }
+
+    // Nothing is written on the output.
+    ensures output { result.0.output ≡ streams.output }
+    ensures bound { IfOk result.1 (λ status. exit_status status ≤ 1) }
+{
+    match open_records(rt, recording, station, &mut streams.messages) {
+        // Where a torn row couldn't be told the station measures all the same.
+        Ok((rows, _)) => {
+            let followed = Followed::new(rt, recording.path, rows, spot.noticed);
+            let (filed, output) = streams.with_output(followed);
+            let (filed, ended) = measure_at(rt, alloc, spot, log, station.appended(), filed);
+            let (streams, _) = filed.with_output(output);
+            (streams, ended)
+        }
+        Err(why) => {
+            let ended = refuse_file(why, &mut streams.messages);
+            (streams, ended)
+        }
+    }
+}
+
+// Tells why a file of records can't be had and, for one that doesn't begin as this station's rows do, how to rotate it.
+fn refuse_file<E: Write>(why: Unfit, messages: &mut E) -> io::Result<ExitCode>
+    ensures told { IfOk result (λ status. (exit_status status ≡ 1) × Appends (E.contents messages.old) (E.contents messages.new) (unfit_text why)) }
+{
+    let stop = Stop::Run(fault_of_unfit(why));
+    let ended = tell_counts(Err(stop), messages);
+    tell_rotation(ended, why, messages)
+}

@@ -1,0 +1,393 @@
+//! Signs of life: what a station tells of itself while it runs. No record, and nothing that goes out, rests on it.
+
+ghost use Rattle.std.specs.Prelude.{◌≡◌};
+ghost use Rattle.gc_station.specs.Tallies.{counted};
+ghost use Rattle.gc_texts.specs.Endings.{ending_seen};
+
+use crate::wanted::{Wanted, has_lasted};
+use gc_links::Moment;
+use gc_messages::{Bounded, Oddities};
+use gc_station::{LinkHealth, Tally};
+use gc_texts::{Ending, Stamp, stamp_text};
+use gc_words::Watch;
+use std::io::{self, Write};
+
+// How far apart the lines of one kind are at least, in milliseconds.
+const MINUTE: u64 = 60_000;
+
+// How long a trouble lasts before it is told, in milliseconds. A station is looked at each second, so that the line comes within a minute.
+const LASTING: u64 = 59_000;
+
+// How many columns the line of a terminal has at most.
+const COLUMNS: usize = 79;
+
+// How far apart the line of a terminal is written over at least, in milliseconds.
+const SECOND: u64 = 1_000;
+
+// How often a line of one kind may be written: when it was written last, in milliseconds of the clock for deadlines.
+#[derive(Clone, Copy)]
+struct RateLimit {
+    last: Option<u64>,
+}
+
+impl RateLimit {
+    // No line of this kind was written yet.
+    fn new() -> RateLimit {
+        RateLimit { last: None }
+    }
+
+    // Whether a line of this kind may be written now: the last one is at least `apart` milliseconds old. If so, it counts as written now.
+    fn allows(&mut self, elapsed: u64, apart: u64) -> bool {
+        let allows = match self.last {
+            Some(last) => elapsed.saturating_sub(last) >= apart,
+            None => true,
+        };
+        if allows {
+            self.last = Some(elapsed);
+        }
+        allows
+    }
+}
+
+/// What was seen of a station, and what was told of it.
+#[derive(Clone, Copy)]
+pub(crate) struct Signs {
+    watch: Watch,
+    // How things stood before the last act, since when, and the moment that was seen last.
+    health: LinkHealth,
+    since: Moment,
+    elapsed: u64,
+    // Since when an answer is wanted.
+    wanted: Wanted,
+    // Whether a trouble was told, and whether a command was answered since.
+    is_troubled: bool,
+    is_answered: bool,
+    // How many commands were skipped since that was told last, how many of them before the last look, and since when, in milliseconds
+    // since 1970.
+    skipped: u64,
+    skipped_before: u64,
+    skipped_since: u64,
+    // The cycle of the last record, how many ended how, and when the last answer was written.
+    cycle: u64,
+    counts: Tally,
+    answered: Option<u64>,
+    // Whether a terminal shows the line that is written over.
+    is_shown: bool,
+    // What was told of what is odd about the line.
+    odd: Oddities,
+    unconnected: RateLimit,
+    connected: RateLimit,
+    unquiet: RateLimit,
+    unanswered: RateLimit,
+    late: RateLimit,
+    passed_over: RateLimit,
+    shown: RateLimit,
+}
+
+impl Signs {
+    /// Nothing was seen yet.
+    pub(crate) fn new(watch: Watch) -> Signs {
+        Signs {
+            watch,
+            health: LinkHealth::Idle,
+            since: Moment { elapsed: 0, utc: 0 },
+            elapsed: 0,
+            wanted: Wanted::new(),
+            is_troubled: false,
+            is_answered: false,
+            skipped: 0,
+            skipped_before: 0,
+            skipped_since: 0,
+            cycle: 0,
+            counts: Tally::new(),
+            answered: None,
+            is_shown: false,
+            odd: Oddities::none(),
+            unconnected: RateLimit::new(),
+            connected: RateLimit::new(),
+            unquiet: RateLimit::new(),
+            unanswered: RateLimit::new(),
+            late: RateLimit::new(),
+            passed_over: RateLimit::new(),
+            shown: RateLimit::new(),
+        }
+    }
+
+    /// Counts a record, and notes what it shows.
+    pub(crate) fn count(&mut self, stamp: Stamp, ending: Ending<'_>)
+        ensures { self.new.counts ≡ counted (ending_seen ending.entry) self.old.counts }
+    {
+        self.note(stamp, ending);
+        self.counts.count(ending);
+    }
+
+    // Notes the cycle of a record, and whether a command was answered or skipped.
+    fn note(&mut self, stamp: Stamp, ending: Ending<'_>)
+        ensures { self.new.counts ≡ self.old.counts }
+    {
+        self.cycle = stamp.cycle;
+        match ending {
+            Ending::Answered(..) | Ending::Unreadable(_, _) => self.answer(),
+            Ending::Skipped => self.skip(stamp.utc),
+            Ending::Late | Ending::Lost | Ending::Missed => {}
+        }
+    }
+
+    // An answer came, whether its values read or not.
+    fn answer(&mut self)
+        ensures { self.new.counts ≡ self.old.counts }
+    {
+        self.answered = Some(self.elapsed);
+        self.is_answered = true;
+        self.wanted.hear();
+    }
+
+    // Counts a command that was skipped, for the next line of those.
+    fn skip(&mut self, utc: u64)
+        ensures { self.new.counts ≡ self.old.counts }
+    {
+        if self.skipped == 0 {
+            self.skipped_since = utc;
+        }
+        self.skipped = self.skipped.saturating_add(1);
+    }
+
+    /// Whether a cycle that isn't done in time may be told.
+    pub(crate) fn may_tell_late(&mut self) -> bool {
+        self.watch != Watch::Nobody && self.late.allows(self.elapsed, MINUTE)
+    }
+
+    /// Takes in the health of the link and the moment, and writes the lines that are due. `is_lost`: the last connection was lost or
+    /// couldn't be made.
+    pub(crate) fn see<E: Write>(
+        &mut self,
+        health: LinkHealth,
+        is_lost: bool,
+        moment: Moment,
+        messages: &mut E,
+    ) -> io::Result<()> {
+        if self.watch == Watch::Nobody {
+            return Ok(());
+        }
+        let before = self.health;
+        self.stand(health, moment);
+        if moment.utc != 0 {
+            self.tell_troubles(before, is_lost, moment, messages)?;
+        }
+        self.tell_passed_over(messages)?;
+        self.show(messages)
+    }
+
+    // Notes the health of the link, and the moment since which it is so.
+    fn stand(&mut self, health: LinkHealth, moment: Moment) {
+        // Until the clock is read first the moment is the beginning of 1970.
+        if self.health != health || self.since.utc == 0 {
+            self.health = health;
+            self.since = moment;
+        }
+        self.elapsed = moment.elapsed;
+    }
+
+    // Tells of a connection, a line that isn't quiet and an answer that doesn't come, and that a command was answered behind that.
+    fn tell_troubles<E: Write>(
+        &mut self,
+        before: LinkHealth,
+        is_lost: bool,
+        moment: Moment,
+        messages: &mut E,
+    ) -> io::Result<()> {
+        self.wanted.look(self.health, moment);
+        self.tell_connection(before, is_lost, messages)?;
+        self.tell_unquiet(messages)?;
+        self.tell_unanswered(messages)?;
+        self.tell_again(messages)
+    }
+
+    // Tells how many commands were skipped, once no more were since the last look.
+    fn tell_passed_over<E: Write>(&mut self, messages: &mut E) -> io::Result<()> {
+        let before = self.skipped_before;
+        if self.skipped == before {
+            self.tell_skipped(messages)?;
+        }
+        self.skipped_before = self.skipped;
+        Ok(())
+    }
+
+    /// Tells what is odd about the line, each thing once.
+    pub(crate) fn tell_odd<E: Write>(&mut self, odd: Oddities, messages: &mut E) -> io::Result<()> {
+        if self.watch == Watch::Nobody || self.odd == odd {
+            return Ok(());
+        }
+        let told = self.odd;
+        self.odd = odd;
+        self.clear(messages)?;
+        if odd.echoes && !told.echoes {
+            writeln!(
+                messages,
+                "geocom: the line sends back what goes out: a modem or the far end has its echo on"
+            )?;
+        }
+        if odd.bare && !told.bare {
+            writeln!(
+                messages,
+                "geocom: the line changes CR to LF: it is to be raw (stty raw)"
+            )?;
+        }
+        Ok(())
+    }
+
+    // Tells that there is no connection, where it was lost or couldn't be made, and one is wanted. Not where a cycle just began: then the
+    // station makes one at once.
+    fn tell_connection<E: Write>(
+        &mut self,
+        before: LinkHealth,
+        is_lost: bool,
+        messages: &mut E,
+    ) -> io::Result<()> {
+        if self.health != LinkHealth::Unconnected {
+            return Ok(());
+        }
+        self.is_answered = false;
+        if !is_lost || before == LinkHealth::Idle {
+            return Ok(());
+        }
+        let may = self.unconnected.allows(self.elapsed, MINUTE);
+        self.tell_since(may, self.since.utc, "no connection", messages)
+    }
+
+    // Tells that a new connection isn't quiet, once that has lasted.
+    fn tell_unquiet<E: Write>(&mut self, messages: &mut E) -> io::Result<()> {
+        if self.health != LinkHealth::Unquiet
+            || !has_lasted(self.since.elapsed, self.elapsed, LASTING)
+        {
+            return Ok(());
+        }
+        let may = self.unquiet.allows(self.elapsed, MINUTE);
+        self.tell_since(may, self.since.utc, "not quiet", messages)
+    }
+
+    // Tells that no answer came, once that has lasted, whatever became of connections meanwhile.
+    fn tell_unanswered<E: Write>(&mut self, messages: &mut E) -> io::Result<()> {
+        match self.wanted.lasting(self.elapsed, LASTING) {
+            Some(since) => {
+                self.wanted.told = true;
+                let may = self.unanswered.allows(self.elapsed, MINUTE);
+                self.tell_since(may, since.utc, "no answer", messages)
+            }
+            None => Ok(()),
+        }
+    }
+
+    // Writes `what` and since when it has lasted (`utc`, in milliseconds since 1970), if `may` allows it.
+    fn tell_since<E: Write>(
+        &mut self,
+        may: bool,
+        utc: u64,
+        what: &str,
+        messages: &mut E,
+    ) -> io::Result<()> {
+        if !may {
+            return Ok(());
+        }
+        self.is_troubled = true;
+        self.is_answered = false;
+        self.clear(messages)?;
+        let since = stamp_text(utc);
+        let since = str::from_utf8(&since).unwrap_or("");
+        writeln!(messages, "geocom: {what} since {since}")
+    }
+
+    // Tells behind a trouble that a command was answered, where that may be told.
+    fn tell_again<E: Write>(&mut self, messages: &mut E) -> io::Result<()> {
+        if !self.is_troubled || !self.is_answered || !self.connected.allows(self.elapsed, MINUTE) {
+            return Ok(());
+        }
+        self.is_troubled = false;
+        self.clear(messages)?;
+        writeln!(messages, "geocom: connected again")
+    }
+
+    // Tells how many commands were skipped.
+    fn tell_skipped<E: Write>(&mut self, messages: &mut E) -> io::Result<()> {
+        if self.skipped == 0 || !self.passed_over.allows(self.elapsed, MINUTE) {
+            return Ok(());
+        }
+        self.clear(messages)?;
+        let count = self.skipped;
+        self.skipped = 0;
+        let since = stamp_text(self.skipped_since);
+        let since = str::from_utf8(&since).unwrap_or("");
+        writeln!(messages, "geocom: commands skipped since {since}: {count}")
+    }
+
+    // Rewrites the status line of a terminal, at most once a second.
+    fn show<E: Write>(&mut self, messages: &mut E) -> io::Result<()> {
+        if self.watch != Watch::Terminal || !self.shown.allows(self.elapsed, SECOND) {
+            return Ok(());
+        }
+        self.clear(messages)?;
+        self.is_shown = true;
+        let mut row: Bounded<COLUMNS> = Bounded::new();
+        self.show_counts(&mut row)?;
+        messages.write_all(row.bytes.as_slice())
+    }
+
+    // The cycle, how many commands were answered and how long ago the last one was, and how many ended otherwise, where there are some.
+    fn show_counts<E: Write>(&self, row: &mut E) -> io::Result<()> {
+        let cycle = self.cycle;
+        let answered = self.counts.answered;
+        write!(row, "cycle {cycle}: answered {answered}")?;
+        self.show_age(row)?;
+        show_others(self.counts, row)
+    }
+
+    // How long ago the last answer was, where there was one.
+    fn show_age<E: Write>(&self, row: &mut E) -> io::Result<()> {
+        match self.answered {
+            Some(moment) => {
+                let age = self.elapsed.saturating_sub(moment) / SECOND;
+                write!(row, " (last {age} s ago)")
+            }
+            None => Ok(()),
+        }
+    }
+
+    /// Tells at the end of a run what wasn't told yet, and takes the line of a terminal away.
+    pub(crate) fn end<E: Write>(&mut self, messages: &mut E) -> io::Result<()> {
+        if self.watch != Watch::Nobody {
+            self.tell_skipped(messages)?;
+        }
+        self.clear(messages)
+    }
+
+    /// Takes the line of a terminal away.
+    pub(crate) fn clear<E: Write>(&mut self, messages: &mut E) -> io::Result<()> {
+        if !self.is_shown {
+            return Ok(());
+        }
+        self.is_shown = false;
+        write!(messages, "\r\x1b[K")
+    }
+}
+
+// How many commands weren't answered, by how they ended, where there are some.
+fn show_others<E: Write>(counts: Tally, row: &mut E) -> io::Result<()> {
+    for (name, count) in [
+        ("late", counts.late),
+        ("lost", counts.lost),
+        ("skipped", counts.skipped),
+        ("unreadable", counts.unreadable),
+        ("missed", counts.missed),
+    ] {
+        show_count(name, count, row)?;
+    }
+    Ok(())
+}
+
+// How many ended so, where there are some.
+fn show_count<E: Write>(name: &str, count: u64, row: &mut E) -> io::Result<()> {
+    if count == 0 {
+        return Ok(());
+    }
+    write!(row, " {name} {count}")
+}

@@ -1,0 +1,159 @@
+//! A station over its ports: it measures at a place, and tells how that ended.
+
+ghost use Rattle.std.specs.Prelude.{◌≡◌, ◌≤◌, IfOk, IfErr};
+ghost use Rattle.std.specs.Option.{is_some};
+ghost use Rattle.std.specs.Process.{exit_status};
+ghost use Rattle.gc_measuring.specs.Stops.{fault_without_link, IsWithoutLink};
+ghost use Rattle.gc_measuring.specs.Telling.{TellsMeasuring, MeasuresAll, TellsRun, MeasuresAllFromNone, CannotBegin};
+
+use crate::counts::tell_counts;
+use crate::logging::{Noted, log_at, measure_logged};
+use crate::measure::run_station_text;
+use crate::stop::Stop;
+use gc_ask::fault_of;
+use gc_files::{RowsFile, SystemFile};
+use gc_lines::{Durable, Source};
+use gc_links::{Link, Moment, Place, PlacedLink, Telling, Unusable};
+use gc_logs::Logged;
+use gc_messages::{Noticing, Spot, Streams};
+use gc_station::Tally;
+use gc_texts::RunFault;
+use gc_words::{LogPlace, Station};
+use std::alloc::Global;
+use std::fs::File;
+use std::io::{self, Write};
+use std::net::{Net, TcpListener, TcpStream};
+use std::process::ExitCode;
+use std::rt::Files;
+use std::time::Clock;
+
+/// Measures at a place, and tells how it ended: the counts, or the fault's line. Where a log is asked for, its file is opened first, and
+/// what was on the link is appended to it: where it can't be had that is `Log`. `Clock` comes where the clock can't be read, and the
+/// faults of a device where one is there and can't be used. That a log couldn't be written to its end is told behind the counts, or
+/// the fault, and changes no status. The streams are handed back.
+pub fn measure_at<
+    R: Net<Listener = TcpListener, Stream = TcpStream> + Clock + Files<File = File>,
+    S: Source,
+    K: Durable,
+    E: Write,
+>(
+    rt: &R,
+    alloc: Global,
+    spot: Spot<'_>,
+    log: Option<LogPlace<'_>>,
+    station: Station,
+    mut streams: Streams<S, K, E>,
+) -> (Streams<S, K, E>, io::Result<ExitCode>)
+    // The status and the messages tell how it ended, and behind that whether a log was lost: what was measured, by acts that the link
+    // told from none on, as the sink has it that is handed back; or that no log, no link or no clock could be had, and then nothing was
+    // read or written.
+    ensures told { IfOk result.1 (λ status. TellsRun S.Source K.Sink E.contents (is_some log.entry) station streams result.0 (exit_status status)) }
+
+    // Status 0 only where the source gave a text to its end, and the run over its commands is done.
+    ensures done { IfOk result.1 (λ status. exit_status status ≡ 0 → MeasuresAllFromNone S.Source K.Sink E.contents station streams result.0) }
+    ensures bound { IfOk result.1 (λ status. exit_status status ≤ 1) }
+{
+    let Ends { link, moment, log } = match open_ends(rt, spot, log) {
+        Ok(ends) => ends,
+        Err(fault) => {
+            let ended = tell_counts(Err(Stop::Run(fault)), &mut streams.messages);
+            return (streams, ended);
+        }
+    };
+    let station = station.begun(moment);
+    let told = Telling::new(link);
+    let mut link = Noticing::new(told, spot.noticed);
+    match log {
+        None => measure_over(alloc, &mut link, station, spot, streams),
+        Some(log) => {
+            let mut logged = Logged::new(link, log, moment.utc);
+            measure_logged(alloc, &mut logged, station, spot, streams)
+        }
+    }
+}
+
+// What a run goes over: a link, with the moment at which the run begins, and its log, where one is asked for.
+#[derive(Drop)]
+struct Ends<'a, R> {
+    link: PlacedLink<'a, R>,
+    moment: Moment,
+    log: Option<Noted<'a, RowsFile<SystemFile>>>,
+}
+
+// Opens the log, where one is asked for, and then the link.
+fn open_ends<'a, R: Net<Listener = TcpListener, Stream = TcpStream> + Clock + Files<File = File>>(
+    rt: &'a R,
+    spot: Spot<'a>,
+    log: Option<LogPlace<'_>>,
+) -> Result<Ends<'a, R>, RunFault>
+    ensures logged { IfOk result (λ ends. is_some ends.log ≡ is_some log.entry) }
+    ensures fault { IfErr result (λ fault. CannotBegin (is_some log.entry) fault) }
+{
+    let log = match log_at(rt, spot.noticed, log) {
+        Ok(log) => log,
+        Err(fault) => return Err(fault),
+    };
+    match link_at(rt, spot.place) {
+        Ok((link, moment)) => Ok(Ends { link, moment, log }),
+        Err(fault) => {
+            spot.stop(fault);
+            Err(fault)
+        }
+    }
+}
+
+// A link to a place, and the moment at which a run over it begins; or the fault where there is no link: what is wrong with the
+// device, or that the clock can't be read.
+fn link_at<'a, R: Net<Listener = TcpListener, Stream = TcpStream> + Clock + Files<File = File>>(
+    rt: &'a R,
+    place: Place<'a>,
+) -> Result<(PlacedLink<'a, R>, Moment), RunFault>
+    ensures { IfErr result (λ fault. IsWithoutLink fault) }
+{
+    let mut link = match PlacedLink::new(rt, place) {
+        Ok(link) => link,
+        Err(reason) => return Err(without_link(reason)),
+    };
+    match link.now() {
+        Ok(moment) => Ok((link, moment)),
+        Err(_) => Err(without_link(None)),
+    }
+}
+
+// The fault where there is no link.
+fn without_link(reason: Option<Unusable>) -> RunFault
+    ensures { result ≡ fault_without_link reason }
+{
+    match reason {
+        Some(unusable) => fault_of(Some(unusable)),
+        None => RunFault::Clock,
+    }
+}
+
+/// Measures over a link, and tells how it ended. The streams are handed back.
+pub(crate) fn measure_over<L: Link, S: Source, K: Durable, E: Write>(
+    alloc: Global,
+    link: &mut L,
+    station: Station,
+    spot: Spot<'_>,
+    streams: Streams<S, K, E>,
+) -> (Streams<S, K, E>, io::Result<ExitCode>)
+    // What the text was, what of its commands was measured, and that the messages and the status tell how that ended.
+    ensures told { IfOk result.1 (λ status. TellsMeasuring S.Source K.Sink E.contents station (L.acts link.old) (L.acts link.new) streams result.0 (exit_status status)) }
+
+    // Status 0 only where the source gave a text to its end, and the run over its commands is done.
+    ensures done { IfOk result.1 (λ status. exit_status status ≡ 0 → MeasuresAll S.Source K.Sink E.contents station (L.acts link.old) (L.acts link.new) streams result.0) }
+    ensures bound { IfOk result.1 (λ status. exit_status status ≤ 1) }
+{
+    let (mut streams, end) = run_station_text(alloc, link, station, spot, streams, u64::MAX);
+    note_stop(spot, end);
+    let ended = tell_counts(end, &mut streams.messages);
+    (streams, ended)
+}
+
+// Notes at its spot for which fault a run stopped, where it did.
+fn note_stop(spot: Spot<'_>, end: Result<Tally, Stop>) {
+    if let Err(stop) = end {
+        spot.stop(stop.fault());
+    }
+}

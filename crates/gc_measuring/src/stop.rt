@@ -1,0 +1,63 @@
+//! The stop: why a station that measures the commands of a text stopped before its end, and how that is told.
+
+ghost use Rattle.std.specs.Prelude.{◌≡◌, OnOk};
+ghost use Rattle.std.specs.Io.KnownBytes.{Appends};
+ghost use Rattle.gc_measuring.specs.Stops.{fault_of_stop, stop_text, end_of_run};
+
+use gc_texts::{RunFault, Trouble};
+use std::io::{self, Write};
+
+/// Why a station stopped before its end.
+#[derive(Clone, Copy, Debug, PartialEq, Eq)]
+pub enum Stop {
+    /// The text was refused, for this fault, before anything was done.
+    Text(RunFault),
+    /// The text has no command. Nothing was done.
+    Empty,
+    /// The line of the text with this number, counted from 1, is the first faulty one, with this trouble. Nothing was done.
+    Line(u32, Trouble),
+    /// The run over its commands ended for this fault, or what stands in front of the records couldn't be written.
+    Run(RunFault),
+}
+
+impl Stop {
+    /// The fault.
+    pub fn fault(self) -> RunFault
+        ensures { result ≡ fault_of_stop self }
+    {
+        match self {
+            Stop::Text(fault) => fault,
+            Stop::Empty => RunFault::NoCommand,
+            Stop::Line(line, _) => RunFault::Schedule { line },
+            Stop::Run(fault) => fault,
+        }
+    }
+
+    /// Writes the fault's line. A second line follows for a text without a command, which says so, and for a faulty line, with its trouble.
+    pub fn tell<E: Write>(self, messages: &mut E) -> io::Result<()>
+        ensures { OnOk result (Appends (E.contents messages.old) (E.contents messages.new) (stop_text self)) }
+    {
+        match self {
+            Stop::Text(fault) => fault.tell(messages),
+            Stop::Empty => tell_empty(messages),
+            Stop::Line(line, trouble) => tell_line(line, trouble, messages),
+            Stop::Run(fault) => fault.tell(messages),
+        }
+    }
+}
+
+// Writes the line of an empty text's fault, and what it lacks.
+fn tell_empty<E: Write>(messages: &mut E) -> io::Result<()>
+    ensures { OnOk result (Appends (E.contents messages.old) (E.contents messages.new) (stop_text Stop.Empty)) }
+{
+    RunFault::NoCommand.tell(messages)?;
+    writeln!(messages, "geocom: the text has no command")
+}
+
+// Writes the line of a faulty line's fault, and of its trouble.
+fn tell_line<E: Write>(line: u32, trouble: Trouble, messages: &mut E) -> io::Result<()>
+    ensures { OnOk result (Appends (E.contents messages.old) (E.contents messages.new) (stop_text (Stop.Line line trouble))) }
+{
+    RunFault::Schedule { line }.tell(messages)?;
+    trouble.tell(line, messages)
+}

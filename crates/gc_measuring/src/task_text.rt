@@ -1,0 +1,51 @@
+//! A station's text, read whole from a source.
+
+ghost use Rattle.std.specs.Prelude.{◌+◌, ◌≤◌, ℕ, List, IfOk, IfErr};
+ghost use Rattle.gc_measuring.specs.TaskTexts.{Gave, GivesTasks, RefusesTasks, IsRefusal};
+ghost use Rattle.gc_texts.specs.WholeTexts.{input_of};
+ghost use Rattle.gc_texts.specs.declared.text.TheConstants.{TEXT_LIMIT};
+
+use crate::stop::Stop;
+use gc_lines::Source;
+use gc_texts::{RunFault, Tasks, line_at, read_tasks, read_text, trouble_of};
+use gc_words::Choice;
+use std::alloc::Global;
+
+/// Reads the whole text of a station from a source, and hands over what it gives, with the text itself. Until a line says otherwise the
+/// commands have the deadline that was chosen, and are chained or not, as was chosen. The faults are those of `read_tasks`, `Read` where
+/// a read failed, and `NoCommand` where the text has none; of a faulty line the trouble is told, too.
+pub(crate) fn read_task_text<S: Source>(
+    alloc: Global,
+    source: &mut S,
+    choice: &Choice,
+) -> Result<(Tasks, Vec<u8>), Stop>
+    ensures found { IfOk result (λ all. (given : List ℕ) × Gave given (input_of S.Source source.old) (input_of S.Source source.new)
+        × GivesTasks given (input_of S.Source source.old) (input_of S.Source source.new) choice.now all.0.tasks.items all.0.names.items) }
+    ensures refused { IfErr result (λ stop. (given : List ℕ) × Gave given (input_of S.Source source.old) (input_of S.Source source.new)
+        × RefusesTasks given (input_of S.Source source.old) (input_of S.Source source.new) stop) }
+    ensures bounded { S.reads source.new ≤ S.reads source.old + (TEXT_LIMIT + 1) }
+{
+    let text = match read_text(alloc, source) {
+        Ok(text) => text,
+        Err(fault) => return Err(Stop::Text(fault)),
+    };
+    match read_tasks(alloc, text.as_slice(), choice.deadline, choice.chained) {
+        Ok(tasks) => {
+            if tasks.tasks.is_empty() {
+                return Err(Stop::Empty);
+            }
+            Ok((tasks, text))
+        }
+        Err(fault) => Err(refusal(text.as_slice(), fault)),
+    }
+}
+
+// Why a text is refused that has this fault.
+fn refusal(text: &[u8], fault: RunFault) -> Stop
+    ensures { IsRefusal text.now fault result }
+{
+    match fault {
+        RunFault::Schedule { line } => Stop::Line(line, trouble_of(line_at(text, line))),
+        _ => Stop::Text(fault),
+    }
+}

@@ -1,0 +1,111 @@
+//! What a station tells of itself while it runs, on its messages: an error of writing them is ignored, since what it does, and what it writes
+//! of each request, doesn't depend on them.
+
+ghost use Rattle.std.specs.Prelude.{◌≡◌, OnOk};
+ghost use Rattle.std.specs.Io.KnownBytes.{Appends};
+ghost use Rattle.gc_measuring.specs.Measuring.{overrun_line};
+ghost use Rattle.gc_station.specs.Tallies.{counted};
+ghost use Rattle.gc_texts.specs.Endings.{ending_seen};
+
+use crate::signs::Signs;
+use gc_links::{Moment, Place};
+use gc_messages::{FilesSeen, FilesTold, Noticed};
+use gc_station::LinkHealth;
+use gc_texts::{Ending, Stamp};
+use gc_words::Watch;
+use std::io::{self, Write};
+
+/// The messages of a station, with what was seen of it and told so far.
+pub(crate) struct Teller<E> {
+    watch: Watch,
+    signs: Signs,
+    // What was told of the station's files.
+    files: FilesTold,
+    messages: E,
+}
+
+impl<E: Write> Teller<E> {
+    /// Nothing was told yet.
+    pub(crate) fn new(watch: Watch, messages: E) -> Teller<E> {
+        Teller {
+            watch,
+            signs: Signs::new(watch),
+            files: FilesTold::new(),
+            messages,
+        }
+    }
+
+    /// Tells at the start how many commands there are, and where they are asked.
+    pub(crate) fn begin(&mut self, place: Place<'_>, count: usize) {
+        if self.watch != Watch::Nobody {
+            let _ = tell_start(place, count, &mut self.messages);
+        }
+    }
+
+    /// Counts a record for the signs of life, also one that can't be written.
+    pub(crate) fn count(&mut self, stamp: Stamp, ending: Ending<'_>)
+        ensures { self.new.signs.counts ≡ counted (ending_seen ending.entry) self.old.signs.counts }
+    {
+        self.signs.count(stamp, ending);
+    }
+
+    /// Tells before each act what is new.
+    pub(crate) fn tell(&mut self, noticed: Noticed, health: LinkHealth, moment: Moment) {
+        let Noticed {
+            odd,
+            is_lost,
+            files,
+            ..
+        } = noticed;
+        let _ = self.signs.see(health, is_lost, moment, &mut self.messages);
+        let _ = self.signs.tell_odd(odd, &mut self.messages);
+        self.tell_files(files, moment);
+    }
+
+    // Tells what became of the files, also where no signs of life are told.
+    fn tell_files(&mut self, files: FilesSeen, moment: Moment) {
+        if let Some(news) = self.files.news(files, moment) {
+            let _ = self.signs.clear(&mut self.messages);
+            let _ = news.tell(&mut self.messages);
+        }
+    }
+
+    /// Tells that a cycle was not done when the next was due.
+    pub(crate) fn overran(&mut self, cycle: u64) {
+        if self.signs.may_tell_late() {
+            let _ = self.signs.clear(&mut self.messages);
+            let _ = tell_overrun(&mut self.messages, cycle);
+        }
+    }
+
+    /// Tells at the end what wasn't told yet, and hands the messages back.
+    pub(crate) fn end(self) -> E {
+        let Teller {
+            watch: _,
+            mut signs,
+            files: _,
+            mut messages,
+        } = self;
+        let _ = signs.end(&mut messages);
+        messages
+    }
+}
+
+// The line of a station's start: how many commands there are, where they are asked, and what it waits for first.
+fn tell_start<E: Write>(place: Place<'_>, count: usize, messages: &mut E) -> io::Result<()> {
+    let commands = if count == 1 { "command" } else { "commands" };
+    writeln!(
+        messages,
+        "geocom: {count} {commands} for {place}: waits until eight null procedures are answered, one after the other"
+    )
+}
+
+// The line of a cycle that was not done when the next was due.
+fn tell_overrun<E: Write>(messages: &mut E, cycle: u64) -> io::Result<()>
+    ensures { OnOk result (Appends (E.contents messages.old) (E.contents messages.new) (overrun_line cycle)) }
+{
+    writeln!(
+        messages,
+        "geocom: cycle {cycle} was not done when the next was due"
+    )
+}

@@ -1,0 +1,89 @@
+//! Since when a station wants an answer that doesn't come. It counts over connections: neither a new one nor a closed one is an answer.
+
+ghost use Rattle.std.specs.Prelude.{◌≡◌};
+ghost use Rattle.gc_measuring.specs.Wanted.{behind_answer, behind_look, behind_cycle, wanted_from, lasting, has_lasted};
+
+use gc_links::Moment;
+use gc_station::LinkHealth;
+
+/// Since when an answer is wanted.
+#[derive(Clone, Copy)]
+pub(crate) struct Wanted {
+    // Since when, where one is.
+    pub since: Option<Moment>,
+    // Whether there was an answer since nothing was left to be asked.
+    pub heard: bool,
+    // Whether a message said that no answer comes.
+    pub told: bool,
+}
+
+impl Wanted {
+    /// No answer is wanted yet.
+    pub(crate) fn new() -> Wanted {
+        Wanted {
+            since: None,
+            heard: false,
+            told: false,
+        }
+    }
+
+    /// Notes that a command was answered: no answer is wanted.
+    pub(crate) fn hear(&mut self)
+        ensures { self.new ≡ behind_answer self.old }
+    {
+        self.since = None;
+        self.heard = true;
+        self.told = false;
+    }
+
+    /// Notes by the health of the link at this moment whether an answer is wanted.
+    pub(crate) fn look(&mut self, health: LinkHealth, moment: Moment)
+        ensures { self.new ≡ behind_look health moment self.old }
+    {
+        match health {
+            LinkHealth::Fine => {}
+            LinkHealth::Idle => self.end_cycle(),
+            LinkHealth::Unconnected => self.want(moment),
+            LinkHealth::Unquiet => self.want(moment),
+            LinkHealth::Unheard => self.want(moment),
+        }
+    }
+
+    // Ends a cycle, of which nothing is left to be asked. If the cycle had an answer, none is wanted until the next cycle
+    // asks; but a want that was told stays until an answer comes.
+    fn end_cycle(&mut self)
+        ensures { self.new ≡ behind_cycle self.old }
+    {
+        if self.heard && !self.told {
+            self.since = None;
+        }
+        self.heard = false;
+    }
+
+    // Notes that an answer is wanted from this moment on, unless one was wanted already.
+    fn want(&mut self, moment: Moment)
+        ensures { self.new ≡ record self.old { since = wanted_from self.old.since moment } }
+    {
+        self.since = match self.since {
+            Some(since) => Some(since),
+            None => Some(moment),
+        };
+    }
+
+    /// Since when an answer is wanted, where that is at least `least` milliseconds ago.
+    pub(crate) fn lasting(&self, elapsed: u64, least: u64) -> Option<Moment>
+        ensures { result ≡ lasting elapsed least self.now.since }
+    {
+        match self.since {
+            Some(since) if has_lasted(since.elapsed, elapsed, least) => Some(since),
+            _ => None,
+        }
+    }
+}
+
+/// Whether at least `least` milliseconds passed from `from` to `elapsed`, both by the clock for deadlines.
+pub(crate) fn has_lasted(from: u64, elapsed: u64, least: u64) -> bool
+    ensures { result ≡ has_lasted from elapsed least }
+{
+    elapsed.saturating_sub(from) >= least
+}

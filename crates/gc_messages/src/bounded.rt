@@ -1,0 +1,32 @@
+//! A text of bounded length: what has no room in it is left out.
+
+use arrayvec::ArrayVec;
+use std::io::{self, Write};
+
+/// The first bytes of what was written, N at most.
+#[derive(Drop)]
+pub struct Bounded<const N: usize> {
+    pub bytes: ArrayVec<u8, N>,
+}
+
+impl<const N: usize> Bounded<N> {
+    /// Nothing was written yet.
+    pub fn new() -> Bounded<N> {
+        Bounded {
+            bytes: ArrayVec::new(),
+        }
+    }
+}
+
+impl<const N: usize> Write for Bounded<N> {
+    fn write(&mut self, buf: &[u8]) -> io::Result<usize> {
+        for b in buf {
+            let _ = self.bytes.try_push(*b);
+        }
+        Ok(buf.len())
+    }
+
+    fn flush(&mut self) -> io::Result<()> {
+        Ok(())
+    }
+}

@@ -1,0 +1,70 @@
+//! How an end is told: the status, and behind a refusal or a fault its line.
+
+ghost use Rattle.std.specs.Prelude.{◌≡◌, ◌≤◌, IfOk};
+ghost use Rattle.std.specs.Io.KnownBytes.{Appends};
+ghost use Rattle.std.specs.Process.{exit_status};
+ghost use Rattle.gc_lines.specs.Answering.{fault_text};
+ghost use Rattle.gc_texts.specs.Faults.{run_fault_text, Tells};
+ghost use Rattle.gc_messages.specs.Refusals.{range_line, place_line};
+
+use gc_lines::{ServeFault, Served};
+use gc_texts::RunFault;
+use std::io::{self, Write};
+use std::process::ExitCode;
+
+/// A number that is out of its range: that is told.
+pub fn refuse_numbers<E: Write>(messages: &mut E) -> io::Result<ExitCode>
+    ensures status { IfOk result (λ status. exit_status status ≡ 2) }
+    ensures told { IfOk result (λ status. (exit_status status ≡ 2) × Appends (E.contents messages.old) (E.contents messages.new) range_line) }
+{
+    writeln!(
+        messages,
+        "error: a number of the command line is out of its range"
+    )?;
+    Ok(ExitCode::from(2))
+}
+
+/// A word that names no place, of an instrument or of a simulator: that is told.
+pub fn refuse_place<E: Write>(serves: bool, messages: &mut E) -> io::Result<ExitCode>
+    ensures told { IfOk result (λ status. (exit_status status ≡ 2) × Appends (E.contents messages.old) (E.contents messages.new) (place_line serves)) }
+{
+    if serves {
+        writeln!(
+            messages,
+            "error: a simulator is served on a port of 127.0.0.1, from 1 to 65535, or on the path of a device, which has a /"
+        )?;
+    } else {
+        writeln!(
+            messages,
+            "error: a place is a port from 1 to 65535, HOST:PORT, [ADDRESS]:PORT, or the path of a device, which has a /"
+        )?;
+    }
+    Ok(ExitCode::from(2))
+}
+
+/// Tells how a run ended: the status, and after a fault its line.
+pub fn end_of<E: Write>(end: Result<(), RunFault>, messages: &mut E) -> io::Result<ExitCode>
+    ensures told { IfOk result (λ status. Tells run_fault_text end (exit_status status) (E.contents messages.old) (E.contents messages.new)) }
+    ensures bound { IfOk result (λ status. exit_status status ≤ 1) }
+{
+    match end {
+        Ok(()) => Ok(ExitCode::SUCCESS),
+        Err(fault) => {
+            fault.tell(messages)?;
+            Ok(ExitCode::from(1))
+        }
+    }
+}
+
+/// Tells how serving or checking ended.
+pub fn tell_end<E: Write>(end: Result<Served, ServeFault>, messages: &mut E) -> io::Result<ExitCode>
+    ensures told { IfOk result (λ status. Tells fault_text end (exit_status status) (E.contents messages.old) (E.contents messages.new)) }
+{
+    match end {
+        Ok(_) => Ok(ExitCode::SUCCESS),
+        Err(fault) => {
+            writeln!(messages, "geocom: {fault}")?;
+            Ok(ExitCode::from(1))
+        }
+    }
+}

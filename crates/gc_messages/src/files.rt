@@ -1,0 +1,164 @@
+//! What becomes of the files that a station writes while it runs, and how that is told. No record, and nothing that goes out, rests on it.
+
+use gc_links::Moment;
+use std::io::{self, Write};
+
+// How far apart the lines are which say that rows go into a file that its path doesn't lead to, in milliseconds.
+const MINUTE: u64 = 60_000;
+
+/// What became of the log.
+#[derive(Clone, Copy, Debug, PartialEq, Eq)]
+pub enum LogSeen {
+    /// It has all that went and came.
+    Whole,
+    /// It has as many bytes as it may have, and ends.
+    Full,
+    /// It couldn't be written, and ends.
+    Lost,
+}
+
+/// What was seen of the files of a station.
+#[derive(Clone, Copy, Debug, PartialEq, Eq)]
+pub struct FilesSeen {
+    /// The log.
+    pub log: LogSeen,
+    /// How many bytes of a torn line of the log were cut off.
+    pub log_torn: u64,
+    /// How many times the rows went on in a new file, since the path no longer led to the one before.
+    pub moves: u64,
+    /// How many bytes of a torn row the last of these new files had.
+    pub torn: u64,
+    /// The path doesn't lead to the rows' file, and no new one can be had there.
+    pub is_astray: bool,
+}
+
+impl FilesSeen {
+    /// Nothing was seen.
+    pub fn none() -> FilesSeen {
+        FilesSeen {
+            log: LogSeen::Whole,
+            log_torn: 0,
+            moves: 0,
+            torn: 0,
+            is_astray: false,
+        }
+    }
+}
+
+/// What was told of the files of a station.
+#[derive(Clone, Copy)]
+pub struct FilesTold {
+    told: FilesSeen,
+    // When it was told last that the path of the rows leads astray, in milliseconds of the clock for deadlines.
+    astray: Option<u64>,
+}
+
+impl FilesTold {
+    /// Nothing was told yet.
+    pub fn new() -> FilesTold {
+        FilesTold {
+            told: FilesSeen::none(),
+            astray: None,
+        }
+    }
+
+    /// Whether something is to be told now: what is new, and each minute that the rows' path leads astray. It counts as told then.
+    pub fn news(&mut self, seen: FilesSeen, moment: Moment) -> Option<FilesNews> {
+        let is_due = match self.astray {
+            Some(last) => moment.elapsed.saturating_sub(last) >= MINUTE,
+            None => true,
+        };
+        let is_astray = seen.is_astray && is_due;
+        if seen.is_astray == is_astray && seen == self.told && !is_astray {
+            return None;
+        }
+        let news = FilesNews {
+            before: self.told,
+            now: seen,
+            is_astray,
+        };
+        self.told = seen;
+        if is_astray {
+            self.astray = Some(moment.elapsed);
+        }
+        if !seen.is_astray {
+            self.astray = None;
+        }
+        Some(news)
+    }
+}
+
+/// What is to be told of the files of a station.
+#[derive(Clone, Copy)]
+pub struct FilesNews {
+    before: FilesSeen,
+    now: FilesSeen,
+    is_astray: bool,
+}
+
+impl FilesNews {
+    /// Tells it, in a line for each thing.
+    pub fn tell<E: Write>(self, messages: &mut E) -> io::Result<()> {
+        self.tell_log(messages)?;
+        self.tell_moves(messages)?;
+        self.tell_astray(messages)
+    }
+
+    // That the rows go into a file that their path doesn't lead to.
+    fn tell_astray<E: Write>(self, messages: &mut E) -> io::Result<()> {
+        if !self.is_astray {
+            return Ok(());
+        }
+        writeln!(
+            messages,
+            "geocom: the file of rows was moved or deleted, and none can be had at its path: rows still go into the old one"
+        )
+    }
+
+    // What became of the log.
+    fn tell_log<E: Write>(self, messages: &mut E) -> io::Result<()> {
+        self.tell_torn_log(messages)?;
+        if self.now.log == self.before.log {
+            return Ok(());
+        }
+        match self.now.log {
+            LogSeen::Whole => Ok(()),
+            LogSeen::Full => writeln!(
+                messages,
+                "geocom: the log is full: what went or came from here on is left out of it"
+            ),
+            LogSeen::Lost => writeln!(
+                messages,
+                "geocom: the log can't be written, and ends here: the station measures on"
+            ),
+        }
+    }
+
+    // That bytes of a torn line of the log were cut off.
+    fn tell_torn_log<E: Write>(self, messages: &mut E) -> io::Result<()> {
+        let torn = self.now.log_torn;
+        if torn == self.before.log_torn {
+            return Ok(());
+        }
+        writeln!(
+            messages,
+            "geocom: {torn} bytes of a torn line of the log were cut off"
+        )
+    }
+
+    // That the rows go on in a new file.
+    fn tell_moves<E: Write>(self, messages: &mut E) -> io::Result<()> {
+        if self.now.moves == self.before.moves {
+            return Ok(());
+        }
+        writeln!(
+            messages,
+            "geocom: the file of rows was moved or deleted: rows go on in a new one at its path"
+        )?;
+        let torn = self.now.torn;
+        if torn == 0 {
+            return Ok(());
+        }
+        writeln!(messages, "geocom: {torn} bytes of a torn row were cut off")
+    }
+}

@@ -1,0 +1,117 @@
+//! A file of rows that is where its path leads: where it was moved or deleted, rows go on in a new one at that path.
+
+ghost use Rattle.std.specs.Prelude.{◌≡◌, None};
+ghost use Rattle.gc_files.specs.Sinks.{has_failed, is_durable};
+
+use crate::files::FilesSeen;
+use crate::oddity::Noticed;
+use gc_files::{RowsFile, SystemFile, open_at};
+use gc_lines::{Durable, PortFailed, Sink};
+use std::cell::Cell;
+use std::fs::File;
+use std::rt::Files;
+
+/// A file of rows by its path. Between two rows it looks whether the path still leads to the file. Where it doesn't, and a file can
+/// be had there as at the start, the rows go on in that one, behind its head; else they go on in the old one. What became of it is
+/// noted in `noticed`.
+#[derive(Drop)]
+pub struct Followed<'a, R> {
+    rt: &'a R,
+    path: &'a str,
+    /// The file that takes the rows.
+    pub rows: RowsFile<SystemFile>,
+    noticed: &'a Cell<Noticed>,
+}
+
+impl<'a, R: Files<File = File>> Followed<'a, R> {
+    /// A file of rows that was opened at this path.
+    pub fn new(
+        rt: &'a R,
+        path: &'a str,
+        rows: RowsFile<SystemFile>,
+        noticed: &'a Cell<Noticed>,
+    ) -> Followed<'a, R>
+        ensures { result.rows ≡ rows }
+    {
+        Followed {
+            rt,
+            path,
+            rows,
+            noticed,
+        }
+    }
+
+    // Notes what became of the file.
+    fn note(&self, files: FilesSeen) {
+        let seen = self.noticed.get();
+        self.noticed.set(Noticed { files, ..seen });
+    }
+}
+
+impl<'a, R: Files<File = File>> Sink for Followed<'a, R> {
+    ghost taken = { λ _. None };
+
+    ghost failed = { λ f. has_failed f.rows };
+
+    fn write(&mut self, bytes: &[u8]) -> Result<usize, PortFailed> {
+        match self.rows.write(bytes) {
+            Ok(n) => Ok(n),
+            Err(failed) => Err(failed),
+        }
+    }
+
+    fn has_failed(&self) -> bool {
+        self.rows.has_failed()
+    }
+}
+
+impl<'a, R: Files<File = File>> Durable for Followed<'a, R> {
+    ghost is_durable = { λ f. is_durable f.rows };
+
+    // What was written is kept in the file that took it, before the rows go on in another.
+    fn sync(&mut self) -> Result<(), PortFailed> {
+        match self.rows.sync() {
+            Ok(()) => {}
+            Err(failed) => return Err(failed),
+        }
+        let files = self.noticed.get().files;
+        if self.rows.file().is_at(self.rt, self.path) {
+            if files.is_astray {
+                self.note(FilesSeen {
+                    is_astray: false,
+                    ..files
+                });
+            }
+            return Ok(());
+        }
+        let opened = open_at(
+            self.rt,
+            self.path,
+            self.rows.head(),
+            self.rows.sign(),
+            self.rows.is_synced(),
+        );
+        match opened {
+            Ok(rows) => {
+                self.note(FilesSeen {
+                    moves: files.moves.saturating_add(1),
+                    torn: rows.torn(),
+                    is_astray: false,
+                    ..files
+                });
+                self.rows = rows;
+                match self.rows.sync() {
+                    Ok(()) => Ok(()),
+                    Err(failed) => Err(failed),
+                }
+            }
+            Err(_) => {
+                self.note(FilesSeen {
+                    is_astray: true,
+                    ..files
+                });
+                Ok(())
+            }
+        }
+    }
+}

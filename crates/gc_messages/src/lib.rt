@@ -1,0 +1,25 @@
+//! The messages of the program: how an end is told, with the system's reason, and what is noticed of a line, of its connection and of
+//! files; and the standard streams, one of which takes them.
+#![tactic(auto)]
+
+mod bounded;
+mod ending;
+mod files;
+mod following;
+mod lossy;
+mod noting;
+mod oddity;
+mod standard;
+mod streams;
+mod turns;
+
+pub use bounded::Bounded;
+pub use ending::{end_of, refuse_numbers, refuse_place, tell_end};
+pub use files::{FilesNews, FilesSeen, FilesTold, LogSeen};
+pub use following::Followed;
+pub use lossy::Lossy;
+pub use noting::Noting;
+pub use oddity::{Noticed, Noticing, Oddities, Spot, tell_place};
+pub use standard::{Places, Standard};
+pub use streams::Streams;
+pub use turns::tell_turns;

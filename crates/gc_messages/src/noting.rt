@@ -1,0 +1,196 @@
+//! The system's reasons: a runtime that notes which path or address the system refused last, and why.
+
+ghost use Rattle.std.specs.Prelude.{◌≡◌, ◌≤◌, Ok, length, IfOk};
+
+use crate::bounded::Bounded;
+use crate::standard::Standard;
+use std::alloc::Allocator;
+use std::cell::Cell;
+use std::fs::{Files, Metadata, OpenOptions};
+use std::io::{self, Write};
+use std::net::{Net, SocketAddr};
+use std::process::ExitCode;
+use std::time::{Clock, Duration};
+
+// What was refused, as far as there is room for its name, and why.
+#[derive(Drop)]
+struct Refusal {
+    name: Bounded<120>,
+    why: io::Error,
+}
+
+/// A runtime that notes the last error of the one inside at a path or an address. The next success at any of
+/// them clears the note.
+#[derive(Drop)]
+pub struct Noting<'a, R> {
+    rt: &'a R,
+    last: Cell<Option<Refusal>>,
+}
+
+impl<'a, R> Noting<'a, R> {
+    /// Nothing was refused yet.
+    pub fn new(rt: &'a R) -> Noting<'a, R> {
+        Noting {
+            rt,
+            last: Cell::new(None),
+        }
+    }
+
+    // Notes the outcome of a call on a path: that it succeeded, or the system's error.
+    fn note<T: Drop>(&self, path: &str, had: io::Result<T>) -> io::Result<T> {
+        match had {
+            Ok(had) => {
+                self.last.set(None);
+                Ok(had)
+            }
+            Err(why) => {
+                let mut name = Bounded::new();
+                let _ = write!(name, "{path}");
+                self.last.set(Some(Refusal { name, why }));
+                Err(why)
+            }
+        }
+    }
+
+    // Notes the outcome of a call on an address, as `note` does on a path.
+    fn note_at<T: Drop>(&self, address: SocketAddr, had: io::Result<T>) -> io::Result<T> {
+        match had {
+            Ok(had) => {
+                self.last.set(None);
+                Ok(had)
+            }
+            Err(why) => {
+                let mut name = Bounded::new();
+                let _ = write!(name, "{address}");
+                self.last.set(Some(Refusal { name, why }));
+                Err(why)
+            }
+        }
+    }
+
+    /// Clears the note, so that an old error isn't told as the reason of the next fault.
+    pub fn forget(&self) {
+        self.last.set(None);
+    }
+
+    /// Tells behind a fault what the system refused last, and why, where nothing was had since, and there is a place for messages. The
+    /// status stays.
+    pub fn tell<E: Write>(
+        &self,
+        standard: Standard,
+        ended: io::Result<ExitCode>,
+        messages: &mut E,
+    ) -> io::Result<ExitCode>
+        ensures { IfOk result (λ status. ended ≡ Ok status) }
+    {
+        let status = ended?;
+        if standard.messages && status != ExitCode::SUCCESS {
+            // Where that can't be written the fault's line stands all the same.
+            let _ = self.write(messages);
+        }
+        Ok(status)
+    }
+
+    // The line of what was refused last, where there is one.
+    fn write<E: Write>(&self, messages: &mut E) -> io::Result<()> {
+        match self.last.take() {
+            Some(refusal) => {
+                let why = refusal.why;
+                write!(messages, "geocom: ")?;
+                messages.write_all(refusal.name.bytes.as_slice())?;
+                writeln!(messages, ": {why}")
+            }
+            None => Ok(()),
+        }
+    }
+}
+
+impl<'a, R: Clock> Clock for Noting<'a, R> {
+    fn monotonic(&self) -> io::Result<Duration> {
+        self.rt.monotonic()
+    }
+
+    fn since_1970(&self) -> io::Result<Duration> {
+        self.rt.since_1970()
+    }
+
+    fn sleep(&self, duration: Duration) {
+        self.rt.sleep(duration)
+    }
+}
+
+impl<'a, R: Net> Net for Noting<'a, R> {
+    type Stream = R::Stream;
+
+    type Listener = R::Listener;
+
+    fn bind(&self, addr: SocketAddr) -> io::Result<R::Listener> {
+        self.note_at(addr, self.rt.bind(addr))
+    }
+
+    fn connect(&self, addr: SocketAddr) -> io::Result<R::Stream> {
+        self.note_at(addr, self.rt.connect(addr))
+    }
+
+    fn connect_timeout(&self, addr: SocketAddr, timeout: Duration) -> io::Result<R::Stream> {
+        self.note_at(addr, self.rt.connect_timeout(addr, timeout))
+    }
+
+    fn lookup_host(&self, host: &str, port: u16, found: &mut [SocketAddr]) -> io::Result<usize>
+        ensures in_bounds { IfOk result (λ n. n ≤ length found.new) }
+    {
+        match self.rt.lookup_host(host, port, found) {
+            Ok(n) => Ok(n),
+            Err(why) => {
+                let _ = self.note(host, Err::<(), io::Error>(why));
+                Err(why)
+            }
+        }
+    }
+}
+
+impl<'a, R: Files> Files for Noting<'a, R> {
+    type File = R::File;
+
+    type Dir = R::Dir;
+
+    fn open_file(&self, how: &OpenOptions, path: &str) -> io::Result<R::File> {
+        self.note(path, self.rt.open_file(how, path))
+    }
+
+    fn open_dir(&self, path: &str) -> io::Result<R::Dir> {
+        self.note(path, self.rt.open_dir(path))
+    }
+
+    fn metadata(&self, path: &str) -> io::Result<Metadata> {
+        self.rt.metadata(path)
+    }
+
+    fn symlink_metadata(&self, path: &str) -> io::Result<Metadata> {
+        self.rt.symlink_metadata(path)
+    }
+
+    fn copy(&self, from: &str, to: &str) -> io::Result<u64> {
+        self.rt.copy(from, to)
+    }
+
+    fn rename(&self, from: &str, to: &str) -> io::Result<()> {
+        self.rt.rename(from, to)
+    }
+
+    fn remove_file(&self, path: &str) -> io::Result<()> {
+        self.rt.remove_file(path)
+    }
+
+    fn create_dir(&self, path: &str) -> io::Result<()> {
+        self.rt.create_dir(path)
+    }
+
+    fn remove_dir(&self, path: &str) -> io::Result<()> {
+        self.rt.remove_dir(path)
+    }
+
+    fn remove_dir_all<B: Allocator>(&self, alloc: B, path: &str) -> io::Result<()> {
+        self.rt.remove_dir_all(alloc, path)
+    }
+}

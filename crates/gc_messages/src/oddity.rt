@@ -1,0 +1,211 @@
+//! What is noticed of a line beside its replies: what is odd about it, as what comes over it shows (it sends requests back, or it changes
+//! the ends of lines), and whether its connection was lost. Beside it stands what became of the station's files.
+
+ghost use Rattle.std.specs.Prelude.{◌≡◌};
+
+use crate::files::FilesSeen;
+use gc_lines::PortFailed;
+use gc_links::{Came, Link, Moment, Place};
+use gc_texts::RunFault;
+use std::cell::Cell;
+use std::io::{self, Write};
+
+/// What is odd about a line.
+#[derive(Clone, Copy, Debug, PartialEq, Eq)]
+pub struct Oddities {
+    /// It sends back what goes out.
+    pub echoes: bool,
+    /// It changes CR to LF, or takes it away.
+    pub bare: bool,
+}
+
+impl Oddities {
+    /// Nothing was noticed.
+    pub fn none() -> Oddities {
+        Oddities {
+            echoes: false,
+            bare: false,
+        }
+    }
+}
+
+/// What was noticed of a line, of its connection, and of the files of who measures over it.
+#[derive(Clone, Copy, Debug, PartialEq, Eq)]
+pub struct Noticed {
+    /// What is odd about the line.
+    pub odd: Oddities,
+    /// Whether the last connection ended or failed, or couldn't be made. One that the station closed did none of these.
+    pub is_lost: bool,
+    /// The fault for which the run stopped, where it did.
+    pub fault: Option<RunFault>,
+    /// What became of the files.
+    pub files: FilesSeen,
+}
+
+impl Noticed {
+    /// Nothing was noticed.
+    pub fn nothing() -> Noticed {
+        Noticed {
+            odd: Oddities::none(),
+            is_lost: false,
+            fault: None,
+            files: FilesSeen::none(),
+        }
+    }
+}
+
+/// Where a station measures, and what is noticed there.
+#[derive(Clone, Copy)]
+pub struct Spot<'a> {
+    pub place: Place<'a>,
+    pub noticed: &'a Cell<Noticed>,
+}
+
+impl<'a> Spot<'a> {
+    /// Notes for which fault the run stopped.
+    pub fn stop(self, fault: RunFault) {
+        let seen = self.noticed.get();
+        self.noticed.set(Noticed {
+            fault: Some(fault),
+            ..seen
+        });
+    }
+
+    /// Whether no run stopped, or one for a place that couldn't be had.
+    pub fn is_unreached(self) -> bool {
+        match self.noticed.get().fault {
+            None => true,
+            Some(fault) => matches!(
+                fault,
+                RunFault::Socket | RunFault::Forbidden | RunFault::NoTerminal
+            ),
+        }
+    }
+
+    /// Adds to the fault's line the place and the reason, where the run stopped for one of the faults that [`tell_place`] explains.
+    pub fn tell<E: Write>(self, messages: &mut E) -> io::Result<()> {
+        match self.noticed.get().fault {
+            Some(fault) => tell_place(self.place, fault, messages),
+            None => Ok(()),
+        }
+    }
+}
+
+/// Writes the place and a reason in words, for the faults of a connection that come without an error of the system's. For any other fault
+/// it writes nothing.
+pub fn tell_place<E: Write>(place: Place<'_>, fault: RunFault, messages: &mut E) -> io::Result<()> {
+    let why = match fault {
+        RunFault::LinkClosed => "the connection ended",
+        RunFault::Mute => "no reply came any more",
+        RunFault::Write { .. } => "a write failed",
+        RunFault::NoTerminal => "it is no terminal",
+        RunFault::Held => "another program holds it",
+        _ => return Ok(()),
+    };
+    writeln!(messages, "geocom: {place}: {why}")
+}
+
+// The longest read of a link, in milliseconds: so often a station is looked at.
+const LOOK: u64 = 1_000;
+
+/// A link that notices what is odd about its line, and what becomes of its connection. Its acts are those of the link inside. A read
+/// of it lasts no longer than a second.
+#[derive(Drop)]
+pub struct Noticing<'a, L> {
+    /// The link inside.
+    pub link: L,
+    seen: &'a Cell<Noticed>,
+    // The first bytes of the line that comes, how many there are, and its last byte so far.
+    front: [u8; 4],
+    count: usize,
+    last: u8,
+}
+
+impl<'a, L: Link> Noticing<'a, L> {
+    /// A link over which nothing came yet.
+    pub fn new(link: L, seen: &'a Cell<Noticed>) -> Noticing<'a, L>
+        ensures { result.link ≡ link }
+    {
+        Noticing {
+            link,
+            seen,
+            front: [0; 4],
+            count: 0,
+            last: 0,
+        }
+    }
+}
+
+impl<'a, L> Noticing<'a, L> {
+    // Looks at what came.
+    fn look(&mut self, bytes: &[u8])
+        ensures { self.new.link ≡ self.old.link }
+    {
+        for b in bytes {
+            if *b == b'\n' {
+                self.judge();
+                self.count = 0;
+            } else if self.count < self.front.len() {
+                self.front[self.count] = *b;
+                self.count += 1;
+            }
+            self.last = *b;
+        }
+    }
+
+    // Looks at a line that is at its end.
+    fn judge(&self) {
+        let seen = self.seen.get();
+        let odd = seen.odd;
+        if self.count == self.front.len() {
+            let odd = Oddities {
+                echoes: odd.echoes || self.front == *b"%R1Q",
+                bare: odd.bare || self.front == *b"%R1P" && self.last != b'\r',
+            };
+            self.seen.set(Noticed { odd, ..seen });
+        }
+    }
+
+    // Notes whether the connection was lost, or couldn't be made.
+    fn note(&self, is_lost: bool) {
+        let seen = self.seen.get();
+        self.seen.set(Noticed { is_lost, ..seen });
+    }
+}
+
+impl<'a, L: Link> Link for Noticing<'a, L> {
+    ghost acts = { λ n. L.acts n.link };
+
+    fn now(&mut self) -> Result<Moment, PortFailed> {
+        self.link.now()
+    }
+
+    fn read(&mut self, buf: &mut [u8], millis: u64) -> Came {
+        let came = self.link.read(buf, millis.min(LOOK));
+        match came {
+            Came::Bytes(n, _) => self.look(&buf[..n]),
+            Came::End | Came::Failure => self.note(true),
+            Came::Silence(_) | Came::NoMoment => {}
+        }
+        came
+    }
+
+    fn put(&mut self, bytes: &[u8]) -> Result<(), usize> {
+        let put = self.link.put(bytes);
+        if put.is_err() {
+            self.note(true);
+        }
+        put
+    }
+
+    fn close(&mut self) {
+        self.count = 0;
+        self.link.close();
+    }
+
+    fn open(&mut self) -> Result<(), PortFailed> {
+        let opened = self.link.open();
+        self.note(opened.is_err());
+        opened
+    }
+}

@@ -1,0 +1,91 @@
+//! The three standard streams: which of them are open, and what takes the places of those that aren't. A socket that is opened
+//! while one is closed takes its place, and gets what is written there.
+
+ghost use Rattle.std.specs.Prelude.{◌≡◌, ◌≤◌, IfOk};
+ghost use Rattle.std.specs.Process.{exit_status};
+ghost use Rattle.gc_messages.specs.Streams.{are_open, TellsClosed};
+
+use gc_texts::RunFault;
+use std::fs::{Files, OpenOptions};
+use std::io::{self, IsTerminal, Write};
+use std::os::fd::AsFd;
+use std::process::ExitCode;
+
+/// Which of the standard streams are open, and whether somebody reads the messages at a terminal.
+#[derive(Clone, Copy, Debug, PartialEq, Eq)]
+pub struct Standard {
+    pub input: bool,
+    pub output: bool,
+    pub messages: bool,
+    /// Whether the messages go to a terminal, and the output to none.
+    pub terminal: bool,
+}
+
+impl Standard {
+    /// Looks which of these are open, and which a terminal. It changes none, and opens nothing that stays open.
+    pub fn look<I: AsFd, O: AsFd, E: AsFd>(input: &I, output: &O, messages: &E) -> Standard {
+        Standard {
+            input: is_open(input),
+            output: is_open(output),
+            messages: is_open(messages),
+            terminal: messages.as_fd().is_terminal() && !output.as_fd().is_terminal(),
+        }
+    }
+
+    /// Whether all of them are open.
+    pub fn are_open(self) -> bool
+        ensures { result ≡ are_open self }
+    {
+        self.input && self.output && self.messages
+    }
+
+    /// Opens `/dev/null` for each stream that is closed. It takes that stream's place, since the system gives a file the lowest
+    /// place that is free, and holds it until it is dropped.
+    pub fn fill<R: Files>(self, rt: &R) -> io::Result<Places<R::File>> {
+        Ok(Places {
+            input: null_for(rt, self.input)?,
+            output: null_for(rt, self.output)?,
+            messages: null_for(rt, self.messages)?,
+        })
+    }
+
+    /// Ends a command with status 1 because a standard stream is closed, and says so where the messages are open.
+    pub fn refuse<E: Write>(self, messages: &mut E) -> io::Result<ExitCode>
+        ensures told { IfOk result (λ status. TellsClosed self (exit_status status) (E.contents messages.old) (E.contents messages.new)) }
+        ensures bound { IfOk result (λ status. exit_status status ≤ 1) }
+    {
+        if self.messages {
+            RunFault::StreamClosed.tell(messages)?;
+        }
+        Ok(ExitCode::from(1))
+    }
+}
+
+/// What holds the places of the streams that are closed.
+#[derive(Drop)]
+pub struct Places<F> {
+    input: Option<F>,
+    output: Option<F>,
+    messages: Option<F>,
+}
+
+// Whether a stream is open: then a second handle of it can be had, which is given back at once. It is none of the three first
+// ones, so it is in nobody's place.
+fn is_open<F: AsFd>(stream: &F) -> bool {
+    match stream.as_fd().try_clone_to_owned() {
+        Ok(_) => true,
+        Err(_) => false,
+    }
+}
+
+// A file that takes all, and gives nothing, where a stream is closed.
+fn null_for<R: Files>(rt: &R, is_open: bool) -> io::Result<Option<R::File>> {
+    if is_open {
+        return Ok(None);
+    }
+    let null = OpenOptions::new()
+        .read(true)
+        .write(true)
+        .open(rt, "/dev/null")?;
+    Ok(Some(null))
+}

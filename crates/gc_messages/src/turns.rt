@@ -1,0 +1,68 @@
+//! Angles outside one turn: a station tells them at its start, since an angle in gon or in degrees looks so. Angles are in radians.
+
+use gc_catalogue::Call;
+use gc_texts::Task;
+use gc_values::Decimal;
+use std::io::{self, Write};
+
+// 2π, cut after 24 places. No decimal has more places, so exactly those above 2π are above this.
+fn turn() -> Decimal {
+    Decimal::literal(6_283_185_307_179_586_476_925_286, 24)
+}
+
+// -2π, cut so.
+fn turn_back() -> Decimal {
+    Decimal::literal(-6_283_185_307_179_586_476_925_286, 24)
+}
+
+// Whether a horizontal angle is beyond one turn, either way.
+fn is_far_round(hz: Decimal) -> bool {
+    hz > turn() || hz < turn_back()
+}
+
+// Whether a vertical angle is not from 0 to one turn.
+fn is_no_vertical(v: Decimal) -> bool {
+    v > turn() || v < Decimal::zero()
+}
+
+/// Tells each angle outside one turn that a positioning of a text has, with its line. These are the tasks of the text.
+pub fn tell_turns<E: Write>(text: &[u8], tasks: &[Task], messages: &mut E) -> io::Result<()> {
+    let mut tasks = tasks.iter();
+    let mut line = 1u32;
+    let mut begins = true;
+    for byte in text {
+        // A command's line begins with a digit of its target, and no other line does. So the tasks are those of such lines, in order.
+        if begins && byte.is_ascii_digit() {
+            if let Some(task) = tasks.next() {
+                tell_turn(line, task, messages)?;
+            }
+        }
+        begins = *byte == b'\n';
+        if begins {
+            line = line.saturating_add(1);
+        }
+    }
+    Ok(())
+}
+
+// Tells what lies outside one turn where the task of this line is a positioning.
+fn tell_turn<E: Write>(line: u32, task: &Task, messages: &mut E) -> io::Result<()> {
+    let Call::Position { hz, v, .. } = task.command.call else {
+        return Ok(());
+    };
+    if is_far_round(hz) {
+        tell_angle(line, "HZ", hz, messages)?;
+    }
+    if is_no_vertical(v) {
+        tell_angle(line, "V", v, messages)?;
+    }
+    Ok(())
+}
+
+// The line of such an angle.
+fn tell_angle<E: Write>(line: u32, name: &str, angle: Decimal, messages: &mut E) -> io::Result<()> {
+    writeln!(
+        messages,
+        "geocom: line {line}: {name} {angle} lies outside one turn in radians: it looks like gon or degrees"
+    )
+}

@@ -1,0 +1,47 @@
+-- What becomes of a schedule that a source gives, and what is told of it: this project's own.
+use Rattle.std.specs.Prelude.{◌≡◌, ℕ, ◌<◌, ◌⊎◌, true, List, Option, Result}
+use Rattle.std.specs.Io.KnownBytes.{Consumes, Appends, IsAtEnd}
+use Rattle.gc_messages.specs.Refusals.{range_line}
+use Rattle.gc_subcommands.specs.Scenes.{AreUnused, RefusesScene, IsOfScene}
+use Rattle.gc_subcommands.specs.declared.drill.Drilling.{Drilling}
+use Rattle.gc_engines.specs.Drill.{drill_text_on, DrillsOn, source_failed, sink_failed}
+use Rattle.gc_engines.specs.Schedule.{IsSchedule}
+use Rattle.gc_instrument.specs.State.{State}
+use Rattle.gc_lines.specs.Answering.{Ports}
+use Rattle.gc_texts.specs.Faults.{run_fault_text, Tells}
+use Rattle.gc_texts.specs.declared.fault.RunFault.{RunFault}
+use Rattle.gc_world.specs.declared.event.Event.{Event}
+
+-- what became of a schedule on an instrument that began so, and that the status and the messages tell it
+pub record TellsSchedule (start : State) (asked : Drilling) (old new : Ports) (status : ℕ) (told told' : Option (List ℕ)) : Type 0 where
+  pub end : Result (Unit {0}) RunFault
+  pub given : List ℕ
+  pub gave : Consumes old.remaining new.remaining given
+  pub drills : DrillsOn start asked.width given asked.totals old.taken new.taken end
+  pub source : new.source_failed ≡ source_failed end old.source_failed
+  pub sink : new.sink_failed ≡ sink_failed end old.sink_failed
+  pub tells : Tells run_fault_text end status told told'
+
+-- the width is out of its range, which is told with status 2, and nothing was read or written
+pub record RefusesWidth (old new : Ports) (status : ℕ) (told told' : Option (List ℕ)) : Type 0 where
+  pub is : status ≡ 2
+  pub tells : Appends told told' range_line
+  pub unused : AreUnused old new
+
+-- what became of a schedule, or that its width was refused
+abbrev pub TellsWithin : State → Drilling → Ports → Ports → ℕ → Option (List ℕ) → Option (List ℕ) → Type 0
+TellsWithin start asked old new status told told' = RefusesWidth old new status told told' ⊎ TellsSchedule start asked old new status told told'
+
+-- the scene was refused, or the width was; or what became of the schedule on the instrument of the scene
+abbrev pub TellsDrill : Drilling → Ports → Ports → ℕ → Option (List ℕ) → Option (List ℕ) → Type 0
+TellsDrill asked old new status told told' =
+    RefusesScene asked.scene old new status told told' ⊎ ((start : State) × IsOfScene asked.scene start × TellsWithin start asked old new status told told')
+
+-- the sink took the output of the events of the schedule that a source gave
+abbrev pub PlaysWhole : State → Drilling → Ports → Ports → Type 0
+PlaysWhole start asked old new = (given : List ℕ) × Consumes old.remaining new.remaining given
+    × ((events : List Event) × IsSchedule given events × Appends old.taken new.taken (drill_text_on start asked.width events asked.totals))
+
+-- the last read was the end, and the source has no byte left
+abbrev pub AreReadWhole : Ports → Ports → Type 0
+AreReadWhole old new = IsAtEnd new.remaining × (new.ended ≡ true) × (old.reads < new.reads)

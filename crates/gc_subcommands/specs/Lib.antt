@@ -1,0 +1,3 @@
+pub mod Drills
+pub mod Scenes
+pub mod Serves

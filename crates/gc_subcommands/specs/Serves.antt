@@ -1,0 +1,42 @@
+-- What `exec` and `check` tell of how their loop over frames ended: this project's own.
+use Rattle.std.specs.Prelude.{◌≡◌, ℕ, ◌+◌, ◌<◌, ◌⊎◌, ◌↔◌, Bool, true, false, List, Option, Result}
+use Rattle.gc_subcommands.specs.Scenes.{RefusesScene, IsOfScene}
+use Rattle.gc_engines.specs.Checking.{IsChecking}
+use Rattle.gc_engines.specs.LogChecking.{IsCheckingLog}
+use Rattle.gc_instrument.specs.Serving.{IsServing}
+use Rattle.gc_instrument.specs.State.{State}
+use Rattle.gc_lines.specs.Answering.{Ports, fault_text}
+use Rattle.gc_lines.specs.declared.served.Served.{Served}
+use Rattle.gc_lines.specs.declared.served.ServeFault.{ServeFault}
+use Rattle.gc_texts.specs.Faults.{Tells}
+
+-- what an instrument that began so served, why it ended, and that the status and the messages tell it
+pub record TellsServing (start : State) (old new : Ports) (status : ℕ) (told told' : Option (List ℕ)) : Type 0 where
+  pub end : Result Served ServeFault
+  pub after : State
+  pub serves : IsServing start after old new 4294967295 end
+  pub tells : Tells fault_text end status told told'
+
+-- the scene was refused, or what was served by the instrument of the scene
+abbrev pub TellsExec : {Name : Type 0} → Option Name → Ports → Ports → ℕ → Option (List ℕ) → Option (List ℕ) → Type 0
+TellsExec scene old new status told told' =
+    RefusesScene scene old new status told told' ⊎ ((start : State) × IsOfScene scene start × TellsServing start old new status told told')
+
+-- what was checked, of a log or of a stream, and with which result
+abbrev pub ChecksInput : Bool → Ports → Ports → Result Served ServeFault → Type 0
+ChecksInput true old new end = IsCheckingLog old new 4294967295 end
+ChecksInput false old new end = IsChecking old new 4294967295 end
+
+-- what was checked, why it ended, and that the status and the messages tell it
+pub record TellsChecking (log : Bool) (old new : Ports) (status : ℕ) (told told' : Option (List ℕ)) : Type 0 where
+  pub end : Result Served ServeFault
+  pub checks : ChecksInput log old new end
+  pub tells : Tells fault_text end status told told'
+
+-- status 0 exactly where the last read was the end
+abbrev pub IsDoneAtEnd : Ports → Ports → ℕ → Type 0
+IsDoneAtEnd old new status = (status ≡ 0) ↔ ((old.reads < new.reads) × (new.ended ≡ true))
+
+-- status 1 only where a port failed, or all reads that a u32 counts were used up
+abbrev pub FailsByPorts : Ports → Ports → ℕ → Type 0
+FailsByPorts old new status = status ≡ 1 → (new.source_failed ≡ true) ⊎ ((new.sink_failed ≡ true) ⊎ (new.reads ≡ old.reads + 4294967295))

@@ -1,0 +1,58 @@
+//! `geocom ask`: its words, and commands that are asked at a place.
+
+ghost use Rattle.std.specs.Prelude.{◌≤◌, IfOk};
+ghost use Rattle.std.specs.Process.{exit_status};
+
+use clap::Command;
+use gc_ask::ask_at;
+use gc_lines::{Sink, Source};
+use gc_links::Place;
+use gc_messages::{end_of, tell_place};
+use gc_words::help::COMMANDS;
+use gc_words::{Argument, PLACE, command_of};
+use std::alloc::{AllocError, Global};
+use std::fs::File;
+use std::io::{self, Write};
+use std::net::{Net, TcpListener, TcpStream};
+use std::process::ExitCode;
+use std::rt::Files;
+use std::time::Clock;
+
+// Its arguments.
+const ARGUMENTS: &[Argument<'static>] = &[PLACE];
+
+/// The words of `ask`.
+pub fn ask_command<'a>(alloc: Global, name: &'a str) -> Result<Command<'a>, AllocError> {
+    command_of(
+        alloc,
+        name,
+        "Asks the commands of standard input at a place",
+        COMMANDS,
+        ARGUMENTS,
+    )
+}
+
+/// Asks at a place, and tells how it ended.
+pub fn ask_place<
+    R: Net<Listener = TcpListener, Stream = TcpStream> + Files<File = File> + Clock,
+    S: Source,
+    K: Sink,
+    E: Write,
+>(
+    rt: &R,
+    alloc: Global,
+    place: Place<'_>,
+    source: &mut S,
+    sink: &mut K,
+    messages: &mut E,
+) -> io::Result<ExitCode>
+    ensures { IfOk result (λ status. exit_status status ≤ 1) }
+{
+    let end = ask_at(rt, alloc, place, source, sink, u32::MAX);
+    let ended = end_of(end, messages);
+    if let Err(fault) = end {
+        // Where that can't be written the fault's line stands all the same.
+        let _ = tell_place(place, fault, messages);
+    }
+    ended
+}

@@ -1,0 +1,78 @@
+//! `geocom check`: its words, and what it says of a stream, or of a log.
+
+ghost use Rattle.std.specs.Prelude.{◌≤◌, IfOk};
+ghost use Rattle.std.specs.Process.{exit_status};
+ghost use Rattle.gc_subcommands.specs.Serves.{ChecksInput, TellsChecking, IsDoneAtEnd};
+ghost use Rattle.gc_lines.specs.Answering.{ports_of, HasEnded};
+
+use clap::Command;
+use gc_engines::{run_check, run_check_log};
+use gc_lines::{ServeFault, Served, Sink, Source};
+use gc_messages::tell_end;
+use gc_words::help::VERDICTS;
+use gc_words::{Argument, FLAG, command_of};
+use std::alloc::{AllocError, Global};
+use std::io::{self, Write};
+use std::process::ExitCode;
+
+// Its arguments.
+const ARGUMENTS: &[Argument<'static>] = &[Argument {
+    name: "log",
+    help: "Reads a log that `station --log` wrote",
+    ..FLAG
+}];
+
+/// The words of `check`.
+pub fn check_command<'a>(alloc: Global, name: &'a str) -> Result<Command<'a>, AllocError> {
+    command_of(
+        alloc,
+        name,
+        "Says of each frame of standard input what it is, or what is wrong with it",
+        VERDICTS,
+        ARGUMENTS,
+    )
+}
+
+/// Checks a log, or a stream, and tells how it ended.
+pub fn check<S: Source, K: Sink, E: Write>(
+    log: bool,
+    source: &mut S,
+    sink: &mut K,
+    messages: &mut E,
+) -> io::Result<ExitCode>
+    // What was checked, why it ended, and that the messages and the status tell it.
+    ensures told { IfOk result (λ status. TellsChecking log
+        (ports_of S.Source source.old K.Sink sink.old)
+        (ports_of S.Source source.new K.Sink sink.new)
+        (exit_status status) (E.contents messages.old) (E.contents messages.new)) }
+
+    // Status 0 exactly where the last read was the end.
+    ensures done { IfOk result (λ status. IsDoneAtEnd
+        (ports_of S.Source source.old K.Sink sink.old)
+        (ports_of S.Source source.new K.Sink sink.new)
+        (exit_status status)) }
+    ensures bound { IfOk result (λ status. exit_status status ≤ 1) }
+{
+    tell_end(check_input(log, source, sink), messages)
+}
+
+// Checks a log, or a stream.
+fn check_input<S: Source, K: Sink>(
+    log: bool,
+    source: &mut S,
+    sink: &mut K,
+) -> Result<Served, ServeFault>
+    ensures checks { ChecksInput log
+        (ports_of S.Source source.old K.Sink sink.old)
+        (ports_of S.Source source.new K.Sink sink.new)
+        result }
+    ensures ended { HasEnded
+        (ports_of S.Source source.old K.Sink sink.old)
+        (ports_of S.Source source.new K.Sink sink.new)
+        4294967295 result }
+{
+    match log {
+        true => run_check_log(source, sink, u32::MAX),
+        false => run_check(source, sink, u32::MAX),
+    }
+}

@@ -1,0 +1,185 @@
+//! `geocom drill`: its words, and a schedule of standard input that is played on an instrument.
+
+ghost use Rattle.std.specs.Prelude.{◌≡◌, ◌≤◌, IfOk};
+ghost use Rattle.std.specs.Process.{exit_status};
+ghost use Rattle.gc_subcommands.specs.Drills.{TellsSchedule, TellsWithin, TellsDrill, PlaysWhole, AreReadWhole};
+ghost use Rattle.gc_subcommands.specs.Scenes.{IsOfScene};
+ghost use Rattle.gc_instrument.specs.State.{State};
+ghost use Rattle.gc_lines.specs.Answering.{ports_of};
+
+use crate::scene::instrument_of;
+use clap::{ArgMatches, Command};
+use gc_client::WINDOW;
+use gc_engines::run_drill_on;
+use gc_instrument::Instrument;
+use gc_lines::{Sink, Source};
+use gc_messages::{end_of, refuse_numbers};
+use gc_words::help::EVENTS;
+use gc_words::{Argument, FLAG, SCENE, Takes, command_of};
+use std::alloc::{AllocError, Global};
+use std::fs::Files;
+use std::io::{self, Write};
+use std::process::ExitCode;
+
+/// What the words of `drill` ask for: on the instrument of which scene, whether with totals, and with how many requests that may
+/// wait.
+#[derive(Clone, Copy)]
+pub struct Drilling<'a> {
+    pub scene: Option<&'a str>,
+    pub totals: bool,
+    pub width: u8,
+}
+
+// Its arguments.
+const ARGUMENTS: &[Argument<'static>] = &[
+    Argument {
+        name: "totals",
+        help: "Writes a line of totals behind the settlements",
+        ..FLAG
+    },
+    Argument {
+        name: "width",
+        takes: Takes::Signed(1, 7),
+        value_name: &["W"],
+        default: &["7"],
+        help: "Lets so many requests wait: a send beyond them is refused",
+        ..FLAG
+    },
+    SCENE,
+];
+
+/// The words of `drill`.
+pub fn drill_command<'a>(alloc: Global, name: &'a str) -> Result<Command<'a>, AllocError> {
+    command_of(
+        alloc,
+        name,
+        "Plays the schedule of standard input, and writes a line for each settlement",
+        EVENTS,
+        ARGUMENTS,
+    )
+}
+
+/// What the words of `drill` say.
+pub fn drilling_of<'a>(words: &ArgMatches<'a>) -> Drilling<'a> {
+    Drilling {
+        scene: words.get_str("scene"),
+        totals: words.get_flag("totals"),
+        width: words.get_one::<u8>("width").unwrap_or(0),
+    }
+}
+
+/// Reads the scene, plays a schedule on its instrument, and tells how it ended.
+pub fn drill_scene<R: Files, S: Source, K: Sink, E: Write>(
+    rt: &R,
+    alloc: Global,
+    drilling: Drilling<'_>,
+    source: &mut S,
+    sink: &mut K,
+    messages: &mut E,
+) -> io::Result<ExitCode>
+    // Either the scene was refused, which is told, and nothing was read or written; or the width was; or what became of the schedule
+    // on the instrument, which is the simulator where no scene is named.
+    ensures told { IfOk result (λ status. TellsDrill drilling.entry
+        (ports_of S.Source source.old K.Sink sink.old)
+        (ports_of S.Source source.new K.Sink sink.new)
+        (exit_status status) (E.contents messages.old) (E.contents messages.new)) }
+
+    // A width from 1 to 7 isn't refused.
+    ensures width { 1 ≤ drilling.entry.width → drilling.entry.width ≤ WINDOW → IfOk result (λ status. exit_status status ≤ 1) }
+
+    // Status 0 only where the sink took the output of the text's events, on the simulator where no scene is named.
+    ensures done { IfOk result (λ status. exit_status status ≡ 0 → (start : State) × IsOfScene drilling.entry.scene start × PlaysWhole start drilling.entry
+        (ports_of S.Source source.old K.Sink sink.old)
+        (ports_of S.Source source.new K.Sink sink.new)) }
+
+    // Status 0 only where the last read was the end, and the source has no byte left.
+    ensures whole { IfOk result (λ status. exit_status status ≡ 0 → AreReadWhole
+        (ports_of S.Source source.old K.Sink sink.old)
+        (ports_of S.Source source.new K.Sink sink.new)) }
+    ensures bound { IfOk result (λ status. exit_status status ≤ 2) }
+{
+    match instrument_of(rt, alloc, drilling.scene) {
+        Ok(instrument) => drill_within(alloc, instrument, drilling, source, sink, messages),
+        Err(fault) => end_of(Err(fault), messages),
+    }
+}
+
+// Plays a schedule, and tells how it ended. A width out of its range, which clap refuses by no clause, is refused here.
+fn drill_within<S: Source, K: Sink, E: Write>(
+    alloc: Global,
+    instrument: Instrument,
+    drilling: Drilling<'_>,
+    source: &mut S,
+    sink: &mut K,
+    messages: &mut E,
+) -> io::Result<ExitCode>
+    // Either status 2 behind a refused number's line, and nothing was read or written; or what became of the schedule.
+    ensures told { IfOk result (λ status. TellsWithin instrument drilling.entry
+        (ports_of S.Source source.old K.Sink sink.old)
+        (ports_of S.Source source.new K.Sink sink.new)
+        (exit_status status) (E.contents messages.old) (E.contents messages.new)) }
+
+    // A width from 1 to 7 isn't refused.
+    ensures width { 1 ≤ drilling.entry.width → drilling.entry.width ≤ WINDOW → IfOk result (λ status. exit_status status ≤ 1) }
+
+    // Status 0 only where the sink took the output of the text's events.
+    ensures done { IfOk result (λ status. exit_status status ≡ 0 → PlaysWhole instrument drilling.entry
+        (ports_of S.Source source.old K.Sink sink.old)
+        (ports_of S.Source source.new K.Sink sink.new)) }
+
+    // Status 0 only where the last read was the end, and the source has no byte left.
+    ensures whole { IfOk result (λ status. exit_status status ≡ 0 → AreReadWhole
+        (ports_of S.Source source.old K.Sink sink.old)
+        (ports_of S.Source source.new K.Sink sink.new)) }
+    ensures bound { IfOk result (λ status. exit_status status ≤ 2) }
+{
+    if drilling.width == 0 {
+        return refuse_numbers(messages);
+    }
+    if usize::from(drilling.width) > WINDOW {
+        return refuse_numbers(messages);
+    }
+    drill(alloc, instrument, drilling, source, sink, messages)
+}
+
+// Plays a schedule, and tells how it ended.
+fn drill<S: Source, K: Sink, E: Write>(
+    alloc: Global,
+    instrument: Instrument,
+    drilling: Drilling<'_>,
+    source: &mut S,
+    sink: &mut K,
+    messages: &mut E,
+) -> io::Result<ExitCode>
+    requires least { 1 ≤ drilling.width }
+    requires most { drilling.width ≤ WINDOW }
+
+    // What became of the schedule, and that the messages and the status tell it.
+    ensures told { IfOk result (λ status. TellsSchedule instrument drilling.entry
+        (ports_of S.Source source.old K.Sink sink.old)
+        (ports_of S.Source source.new K.Sink sink.new)
+        (exit_status status) (E.contents messages.old) (E.contents messages.new)) }
+
+    // Status 0 only where the sink took the output of the text's events.
+    ensures done { IfOk result (λ status. exit_status status ≡ 0 → PlaysWhole instrument drilling.entry
+        (ports_of S.Source source.old K.Sink sink.old)
+        (ports_of S.Source source.new K.Sink sink.new)) }
+
+    // Status 0 only where the last read was the end, and the source has no byte left.
+    ensures whole { IfOk result (λ status. exit_status status ≡ 0 → AreReadWhole
+        (ports_of S.Source source.old K.Sink sink.old)
+        (ports_of S.Source source.new K.Sink sink.new)) }
+    ensures bound { IfOk result (λ status. exit_status status ≤ 1) }
+{
+    end_of(
+        run_drill_on(
+            alloc,
+            instrument,
+            source,
+            sink,
+            drilling.totals,
+            drilling.width,
+        ),
+        messages,
+    )
+}

@@ -1,0 +1,98 @@
+//! `geocom exec`: its words, and an instrument that answers the requests of standard input on standard output.
+
+ghost use Rattle.std.specs.Prelude.{◌≡◌, ◌≤◌, None, IfOk, false};
+ghost use Rattle.std.specs.Process.{exit_status};
+ghost use Rattle.gc_subcommands.specs.Serves.{TellsServing, TellsExec, IsDoneAtEnd, FailsByPorts};
+ghost use Rattle.gc_lines.specs.Answering.{ports_of};
+
+use crate::scene::instrument_of;
+use clap::Command;
+use gc_instrument::{Instrument, serve};
+use gc_lines::{Sink, Source};
+use gc_messages::{end_of, tell_end};
+use gc_words::help::REQUESTS;
+use gc_words::{Argument, SCENE, command_of};
+use std::alloc::{AllocError, Global};
+use std::fs::Files;
+use std::io::{self, Write};
+use std::process::ExitCode;
+
+// Its arguments.
+const ARGUMENTS: &[Argument<'static>] = &[SCENE];
+
+/// The words of `exec`.
+pub fn exec_command<'a>(alloc: Global, name: &'a str) -> Result<Command<'a>, AllocError> {
+    command_of(
+        alloc,
+        name,
+        "Answers the requests of standard input on standard output",
+        REQUESTS,
+        ARGUMENTS,
+    )
+}
+
+/// Reads the scene, serves with its instrument, and tells how it ended.
+pub fn exec_scene<R: Files, S: Source, K: Sink, E: Write>(
+    rt: &R,
+    alloc: Global,
+    scene: Option<&str>,
+    source: &mut S,
+    sink: &mut K,
+    messages: &mut E,
+) -> io::Result<ExitCode>
+    // Either the scene was refused, which is told, and nothing was read or written; or what was served, which is the simulator's
+    // where no scene is named.
+    ensures told { IfOk result (λ status. TellsExec scene.entry
+        (ports_of S.Source source.old K.Sink sink.old)
+        (ports_of S.Source source.new K.Sink sink.new)
+        (exit_status status) (E.contents messages.old) (E.contents messages.new)) }
+
+    // Status 0 exactly where the last read was the end.
+    ensures done { IfOk result (λ status. IsDoneAtEnd
+        (ports_of S.Source source.old K.Sink sink.old)
+        (ports_of S.Source source.new K.Sink sink.new)
+        (exit_status status)) }
+
+    // Without a scene, status 1 only where a port failed, or all reads that a u32 counts were used up.
+    ensures fault { scene.entry ≡ None → S.failed source.old ≡ false → K.failed sink.old ≡ false
+        → IfOk result (λ status. FailsByPorts
+        (ports_of S.Source source.old K.Sink sink.old)
+        (ports_of S.Source source.new K.Sink sink.new)
+        (exit_status status)) }
+    ensures bound { IfOk result (λ status. exit_status status ≤ 1) }
+{
+    match instrument_of(rt, alloc, scene) {
+        Ok(instrument) => exec(instrument, source, sink, messages),
+        Err(fault) => end_of(Err(fault), messages),
+    }
+}
+
+// Serves, and tells how it ended.
+fn exec<S: Source, K: Sink, E: Write>(
+    mut instrument: Instrument,
+    source: &mut S,
+    sink: &mut K,
+    messages: &mut E,
+) -> io::Result<ExitCode>
+    // What was served, why it ended, and that the messages and the status tell it.
+    ensures told { IfOk result (λ status. TellsServing instrument
+        (ports_of S.Source source.old K.Sink sink.old)
+        (ports_of S.Source source.new K.Sink sink.new)
+        (exit_status status) (E.contents messages.old) (E.contents messages.new)) }
+
+    // Status 0 exactly where the last read was the end.
+    ensures done { IfOk result (λ status. IsDoneAtEnd
+        (ports_of S.Source source.old K.Sink sink.old)
+        (ports_of S.Source source.new K.Sink sink.new)
+        (exit_status status)) }
+
+    // Status 1 only where a port failed, or all reads that a u32 counts were used up.
+    ensures fault { S.failed source.old ≡ false → K.failed sink.old ≡ false
+        → IfOk result (λ status. FailsByPorts
+        (ports_of S.Source source.old K.Sink sink.old)
+        (ports_of S.Source source.new K.Sink sink.new)
+        (exit_status status)) }
+    ensures bound { IfOk result (λ status. exit_status status ≤ 1) }
+{
+    tell_end(serve(&mut instrument, source, sink, u32::MAX), messages)
+}

@@ -1,0 +1,80 @@
+//! `geocom loop`: its words, and commands that are asked over a connection to a simulator of its own.
+
+ghost use Rattle.std.specs.Prelude.{◌≤◌, IfOk};
+ghost use Rattle.std.specs.Process.{exit_status};
+
+use crate::scene::instrument_of;
+use clap::Command;
+use gc_ask::loop_tcp_on;
+use gc_lines::{Sink, Source};
+use gc_messages::end_of;
+use gc_texts::RunFault;
+use gc_words::help::COMMANDS;
+use gc_words::{Argument, SCENE, command_of};
+use std::alloc::{AllocError, Global};
+use std::io::{self, Write};
+use std::net::{Net, TcpListener, TcpStream};
+use std::process::ExitCode;
+use std::rt::Files;
+
+// Its arguments.
+const ARGUMENTS: &[Argument<'static>] = &[SCENE];
+
+/// The subcommand `loop` as clap is given it: its help and its arguments.
+pub fn loop_command<'a>(alloc: Global, name: &'a str) -> Result<Command<'a>, AllocError> {
+    command_of(
+        alloc,
+        name,
+        "Asks the commands of standard input over a connection to a simulator of its own",
+        COMMANDS,
+        ARGUMENTS,
+    )
+}
+
+/// Asks over a connection to the instrument of a scene, which is read first, and tells how it ended.
+pub fn loop_port<
+    R: Net<Listener = TcpListener, Stream = TcpStream> + Files,
+    S: Source,
+    K: Sink,
+    E: Write,
+>(
+    rt: &R,
+    alloc: Global,
+    scene: Option<&str>,
+    source: &mut S,
+    sink: &mut K,
+    messages: &mut E,
+) -> io::Result<ExitCode>
+    ensures { IfOk result (λ status. exit_status status ≤ 1) }
+{
+    let instrument = match instrument_of(rt, alloc, scene) {
+        Ok(instrument) => instrument,
+        Err(fault) => {
+            let ended = end_of(Err(fault), messages);
+            let _ = tell_scene(scene, messages);
+            return ended;
+        }
+    };
+    let end = loop_tcp_on(rt, alloc, instrument, source, sink, u32::MAX);
+    let ended = end_of(end, messages);
+    if let Err(RunFault::Schedule { .. } | RunFault::InputTooLong) = end {
+        let _ = tell_commands(scene, messages);
+    }
+    ended
+}
+
+/// Tells behind a fault that it is of the scene.
+pub(crate) fn tell_scene<E: Write>(scene: Option<&str>, messages: &mut E) -> io::Result<()> {
+    match scene {
+        Some(path) => writeln!(messages, "geocom: of the scene in {path}"),
+        None => Ok(()),
+    }
+}
+
+// Tells behind a fault of the commands that it isn't of the scene, where there is one.
+fn tell_commands<E: Write>(scene: Option<&str>, messages: &mut E) -> io::Result<()> {
+    match scene {
+        Some(_) => writeln!(messages, "geocom: of the commands of standard input"),
+        None => Ok(()),
+    }
+}

@@ -1,0 +1,255 @@
+//! `geocom serve`: its words, and an instrument on a port or on a device, over places of the standard streams that are all taken.
+
+ghost use Rattle.std.specs.Prelude.{◌≤◌, IfOk};
+ghost use Rattle.std.specs.Process.{exit_status};
+
+use crate::looped::tell_scene;
+use crate::scene::instrument_of;
+use clap::{ArgMatches, Command};
+use gc_ask::{Keeping, MOST_CONNECTIONS, keep_device, keep_tcp, serve_device, serve_tcp};
+use gc_instrument::Instrument;
+use gc_links::Place;
+use gc_messages::{Standard, end_of, refuse_numbers, refuse_place, tell_place};
+use gc_texts::RunFault;
+use gc_words::help::KEPT;
+use gc_words::{Argument, FLAG, PLACE, SCENE, Takes, command_of, named_place};
+use std::alloc::{AllocError, Global};
+use std::fs::File;
+use std::io::{self, Write};
+use std::net::{Net, TcpListener, TcpStream};
+use std::process::ExitCode;
+use std::rt::Files;
+use std::time::Clock;
+
+// The longest time for which a kept connection may be idle, in seconds: a day.
+const LONGEST_IDLE: u32 = 86_400;
+
+/// What the words of `serve` ask for: the instrument of which scene, on which port or device, and for how many connections; one that
+/// is kept says after how many seconds a connection is idle.
+#[derive(Clone, Copy)]
+pub struct Serving<'a> {
+    pub scene: Option<&'a str>,
+    pub place: Place<'a>,
+    pub connections: Option<u32>,
+    pub idle: Option<u32>,
+}
+
+// Its arguments.
+const ARGUMENTS: &[Argument<'static>] = &[
+    Argument {
+        help: "A port of 127.0.0.1, from 1 on, or the path of a device",
+        ..PLACE
+    },
+    Argument {
+        name: "connections",
+        takes: Takes::Signed(1, 1000),
+        value_name: &["N"],
+        help: "Serves so many connections, 1 to 1000, one after the other [default: 1, and with --keep no end]",
+        ..FLAG
+    },
+    Argument {
+        name: "keep",
+        help: "Serves on behind a connection that fails, which is told",
+        ..FLAG
+    },
+    Argument {
+        name: "idle",
+        takes: Takes::Signed(1, 86_400),
+        value_name: &["SECONDS"],
+        default: &["60"],
+        needs: &["keep"],
+        help: "With --keep, on a port: closes a connection on which nothing came for so many seconds, 1 to 86400",
+        ..FLAG
+    },
+    SCENE,
+];
+
+/// The words of `serve`.
+pub fn serve_command<'a>(alloc: Global, name: &'a str) -> Result<Command<'a>, AllocError> {
+    command_of(
+        alloc,
+        name,
+        "Serves a simulator on a port of 127.0.0.1, or on a device",
+        KEPT,
+        ARGUMENTS,
+    )
+}
+
+/// What the words of `serve` say, unless they name no place: a simulator is served on this machine alone.
+pub fn serving_of<'a>(words: &ArgMatches<'a>) -> Option<Serving<'a>> {
+    match named_place(words) {
+        None | Some(Place::Host(_)) => None,
+        Some(place) => Some(Serving {
+            scene: words.get_str("scene"),
+            place,
+            connections: words.get_one::<u32>("connections"),
+            idle: idle_of(words),
+        }),
+    }
+}
+
+// After how many seconds a connection is idle, where it is to be kept.
+fn idle_of(words: &ArgMatches) -> Option<u32> {
+    if words.get_flag("keep") {
+        Some(words.get_one::<u32>("idle").unwrap_or(0))
+    } else {
+        None
+    }
+}
+
+/// Serves a port or a device, or keeps it where it is told after how many seconds a connection is idle, and tells how it ended. The places
+/// of standard streams that are closed are filled first, and stay so. `StreamClosed` comes where that can't be done. Then the scene
+/// is read, and no port is bound and no device opened before.
+pub fn serve_filled<
+    R: Net<Listener = TcpListener, Stream = TcpStream> + Clock + Files<File = File>,
+    E: Write,
+>(
+    rt: &R,
+    alloc: Global,
+    standard: Standard,
+    serving: Serving<'_>,
+    messages: &mut E,
+) -> io::Result<ExitCode>
+    ensures { IfOk result (λ status. exit_status status ≤ 2) }
+{
+    let Ok(places) = standard.fill(rt) else {
+        return standard.refuse(messages);
+    };
+    let ended = serve_scene(rt, alloc, serving, messages);
+    drop(places);
+    ended
+}
+
+// Reads the scene, and serves or keeps a place with its instrument.
+fn serve_scene<
+    R: Net<Listener = TcpListener, Stream = TcpStream> + Clock + Files<File = File>,
+    E: Write,
+>(rt: &R, alloc: Global, serving: Serving<'_>, messages: &mut E) -> io::Result<ExitCode>
+    ensures { IfOk result (λ status. exit_status status ≤ 2) }
+{
+    let Serving {
+        scene,
+        place,
+        connections,
+        idle,
+    } = serving;
+    let mut instrument = match instrument_of(rt, alloc, scene) {
+        Ok(instrument) => instrument,
+        Err(fault) => {
+            let ended = end_of(Err(fault), messages);
+            let _ = tell_scene(scene, messages);
+            return ended;
+        }
+    };
+    match idle {
+        None => serve_place(
+            rt,
+            place,
+            connections.unwrap_or(1),
+            &mut instrument,
+            messages,
+        ),
+        Some(idle) => keep_place(rt, place, connections, idle, &mut instrument, messages),
+    }
+}
+
+// Serves a port or a device, and tells how it ended. Numbers out of their range, which clap refuses by no clause, are refused here.
+fn serve_place<
+    R: Net<Listener = TcpListener, Stream = TcpStream> + Clock + Files<File = File>,
+    E: Write,
+>(
+    rt: &R,
+    place: Place<'_>,
+    connections: u32,
+    instrument: &mut Instrument,
+    messages: &mut E,
+) -> io::Result<ExitCode>
+    ensures { IfOk result (λ status. exit_status status ≤ 2) }
+{
+    match place {
+        Place::Port(port) => serve_port(rt, port, connections, instrument, messages),
+        Place::Device(_) if connections > MOST_CONNECTIONS => refuse_numbers(messages),
+        Place::Device(path) => {
+            let end = serve_device(rt, path, connections, instrument, u32::MAX);
+            tell_served(place, end, messages)
+        }
+        Place::Host(_) => refuse_place(true, messages),
+    }
+}
+
+// Serves a port, and tells how it ended. Numbers out of their range, which clap refuses by no clause, are refused here.
+fn serve_port<R: Net<Listener = TcpListener, Stream = TcpStream>, E: Write>(
+    rt: &R,
+    port: u16,
+    connections: u32,
+    instrument: &mut Instrument,
+    messages: &mut E,
+) -> io::Result<ExitCode>
+    ensures { IfOk result (λ status. exit_status status ≤ 2) }
+{
+    if port == 0 || connections == 0 || connections > MOST_CONNECTIONS {
+        return refuse_numbers(messages);
+    }
+    end_of(
+        serve_tcp(rt, port, connections, instrument, u32::MAX),
+        messages,
+    )
+}
+
+// Keeps a port or a device, and tells how it ended. Numbers out of their range, which clap refuses by no clause, are refused here.
+fn keep_place<
+    R: Net<Listener = TcpListener, Stream = TcpStream> + Clock + Files<File = File>,
+    E: Write,
+>(
+    rt: &R,
+    place: Place<'_>,
+    connections: Option<u32>,
+    idle: u32,
+    instrument: &mut Instrument,
+    messages: &mut E,
+) -> io::Result<ExitCode>
+    ensures { IfOk result (λ status. exit_status status ≤ 2) }
+{
+    if idle == 0 || idle > LONGEST_IDLE || !are_few(connections) {
+        return refuse_numbers(messages);
+    }
+    let keeping = Keeping {
+        connections,
+        idle,
+        max_reads: u32::MAX,
+    };
+    let kept = match place {
+        Place::Port(0) => return refuse_numbers(messages),
+        Place::Port(port) => keep_tcp(rt, port, keeping, instrument, messages),
+        Place::Device(path) => keep_device(rt, path, keeping, instrument, messages),
+        Place::Host(_) => return refuse_place(true, messages),
+    };
+    match kept {
+        Ok(_) => Ok(ExitCode::SUCCESS),
+        Err(fault) => tell_served(place, Err(fault), messages),
+    }
+}
+
+// Tells how serving a place ended, and of a fault where and why.
+fn tell_served<E: Write>(
+    place: Place<'_>,
+    end: Result<(), RunFault>,
+    messages: &mut E,
+) -> io::Result<ExitCode>
+    ensures { IfOk result (λ status. exit_status status ≤ 1) }
+{
+    let ended = end_of(end, messages);
+    if let Err(fault) = end {
+        // Where that can't be written the fault's line stands all the same.
+        let _ = tell_place(place, fault, messages);
+    }
+    ended
+}
+
+// Whether this number of connections may be asked for: none given, or 1 to 1000.
+fn are_few(connections: Option<u32>) -> bool {
+    match connections {
+        None => true,
+        Some(connections) => 1 <= connections && connections <= MOST_CONNECTIONS,
+    }
+}

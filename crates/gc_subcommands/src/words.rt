@@ -1,0 +1,210 @@
+//! Which subcommand the words of the command line ask for.
+
+use crate::ask::ask_command;
+use crate::check::check_command;
+use crate::drill::{Drilling, drill_command, drilling_of};
+use crate::exec::exec_command;
+use crate::looped::loop_command;
+use crate::serve::{Serving, serve_command, serving_of};
+use clap::{ArgMatches, Command, Error};
+use gc_links::Place;
+use gc_words::help::SCENES_AND_FAULTS;
+use gc_words::{
+    Recording, Site, Station, VERSION, log_of, named_place, recording_of, station_command,
+    station_of,
+};
+use std::alloc::{AllocError, Global};
+
+/// What a command line asks for. A scene is the name of its file, where one is named.
+pub enum Asked<'a> {
+    Exec { scene: Option<&'a str> },
+    /// Of a log, or of a stream.
+    Check { log: bool },
+    Drill(Drilling<'a>),
+    Serve(Serving<'a>),
+    Over(Asking<'a>),
+    /// The word for the place names none: none that can be served where `serves` is set, else none of an instrument.
+    Nowhere { serves: bool },
+    /// A number is missing that has a default.
+    Unnumbered,
+}
+
+/// What is to be asked over a connection: commands once, of a simulator or at a place, or a station's.
+#[derive(Drop)]
+pub enum Asking<'a> {
+    /// Of the instrument in the file of a scene, where one is named.
+    Loop {
+        scene: Option<&'a str>,
+    },
+    Ask {
+        place: Place<'a>,
+    },
+    /// With its records in a file, where one is named.
+    Station {
+        site: Site<'a>,
+        station: Station,
+        recording: Option<Recording<'a>>,
+    },
+}
+
+/// The subcommands.
+#[derive(Clone, Copy)]
+pub enum Subcommand {
+    Exec,
+    Check,
+    Drill,
+    Loop,
+    Serve,
+    Ask,
+    Station,
+}
+
+// They stand in this order in help.
+const SUBCOMMANDS: [Subcommand; 7] = [
+    Subcommand::Exec,
+    Subcommand::Check,
+    Subcommand::Drill,
+    Subcommand::Loop,
+    Subcommand::Serve,
+    Subcommand::Ask,
+    Subcommand::Station,
+];
+
+impl Subcommand {
+    // Its name, by which it is asked for.
+    fn name<'a>(self) -> &'a str {
+        match self {
+            Subcommand::Exec => "exec",
+            Subcommand::Check => "check",
+            Subcommand::Drill => "drill",
+            Subcommand::Loop => "loop",
+            Subcommand::Serve => "serve",
+            Subcommand::Ask => "ask",
+            Subcommand::Station => "station",
+        }
+    }
+
+    /// The one of this name.
+    pub fn named(name: &str) -> Option<Subcommand> {
+        for subcommand in SUBCOMMANDS {
+            if subcommand.name() == name {
+                return Some(subcommand);
+            }
+        }
+        None
+    }
+
+    /// Whether it reads a text from standard input.
+    pub fn reads_a_text(self) -> bool {
+        match self {
+            Subcommand::Drill | Subcommand::Loop | Subcommand::Ask | Subcommand::Station => true,
+            Subcommand::Exec | Subcommand::Check | Subcommand::Serve => false,
+        }
+    }
+
+    // What its help says, and its arguments: a row in its own file.
+    fn command<'a>(self, alloc: Global) -> Result<Command<'a>, AllocError> {
+        match self {
+            Subcommand::Exec => exec_command(alloc, self.name()),
+            Subcommand::Check => check_command(alloc, self.name()),
+            Subcommand::Drill => drill_command(alloc, self.name()),
+            Subcommand::Loop => loop_command(alloc, self.name()),
+            Subcommand::Serve => serve_command(alloc, self.name()),
+            Subcommand::Ask => ask_command(alloc, self.name()),
+            Subcommand::Station => station_command(alloc, self.name()),
+        }
+    }
+
+    // What it is asked for by these words, which stand behind its name.
+    fn asked<'a>(self, words: &ArgMatches<'a>) -> Asked<'a> {
+        match self {
+            Subcommand::Exec => Asked::Exec {
+                scene: words.get_str("scene"),
+            },
+            Subcommand::Check => Asked::Check {
+                log: words.get_flag("log"),
+            },
+            Subcommand::Drill => Asked::Drill(drilling_of(words)),
+            Subcommand::Loop => Asked::Over(Asking::Loop {
+                scene: words.get_str("scene"),
+            }),
+            Subcommand::Serve => serve_asked(words),
+            Subcommand::Ask => ask_asked(words),
+            Subcommand::Station => station_asked(words),
+        }
+    }
+}
+
+/// What the words ask for. A subcommand is required.
+// A loop makes the subcommands: the proof of a chain of `.subcommand(..)?` grows faster than the chain.
+pub fn asked_of<'a>(alloc: Global, words: &'a [String]) -> Result<Asked<'a>, Error> {
+    let subcommands = subcommands_of(alloc)?;
+    let matches = geocom(alloc)
+        .subcommands(subcommands)?
+        .try_get_matches_from(words)?;
+    Ok(asked_for(&matches))
+}
+
+// The program, with no subcommand yet.
+fn geocom<'a>(alloc: Global) -> Command<'a> {
+    Command::new(alloc, "geocom")
+        .version(VERSION)
+        .about(
+            "Both ends of GeoCOM's ASCII protocol: a client for monitoring stations, and a simulated instrument",
+        )
+        .after_help(SCENES_AND_FAULTS)
+        .subcommand_required(true)
+        .disable_help_subcommand(true)
+}
+
+// The subcommands in turn.
+fn subcommands_of<'a>(alloc: Global) -> Result<Vec<Command<'a>>, AllocError> {
+    let mut subcommands = Vec::new(alloc);
+    for subcommand in SUBCOMMANDS {
+        subcommands.push(subcommand.command(alloc)?)?;
+    }
+    Ok(subcommands)
+}
+
+// What the words ask for. clap refuses words without a subcommand, and an unknown one.
+fn asked_for<'a>(matches: &ArgMatches<'a>) -> Asked<'a> {
+    if let Some((name, words)) = matches.subcommand() {
+        if let Some(subcommand) = Subcommand::named(name) {
+            return subcommand.asked(words);
+        }
+    }
+    Asked::Exec { scene: None }
+}
+
+// A simulator that is served, unless the words name no place for one.
+fn serve_asked<'a>(words: &ArgMatches<'a>) -> Asked<'a> {
+    match serving_of(words) {
+        Some(serving) => Asked::Serve(serving),
+        None => Asked::Nowhere { serves: true },
+    }
+}
+
+// Commands that are asked at a place, unless the words name none.
+fn ask_asked<'a>(words: &ArgMatches<'a>) -> Asked<'a> {
+    match named_place(words) {
+        Some(place) => Asked::Over(Asking::Ask { place }),
+        None => Asked::Nowhere { serves: false },
+    }
+}
+
+// A station at a place, with its records and its log in files where the words name them, unless they name no place, or a number is
+// missing that has a default, which no clause of clap's excludes.
+fn station_asked<'a>(words: &ArgMatches<'a>) -> Asked<'a> {
+    let Some(place) = named_place(words) else {
+        return Asked::Nowhere { serves: false };
+    };
+    let Some(station) = station_of(words) else {
+        return Asked::Unnumbered;
+    };
+    let log = log_of(words);
+    Asked::Over(Asking::Station {
+        site: Site { place, log },
+        station,
+        recording: recording_of(words),
+    })
+}

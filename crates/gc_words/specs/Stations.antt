@@ -1,0 +1,20 @@
+-- What a station is told, where its rows go into a file, and once its run begins: this project's own.
+use Rattle.std.specs.Prelude.{ℕ, true}
+use Rattle.gc_rows.specs.declared.record.Form.{Form}
+use Rattle.gc_rows.specs.declared.record.Form.TheVariants.{Lines, Csv, Columns, Json}
+use Rattle.gc_words.specs.declared.station.Station.{Station}
+
+-- the form of rows that go into a file: the one that was asked for, or comma-separated values
+abbrev pub form_of_rows : Form → Form
+form_of_rows Lines = Csv
+form_of_rows Csv = Csv
+form_of_rows Columns = Columns
+form_of_rows Json = Json
+
+-- a station whose rows stand behind those of a file
+abbrev pub appended : Station → Station
+appended station = record station { layout = record station.layout { form = form_of_rows station.layout.form; headed = true } }
+
+-- a station as a run that began at this moment
+abbrev pub begun_at : ℕ → Station → Station
+begun_at run station = record station { layout = record station.layout { run = run } }

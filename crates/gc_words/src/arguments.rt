@@ -1,0 +1,140 @@
+//! The arguments of subcommands as tables, and the loops that hand them to clap. A default stands in its row alone: clap fills it in.
+
+use clap::builder::ValueParser;
+use clap::{Arg, ArgAction, ArgMatches, Command};
+use gc_links::{Place, place_of};
+use std::alloc::{AllocError, Global};
+
+/// What an argument takes: nothing, a text, or a number from one bound to the other, which is read as `i64` or as `u64`. A positional
+/// argument is a text without a name in front.
+#[derive(Clone, Copy)]
+pub enum Takes {
+    Positional,
+    Nothing,
+    Text,
+    Signed(i64, i64),
+    Unsigned(u64, u64),
+}
+
+/// A row: the name of an argument, what it takes and what help calls that, its default, the arguments that it needs, those that
+/// it can't stand beside, and its help. What may be missing is a list, which then is empty.
+#[derive(Clone, Copy)]
+pub struct Argument<'a> {
+    pub name: &'a str,
+    pub takes: Takes,
+    pub value_name: &'a [&'a str],
+    pub default: &'a [&'a str],
+    pub needs: &'a [&'a str],
+    pub excludes: &'a [&'a str],
+    pub help: &'a str,
+}
+
+/// The defaults of a row, which rows take over with `..FLAG`: a flag with neither name nor help.
+pub const FLAG: Argument<'static> = Argument {
+    name: "",
+    takes: Takes::Nothing,
+    value_name: &[],
+    default: &[],
+    needs: &[],
+    excludes: &[],
+    help: "",
+};
+
+/// The place of an instrument.
+pub const PLACE: Argument<'static> = Argument {
+    name: "where",
+    takes: Takes::Positional,
+    value_name: &["WHERE"],
+    help: "A port of 127.0.0.1, from 1 on, HOST:PORT, [ADDRESS]:PORT, or the path of a device, which has a slash",
+    ..FLAG
+};
+
+/// The place that the words name.
+pub fn named_place<'a>(words: &ArgMatches<'a>) -> Option<Place<'a>> {
+    match words.get_str("where") {
+        Some(word) => place_of(word),
+        None => None,
+    }
+}
+
+/// The file of a scene.
+pub const SCENE: Argument<'static> = Argument {
+    name: "scene",
+    takes: Takes::Text,
+    value_name: &["FILE"],
+    help: "Sets up the instrument of this file: `geocom --help` says how",
+    ..FLAG
+};
+
+/// A subcommand with the arguments of a table.
+// They are made first: the proof of a `Command` that is alive across a `?` costs much.
+pub fn command_of<'a>(
+    alloc: Global,
+    name: &'a str,
+    about: &'a str,
+    after_help: &'a str,
+    table: &[Argument<'a>],
+) -> Result<Command<'a>, AllocError> {
+    let args = args_of(alloc, table)?;
+    Command::new(alloc, name)
+        .about(about)
+        .after_help(after_help)
+        .args(args)
+}
+
+// The arguments of a table.
+fn args_of<'a>(alloc: Global, table: &[Argument<'a>]) -> Result<Vec<Arg<'a>>, AllocError> {
+    let mut args = Vec::new(alloc);
+    for row in table {
+        args.push(arg_of(alloc, row)?)?;
+    }
+    Ok(args)
+}
+
+// The argument of a row.
+fn arg_of<'a>(alloc: Global, row: &Argument<'a>) -> Result<Arg<'a>, AllocError> {
+    match row.takes {
+        Takes::Positional => Ok(positional_of(alloc, row)),
+        _ => option_of(alloc, row),
+    }
+}
+
+// A required argument without a name in front.
+fn positional_of<'a>(alloc: Global, row: &Argument<'a>) -> Arg<'a> {
+    Arg::new(alloc, row.name)
+        .value_names(row.value_name)
+        .required(true)
+        .help(row.help)
+}
+
+// An argument with two hyphens in front. There is no branch, since a branch on a live builder makes its proof dear: an empty list adds
+// nothing.
+fn option_of<'a>(alloc: Global, row: &Argument<'a>) -> Result<Arg<'a>, AllocError> {
+    Arg::new(alloc, row.name)
+        .long(row.name)
+        .help(row.help)
+        .action(action_of(row.takes))
+        .value_parser(parser_of(row.takes))
+        .value_names(row.value_name)
+        .default_values(row.default)
+        .requires_all(row.needs)?
+        .conflicts_with_all(row.excludes)
+}
+
+// Whether an option only is there or not, or has a value.
+fn action_of(takes: Takes) -> ArgAction {
+    match takes {
+        Takes::Nothing => ArgAction::SetTrue,
+        _ => ArgAction::Set,
+    }
+}
+
+// What the value of an option may be.
+fn parser_of<'a>(takes: Takes) -> ValueParser<'a> {
+    match takes {
+        Takes::Nothing => ValueParser::Bool,
+        Takes::Positional | Takes::Text => ValueParser::String,
+        Takes::Signed(least, most) => ValueParser::Signed(least, most),
+        Takes::Unsigned(least, most) => ValueParser::Unsigned(least, most),
+    }
+}

@@ -1,0 +1,209 @@
+//! The choice: what an operator chooses beside the text, and by which options.
+
+use crate::arguments::{Argument, FLAG, PLACE, Takes, command_of};
+use crate::help::STATION;
+use crate::layout::Layout;
+use crate::site::LOG_BYTES;
+use crate::station::Station;
+use clap::{ArgMatches, Command};
+use gc_rows::Form;
+use std::alloc::{AllocError, Global};
+
+// Its options. A default stands in its row alone: clap fills it in.
+// The place comes first, which is no option.
+const OPTIONS: &[Argument<'static>] = &[
+    PLACE,
+    Argument {
+        name: "width",
+        takes: Takes::Signed(1, 7),
+        value_name: &["W"],
+        default: &["1"],
+        help: "Lets so many requests be under way that aren't given up, 1 to 7; more than 1 for plain readings alone",
+        ..FLAG
+    },
+    Argument {
+        name: "deadline",
+        takes: Takes::Unsigned(1, 86_400_000),
+        value_name: &["MS"],
+        default: &["10000"],
+        help: "Gives a request up so many milliseconds after it was sent, 1 to 86400000, until a line `deadline MS` says otherwise",
+        ..FLAG
+    },
+    Argument {
+        name: "every",
+        takes: Takes::Unsigned(0, 86_400),
+        value_name: &["SECONDS"],
+        default: &["0"],
+        help: "Begins a cycle so many seconds after the last was due, 1 to 86400, or 0: once the last is done",
+        ..FLAG
+    },
+    Argument {
+        name: "cycles",
+        takes: Takes::Unsigned(0, u64::MAX),
+        value_name: &["N"],
+        default: &["1"],
+        help: "Asks all commands so many times, or 0: without end",
+        ..FLAG
+    },
+    Argument {
+        name: "quiet",
+        takes: Takes::Unsigned(1, 86_400_000),
+        value_name: &["MS"],
+        default: &["2000"],
+        help: "Pauses so many milliseconds before it connects anew, and sends on the new connection once nothing came for as long, 1 to 86400000",
+        ..FLAG
+    },
+    Argument {
+        name: "retries",
+        takes: Takes::Signed(0, 4_294_967_295),
+        value_name: &["N"],
+        default: &["10"],
+        help: "Connects anew so many times in a row, or 0: without end",
+        ..FLAG
+    },
+    Argument {
+        name: "csv",
+        help: "Writes comma-separated values, with a header",
+        ..FLAG
+    },
+    Argument {
+        name: "columns",
+        help: "Writes comma-separated values, with a column for each quantity, too",
+        ..FLAG
+    },
+    Argument {
+        name: "json",
+        excludes: &["csv", "columns"],
+        help: "Writes each record as an object of JSON on a line of its own",
+        ..FLAG
+    },
+    Argument {
+        name: "unchained",
+        help: "Sends each command by itself, until a line `chained` says otherwise",
+        ..FLAG
+    },
+    Argument {
+        name: "silent",
+        help: "Leaves out the signs of life",
+        ..FLAG
+    },
+    Argument {
+        name: "append",
+        takes: Takes::Text,
+        value_name: &["FILE"],
+        help: "Appends each record as a row to this file, behind its whole rows, and writes none on standard output",
+        ..FLAG
+    },
+    Argument {
+        name: "sync",
+        needs: &["append"],
+        help: "With --append: has each row on the disk before the next command goes out",
+        ..FLAG
+    },
+    Argument {
+        name: "log",
+        takes: Takes::Text,
+        value_name: &["FILE"],
+        help: "Appends each line that went or came to a file, with its moment; `check --log` reads it",
+        ..FLAG
+    },
+    LOG_BYTES,
+];
+
+/// The words of `station`.
+pub fn station_command<'a>(alloc: Global, name: &'a str) -> Result<Command<'a>, AllocError> {
+    command_of(
+        alloc,
+        name,
+        "Measures the commands of standard input at a place, cycle after cycle, with deadlines",
+        STATION,
+        OPTIONS,
+    )
+}
+
+/// Who watches a station while it measures, and so which signs of life it tells.
+#[derive(Clone, Copy, Debug, PartialEq, Eq)]
+pub enum Watch {
+    /// Nobody: it tells none.
+    Nobody,
+    /// Somebody who reads lines: at most one a minute of each kind.
+    Lines,
+    /// Somebody at a terminal: the same lines, and below them one that is written over.
+    Terminal,
+}
+
+/// What an operator chooses. Times are in milliseconds.
+#[derive(Clone, Copy, Debug, PartialEq, Eq)]
+pub struct Choice {
+    /// How many requests may be under way that aren't given up: 1 to 7.
+    pub width: u8,
+    /// How long a request waits before it is given up, until a line of the text says otherwise.
+    pub deadline: u64,
+    /// Whether commands are chained, until a line of the text says otherwise.
+    pub chained: bool,
+    /// How far apart the cycles are due. 0: each begins when the one before it is done.
+    pub every: u64,
+    /// How many cycles are measured.
+    pub cycles: u64,
+    /// The quiet time: for a new connection within a run, and the pause before one.
+    pub quiet: u64,
+    /// How many times in a row it connects anew.
+    pub retries: u32,
+    /// Who watches.
+    pub watch: Watch,
+}
+
+/// What the options say but of files, each in a field of the layout or of the choice. `None`: a number that has a default is missing,
+/// which no clause of clap's excludes.
+pub fn station_of(matches: &ArgMatches) -> Option<Station> {
+    Some(Station {
+        layout: Layout {
+            form: form_of(matches),
+            headed: false,
+            run: 0,
+        },
+        choice: Choice {
+            width: matches.get_one::<u8>("width")?,
+            deadline: matches.get_one::<u64>("deadline")?,
+            chained: !matches.get_flag("unchained"),
+            every: matches.get_one::<u64>("every")?.saturating_mul(1000),
+            cycles: cycles_of(matches.get_one::<u64>("cycles")?),
+            quiet: matches.get_one::<u64>("quiet")?,
+            retries: retries_of(matches.get_one::<u32>("retries")?),
+            watch: if matches.get_flag("silent") {
+                Watch::Nobody
+            } else {
+                Watch::Lines
+            },
+        },
+    })
+}
+
+// How records are written.
+fn form_of(matches: &ArgMatches) -> Form {
+    if matches.get_flag("json") {
+        Form::Json
+    } else if matches.get_flag("columns") {
+        Form::Columns
+    } else if matches.get_flag("csv") {
+        Form::Csv
+    } else {
+        Form::Lines
+    }
+}
+
+// How many times in a row it connects anew: 0 stands for no end.
+fn retries_of(chosen: u32) -> u32 {
+    match chosen {
+        0 => u32::MAX,
+        retries => retries,
+    }
+}
+
+// How many cycles are measured: 0 stands for no end.
+fn cycles_of(chosen: u64) -> u64 {
+    match chosen {
+        0 => u64::MAX,
+        cycles => cycles,
+    }
+}

@@ -1,0 +1,17 @@
+//! The words of the command line: arguments as tables, with their help, and what those of `station` say.
+#![tactic(auto)]
+
+mod arguments;
+mod choice;
+pub mod help;
+mod layout;
+mod site;
+mod station;
+mod version;
+
+pub use arguments::{Argument, FLAG, PLACE, SCENE, Takes, command_of, named_place};
+pub use choice::{Choice, Watch, station_command, station_of};
+pub use layout::Layout;
+pub use site::{LogPlace, Recording, Site, log_of, recording_of};
+pub use station::Station;
+pub use version::VERSION;

@@ -1,0 +1,58 @@
+//! Where a station works: the place, and the files of its log and of its records.
+
+use crate::arguments::{Argument, FLAG, Takes};
+use clap::ArgMatches;
+use gc_links::Place;
+
+/// Where a station measures, and where it logs what was on the link, if anywhere.
+#[derive(Clone, Copy)]
+pub struct Site<'a> {
+    pub place: Place<'a>,
+    pub log: Option<LogPlace<'a>>,
+}
+
+/// The bound of a log.
+pub(crate) const LOG_BYTES: Argument<'static> = Argument {
+    name: "log-bytes",
+    takes: Takes::Unsigned(1000, u64::MAX),
+    value_name: &["N"],
+    needs: &["log"],
+    help: "With --log: lets the file have at most so many bytes, 1000 or more; a last line says that the rest is left out",
+    ..FLAG
+};
+
+/// Where what was on the link is logged, and the most bytes that the file may have.
+#[derive(Clone, Copy)]
+pub struct LogPlace<'a> {
+    pub path: &'a str,
+    pub most: u64,
+}
+
+/// What the words of `station` say of its log.
+pub fn log_of<'a>(words: &ArgMatches<'a>) -> Option<LogPlace<'a>> {
+    match words.get_str("log") {
+        Some(path) => Some(LogPlace {
+            path,
+            most: words.get_one::<u64>("log-bytes").unwrap_or(u64::MAX),
+        }),
+        None => None,
+    }
+}
+
+/// Where records are appended, and whether each is to be on the disk before the next command goes out.
+#[derive(Clone, Copy)]
+pub struct Recording<'a> {
+    pub path: &'a str,
+    pub sync: bool,
+}
+
+/// What the words of `station` say of its records' file.
+pub fn recording_of<'a>(words: &ArgMatches<'a>) -> Option<Recording<'a>> {
+    match words.get_str("append") {
+        Some(path) => Some(Recording {
+            path,
+            sync: words.get_flag("sync"),
+        }),
+        None => None,
+    }
+}

@@ -1,0 +1,57 @@
+//! What a station is told.
+
+ghost use Rattle.std.specs.Prelude.{◌≡◌};
+ghost use Rattle.gc_words.specs.Stations.{form_of_rows, appended, begun_at};
+
+use crate::choice::{Choice, Watch};
+use crate::layout::Layout;
+use gc_links::Moment;
+use gc_rows::Form;
+
+/// What a station is told, but where: how its records are laid out, and what an operator chose.
+#[derive(Clone, Copy, Debug, PartialEq, Eq)]
+pub struct Station {
+    pub layout: Layout,
+    pub choice: Choice,
+}
+
+impl Station {
+    /// The same, where somebody may watch at a terminal.
+    pub fn watched(self, at_terminal: bool) -> Station {
+        let mut station = self;
+        if at_terminal && self.choice.watch == Watch::Lines {
+            station.choice.watch = Watch::Terminal;
+        }
+        station
+    }
+
+    /// The form of the rows that go into a file: the one that was asked for, or comma-separated values.
+    pub fn form_of_rows(self) -> Form
+        ensures { result ≡ form_of_rows self.layout.form }
+    {
+        match self.layout.form {
+            Form::Lines | Form::Csv => Form::Csv,
+            Form::Columns => Form::Columns,
+            Form::Json => Form::Json,
+        }
+    }
+
+    /// The same, with rows behind those of a file.
+    pub fn appended(self) -> Station
+        ensures { result ≡ appended self }
+    {
+        let mut station = self;
+        station.layout.form = self.form_of_rows();
+        station.layout.headed = true;
+        station
+    }
+
+    /// The same, as a run that begins at this moment.
+    pub fn begun(self, moment: Moment) -> Station
+        ensures { result ≡ begun_at moment.utc self }
+    {
+        let mut station = self;
+        station.layout.run = moment.utc;
+        station
+    }
+}
