@@ -3,8 +3,6 @@ use Rattle.std.specs.Prelude.{◌≡◌, ℕ, Bool, true, ◌⊎◌, List, [], �
 use Rattle.std.specs.Fmt.{decimal}
 use Rattle.std.specs.Io.KnownBytes.{Consumes, Appends}
 use Rattle.gc_texts.specs.WholeTexts.{Input}
-use Rattle.gc_catalogue.specs.declared.answer.Reading.{Reading}
-use Rattle.gc_catalogue.specs.declared.call.Call.{Call}
 use Rattle.gc_measuring.specs.Choices.{plan_of}
 use Rattle.gc_measuring.specs.Stops.{stop_text, end_of_run}
 use Rattle.gc_measuring.specs.TaskTexts.{Gave, GivesTasks, RefusesTasks}
@@ -17,7 +15,7 @@ use Rattle.gc_lines.specs.Ports.{TakesFront}
 use Rattle.gc_links.specs.Acts.{Act}
 use Rattle.gc_station.specs.Records.{Record}
 use Rattle.gc_station.specs.Runs.{Ran, LastsBut}
-use Rattle.gc_station.specs.Scopes.{AreReadings}
+use Rattle.gc_station.specs.Scopes.{ForReadings}
 use Rattle.gc_station.specs.declared.plan.Plan.{Plan}
 use Rattle.gc_station.specs.declared.tally.Tally.{Tally}
 use Rattle.gc_texts.specs.Names.{name_text}
@@ -69,10 +67,11 @@ abbrev pub course_of : Station → ℕ → List Task → List Name → Course
 course_of station turns tasks names =
     record { plan = plan_of station.choice tasks; tasks = tasks; turns = turns; layout = station.layout; names = names }
 
--- a run over a link wrote down what its acts say of these tasks, for whatever function says what each reply says of its call
+-- a run over a link wrote down what its acts say of these tasks, for whatever function says what each reply says of its call, and for one
+-- that there is
 abbrev pub RunsCourse : Course → Option (List Act) → Option (List Act) → Option (List ℕ) → Option (List ℕ) → Result Tally RunFault → Type 0
-RunsCourse course acts acts' taken taken' end = (reads : Call → List ℕ → Reading) → AreReadings reads
-    → Ran course.plan course.tasks (record { turns = course.turns; reads = reads }) (text_in course.layout course.names) acts acts' taken taken' end
+RunsCourse course acts acts' taken taken' end = ForReadings (λ reads.
+    Ran course.plan course.tasks (record { turns = course.turns; reads = reads }) (text_in course.layout course.names) acts acts' taken taken' end)
 
 -- the sink took what stands in front of the records, and then what a run over the link writes down of its tasks
 pub record RunsBehind (course : Course) (old new : Places) (result : Result Tally Stop) : Type 0 where

@@ -10,6 +10,7 @@ mod Counts
 pub mod Each
 pub mod EachRun
 pub mod Facts
+mod Faulty
 pub mod Invariant
 pub mod Following
 mod Further

@@ -1,18 +1,22 @@
 -- No act changes what replies say.
-use Rattle.std.proofs.Common.{◌≡◌, Bool, true, false, ℕ, List, [], ◌∷◌, refl, sym, ap, ◌∙◌, subst}
+use Rattle.std.proofs.Common.{◌≡◌, Bool, true, false, ℕ, List, [], ◌∷◌, Result, Ok, Err, refl, sym, ap, ◌∙◌, subst}
 use Rattle.gc_lines.specs.Replies.{ReplyFields}
-use Rattle.gc_lines.proofs.Replies.{reply_one}
+use Rattle.gc_lines.specs.Readers.{reply_at}
+use Rattle.gc_lines.specs.declared.fault.LineFault.{LineFault}
+use Rattle.gc_lines.proofs.Replies.{reply_again, reply_one}
 use Rattle.gc_catalogue.specs.declared.answer.Reading.{Reading}
 use Rattle.gc_catalogue.specs.declared.call.Call.{Call}
 use Rattle.gc_catalogue.specs.Readings.{IsReading}
+use Rattle.gc_catalogue.specs.declared.answer.Reading.TheVariants.{Refused}
 use Rattle.gc_catalogue.proofs.AnswerLaws.{one_reading}
+use Rattle.gc_catalogue.proofs.EachReply.{each_reply}
 use Rattle.gc_texts.specs.declared.tasks.Task.{Task}
 use Rattle.gc_station.specs.declared.plan.Plan.{Plan}
 use Rattle.gc_station.specs.declared.progress.Action.{Action}
 use Rattle.gc_links.specs.Acts.{Act}
 use Rattle.gc_station.specs.Progressing.{turned, loses_all}
 use Rattle.gc_station.specs.Runs.{stood}
-use Rattle.gc_station.specs.Scopes.{Scope, AreReadings, OneReadingForALine}
+use Rattle.gc_station.specs.Scopes.{Scope, AreReadings, OneReadingForALine, SomeReadings, ForReadings}
 use Rattle.gc_station.proofs.Walk.{lines_along, moved_changed}
 use Rattle.gc_station.specs.Model.{Model, opening, action_at, with_progress, lines_came, moved, losing, after, after_all}
 
@@ -47,3 +51,20 @@ pub one_for_a_line : OneReadingForALine
 one_for_a_line call line x y p q =
     let same = reply_one line p.reply q.reply p.is_reply q.is_reply in
     one_reading call q.reply x y (subst (λ (r : ReplyFields). IsReading call r x) same p.is_reading) q.is_reading
+
+-- what a line says of a call: what its reply says, and something where it is no reply
+said : Call → Result ReplyFields LineFault → Reading
+said call (Ok reply) = (each_reply call reply).0
+said call (Err fault) = Refused 0
+
+pub some_readings : SomeReadings
+unfolding said
+some_readings = (
+  λ call line. said call (reply_at line),
+  λ call line reading is.
+      ap (said call) (reply_again line is.reply is.is_reply)
+      ∙ one_reading call is.reply (each_reply call is.reply).0 reading (each_reply call is.reply).1 is.is_reading,
+)
+
+pub for_readings : (Holds : (Call → List ℕ → Reading) → Type 0) → ((reads : Call → List ℕ → Reading) → AreReadings reads → Holds reads) → ForReadings Holds
+for_readings Holds each = (each, (some_readings.0, some_readings.1, each some_readings.0 some_readings.1))

@@ -16,3 +16,11 @@ AreReadings reads = (call : Call) (line : List ℕ) (reading : Reading) → Read
 -- a line says one thing of a call at most
 abbrev pub OneReadingForALine : Type 0
 OneReadingForALine = (call : Call) (line : List ℕ) (x y : Reading) → ReadsAs call line x → ReadsAs call line y → x ≡ y
+
+-- some function says what each reply says of its call
+abbrev pub SomeReadings : Type 0
+SomeReadings = (reads : Call → List ℕ → Reading) × AreReadings reads
+
+-- it holds with whatever function says what each reply says of its call, and with one that there is
+abbrev pub ForReadings : ((Call → List ℕ → Reading) → Type 0) → Type 0
+ForReadings Holds = ((reads : Call → List ℕ → Reading) → AreReadings reads → Holds reads) × ((reads : Call → List ℕ → Reading) × AreReadings reads × Holds reads)

@@ -25,7 +25,7 @@ ghost use Rattle.gc_station.specs.Ends.{IsTrulyLate, IsTrulyLost};
 ghost use Rattle.gc_station.specs.Given.{given};
 ghost use Rattle.gc_station.specs.Quiet.{IsRequest};
 ghost use Rattle.gc_station.specs.Runs.{stood};
-ghost use Rattle.gc_station.specs.Scopes.{Scope, OneReadingForALine};
+ghost use Rattle.gc_station.specs.Scopes.{Scope, OneReadingForALine, SomeReadings};
 ghost use Rattle.gc_station.specs.Silences.{IsMuteFor};
 ghost use Rattle.gc_station.specs.Model.{opening, action_at, Runs};
 ghost use Rattle.gc_station.specs.Tries.{IsTried, IsEnding, AllTried};
@@ -41,6 +41,11 @@ pub fn each_command_once()
 /// agree wherever a line reads.
 pub fn each_line_says_one_thing()
     ensures { OneReadingForALine }
+{}
+
+/// There is such a function: for each line that is a reply, it is what the catalogue's reader says of the reply and the call.
+pub fn some_function_says_what_each_reply_says()
+    ensures { SomeReadings }
 {}
 
 /// Each act of a run performs the action that was next, and the conditions of that action held. Where a command was sent, fewer

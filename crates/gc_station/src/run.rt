@@ -5,7 +5,7 @@ ghost use Rattle.gc_catalogue.specs.declared.answer.Reading.{Reading};
 ghost use Rattle.gc_catalogue.specs.declared.call.Call.{Call};
 ghost use Rattle.gc_lines.specs.Ports.{FailsWith};
 ghost use Rattle.gc_station.specs.Runs.{EndsAs, Ran, FailsAtOutput, LastsBut};
-ghost use Rattle.gc_station.specs.Scopes.{AreReadings};
+ghost use Rattle.gc_station.specs.Scopes.{AreReadings, ForReadings};
 
 use crate::book::Book;
 use crate::cause::Cause;
@@ -88,9 +88,10 @@ pub fn run_station<L: Link, B: Book>(
     plan: &Plan,
     max_turns: u64,
 ) -> Result<Tally, RunFault>
-    // What the link told, what the book took, and why it ended, for whatever function says what each reply says of its call.
-    ensures ran { (reads : Call → List ℕ → Reading) → AreReadings reads
-        → Ran plan.now commands.now (record { turns = max_turns; reads = reads }) (B.text book.old) (L.acts link.old) (L.acts link.new) (B.taken book.old) (B.taken book.new) result }
+    // What the link told, what the book took, and why it ended, for whatever function says what each reply says of its call, and for
+    // one that there is.
+    ensures ran { ForReadings (λ reads.
+        Ran plan.now commands.now (record { turns = max_turns; reads = reads }) (B.text book.old) (L.acts link.old) (L.acts link.new) (B.taken book.old) (B.taken book.new) result) }
 
     // At each end but that of the book all records last.
     ensures is_durable { LastsBut (B.is_durable book.new) result }

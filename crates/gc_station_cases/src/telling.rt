@@ -1,10 +1,8 @@
 //! A station over any link, made to tell its acts.
 
-ghost use Rattle.std.specs.Prelude.{ℕ, List, Some};
-ghost use Rattle.gc_catalogue.specs.declared.answer.Reading.{Reading};
-ghost use Rattle.gc_catalogue.specs.declared.call.Call.{Call};
+ghost use Rattle.std.specs.Prelude.{Some};
 ghost use Rattle.gc_station.specs.Runs.{Ran};
-ghost use Rattle.gc_station.specs.Scopes.{AreReadings};
+ghost use Rattle.gc_station.specs.Scopes.{ForReadings};
 
 use gc_links::{Link, Telling};
 use gc_station::{Book, Plan, Tally, run_station};
@@ -18,8 +16,8 @@ pub fn run_telling<L: Link, B: Book>(
     plan: &Plan,
     max_turns: u64,
 ) -> Result<Tally, RunFault>
-    ensures { (reads : Call → List ℕ → Reading) → AreReadings reads
-        → Ran plan.now commands.now (record { turns = max_turns; reads = reads }) (B.text book.old) (Some link.old.history.acts) (Some link.new.history.acts) (B.taken book.old) (B.taken book.new) result }
+    ensures { ForReadings (λ reads.
+        Ran plan.now commands.now (record { turns = max_turns; reads = reads }) (B.text book.old) (Some link.old.history.acts) (Some link.new.history.acts) (B.taken book.old) (B.taken book.new) result) }
 {
     run_station(link, book, commands, plan, max_turns)
 }

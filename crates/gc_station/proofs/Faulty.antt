@@ -1,0 +1,31 @@
+-- A run that stopped for a cause with a fault, told by that fault.
+use Rattle.std.proofs.Common.{◌≡◌, ℕ, List, Option, Some, None, Result, Err, refl, subst}
+use Rattle.gc_links.specs.Acts.{Act}
+use Rattle.gc_texts.specs.declared.fault.RunFault.{RunFault}
+use Rattle.gc_texts.specs.declared.fault.RunFault.TheVariants as fault
+use Rattle.gc_texts.specs.declared.tasks.Task.{Task}
+use Rattle.gc_station.specs.Causes.{fault_of}
+use Rattle.gc_station.specs.Records.{Record}
+use Rattle.gc_station.specs.Runs.{Ran, RanTo}
+use Rattle.gc_station.specs.Scopes.{Scope}
+use Rattle.gc_station.specs.declared.cause.Cause.{Cause}
+use Rattle.gc_station.specs.declared.cause.Cause.TheVariants.{Done, Dead, Read, End, Write, Clock, Open, Turns}
+use Rattle.gc_station.specs.declared.plan.Plan.{Plan}
+use Rattle.gc_station.specs.declared.tally.Tally.{Tally}
+
+module _ (plan : Plan) (commands : List Task) (scope : Scope) (text : Record → List ℕ) (told told' : Option (List Act)) (taken taken' : Option (List ℕ)) (tally : Tally) where
+  abbrev To : Cause → Type 0
+  To cause = RanTo plan commands scope text told told' taken taken' cause tally
+
+  abbrev With : RunFault → Type 0
+  With why = Ran plan commands scope text told told' taken taken' (Err why)
+
+  pub faulty : (cause : Cause) (why : RunFault) → fault_of cause ≡ Some why → To cause → With why
+  faulty Done why e ran = absurd (cc)
+  faulty Dead why e ran = let same : fault.Mute ≡ why = cc in subst With same (Dead, tally, ran, refl)
+  faulty Read why e ran = let same : fault.Read ≡ why = cc in subst With same (Read, tally, ran, refl)
+  faulty End why e ran = let same : fault.LinkClosed ≡ why = cc in subst With same (End, tally, ran, refl)
+  faulty (Write requests bytes) why e ran = let same : fault.Write requests bytes ≡ why = cc in subst With same (Write requests bytes, tally, ran, refl)
+  faulty Clock why e ran = let same : fault.Clock ≡ why = cc in subst With same (Clock, tally, ran, refl)
+  faulty Open why e ran = let same : fault.Socket ≡ why = cc in subst With same (Open, tally, ran, refl)
+  faulty Turns why e ran = let same : fault.TooManyReads ≡ why = cc in subst With same (Turns, tally, ran, refl)
