@@ -65,7 +65,8 @@ fn open_log<R: Files<File = File>>(rt: &R, path: &str) -> Result<RowsFile<System
     }
 }
 
-/// The log that is asked for, opened, of which is noted how many bytes of a torn line were cut off. `Log` comes where it can't be had.
+/// Opens the log that is asked for, and notes how many bytes of a torn line its opening cut off. Fails with `Log` where the
+/// log can't be had.
 pub(crate) fn log_at<'a, R: Files<File = File>>(
     rt: &R,
     noticed: &'a Cell<Noticed>,

@@ -12,7 +12,7 @@ use gc_texts::RunFault;
 use std::io::{self, Write};
 use std::process::ExitCode;
 
-/// A number that is out of its range: that is told.
+/// Reports a number that is out of its range, with status 2.
 pub fn refuse_numbers<E: Write>(messages: &mut E) -> io::Result<ExitCode>
     ensures status { IfOk result (λ status. exit_status status ≡ 2) }
     ensures told { IfOk result (λ status. (exit_status status ≡ 2) × Appends (E.contents messages.old) (E.contents messages.new) range_line) }
@@ -24,7 +24,7 @@ pub fn refuse_numbers<E: Write>(messages: &mut E) -> io::Result<ExitCode>
     Ok(ExitCode::from(2))
 }
 
-/// A word that names no place, of an instrument or of a simulator: that is told.
+/// Reports a word that names no place of an instrument, or of a simulator, with status 2.
 pub fn refuse_place<E: Write>(serves: bool, messages: &mut E) -> io::Result<ExitCode>
     ensures told { IfOk result (λ status. (exit_status status ≡ 2) × Appends (E.contents messages.old) (E.contents messages.new) (place_line serves)) }
 {

@@ -11,7 +11,7 @@ pub struct Streams<I, O, E> {
 }
 
 impl<I, O, E> Streams<I, O, E> {
-    /// The same with another output, and the output that they had.
+    /// These streams with another output, and the output that they had.
     pub fn with_output<P>(self, output: P) -> (Streams<I, P, E>, O)
         ensures input { result.0.input ≡ self.input }
         ensures output { result.0.output ≡ output }

@@ -60,7 +60,7 @@ abbrev pub moment_text : Option ℕ → List ℕ
 moment_text None = []
 moment_text (Some utc) = stamp_text utc
 
--- when a command was sent and ended, and which of its run it was
+-- when a command was sent and ended, and which command of its run it was
 abbrev pub when_fields : When → List (List ℕ)
 when_fields when = moment_text when.stamp.sent ∷ stamp_text when.stamp.utc ∷ decimal when.stamp.cycle ∷ decimal when.stamp.place ∷ []
 

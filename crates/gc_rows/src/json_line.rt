@@ -96,7 +96,7 @@ fn append_sent<const N: usize>(line: &mut ArrayVec<u8, N>, sent: Option<u64>)
     }
 }
 
-// When a command was sent and ended, and which of its run it was.
+// Appends when a command was sent and ended, and which command of its run it was.
 fn append_when<const N: usize>(line: &mut ArrayVec<u8, N>, when: &When)
     requires { array_vec_len line.old + 1024 ≤ N }
     ensures text { line.new.items ≡ line.old.items ++ members_text (when_members when.now) }

@@ -137,7 +137,7 @@ fn moment_text(moment: Option<u64>) -> ArrayVec<u8, STAMP_ROOM>
     }
 }
 
-// When a command was sent and ended, and which of its run it was.
+// Appends when a command was sent and ended, and which command of its run it was.
 fn append_when<const N: usize>(row: &mut ArrayVec<u8, N>, when: &When)
     requires { array_vec_len row.old + 1024 ≤ N }
     ensures text { row.new.items ≡ row.old.items ++ behind_commas (when_fields when.now) }

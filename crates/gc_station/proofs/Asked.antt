@@ -51,33 +51,15 @@ module _ (plan : Plan) (commands : List Task) where
   heard_by s action.Ask (Put bytes) obeys = refl
   heard_by s action.Ask (Cut bytes count) obeys = refl
   heard_by s (action.Read until) (Gave piece m) obeys = heard_piece (is_heard s.progress.phase) (lines_behind s.rest piece)
-  heard_by s action.ReadClock (Gave piece m) obeys = absurd obeys
-  heard_by s action.Renew (Gave piece m) obeys = absurd obeys
-  heard_by s action.Begin (Gave piece m) obeys = absurd obeys
-  heard_by s action.Open (Gave piece m) obeys = absurd obeys
-  heard_by s action.Clear (Gave piece m) obeys = absurd obeys
-  heard_by s action.Ask (Gave piece m) obeys = absurd obeys
-  heard_by s action.Send (Gave piece m) obeys = absurd obeys
-  heard_by s action.Skip (Gave piece m) obeys = absurd obeys
-  heard_by s action.Flush (Gave piece m) obeys = absurd obeys
   heard_by s (action.Close why) (Gave piece m) obeys = cc
-  heard_by s (action.Stop why) (Gave piece m) obeys = absurd obeys
+  heard_by s o (Gave piece m) obeys = absurd obeys
   heard_by s o act obeys = refl
 
   pub turns_gave : (s : Model) (o : Action) (piece : List ℕ) (m : Moment) → Performs commands s o (Gave piece m)
       → (beginning s o (Gave piece m)).turns ≡ (if is_heard s.progress.phase then map part.Hears (lines_behind s.rest piece) else [])
   turns_gave s (action.Read until) piece m obeys = refl
-  turns_gave s action.ReadClock piece m obeys = absurd obeys
-  turns_gave s action.Renew piece m obeys = absurd obeys
-  turns_gave s action.Begin piece m obeys = absurd obeys
-  turns_gave s action.Open piece m obeys = absurd obeys
-  turns_gave s action.Clear piece m obeys = absurd obeys
-  turns_gave s action.Ask piece m obeys = absurd obeys
-  turns_gave s action.Send piece m obeys = absurd obeys
-  turns_gave s action.Skip piece m obeys = absurd obeys
-  turns_gave s action.Flush piece m obeys = absurd obeys
   turns_gave s (action.Close why) piece m obeys = cc
-  turns_gave s (action.Stop why) piece m obeys = absurd obeys
+  turns_gave s o piece m obeys = absurd obeys
 
   -- an act that puts no bytes, and brings none
   abbrev pub IsPlain : Act → Type 0

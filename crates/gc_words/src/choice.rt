@@ -153,8 +153,8 @@ pub struct Choice {
     pub watch: Watch,
 }
 
-/// What the options say but of files, each in a field of the layout or of the choice. `None`: a number that has a default is missing,
-/// which no clause of clap's excludes.
+/// What the options say, apart from those that name files. `None`: a number that has a default is missing, which no clause
+/// of clap's excludes.
 pub fn station_of(matches: &ArgMatches) -> Option<Station> {
     Some(Station {
         layout: Layout {

@@ -16,7 +16,8 @@ pub struct Station {
 }
 
 impl Station {
-    /// The same, where somebody may watch at a terminal.
+    /// This station; if its messages go to a terminal, it has a status line there below its signs of life, unless it gives
+    /// none.
     pub fn watched(self, at_terminal: bool) -> Station {
         let mut station = self;
         if at_terminal && self.choice.watch == Watch::Lines {
@@ -36,7 +37,7 @@ impl Station {
         }
     }
 
-    /// The same, with rows behind those of a file.
+    /// This station with rows that are appended to a file, behind those that it holds.
     pub fn appended(self) -> Station
         ensures { result ≡ appended self }
     {
@@ -46,7 +47,7 @@ impl Station {
         station
     }
 
-    /// The same, as a run that begins at this moment.
+    /// This station as a run that begins at this moment.
     pub fn begun(self, moment: Moment) -> Station
         ensures { result ≡ begun_at moment.utc self }
     {
