@@ -18,8 +18,8 @@ ANSWER_COLUMNS = [
 ]
 COLUMNS_HEAD = ",".join([*COLUMNS, *ANSWER_COLUMNS]).encode() + b"\n"
 # In the order of the counts; those of a reply that came in time, and those of a command that wasn't sent.
-OUTCOMES = ["answered", "late", "lost", "skipped", "unreadable", "missed"]
-REPLIED = ["answered", "unreadable"]
+OUTCOMES = ["answered", "late", "lost", "skipped", "unreadable", "missed", "elsewhere"]
+REPLIED = ["answered", "unreadable", "elsewhere"]
 UNSENT = ["skipped", "missed"]
 MOMENTS = ["run", "sent", "time"]
 NUMBERS = ["cycle", "place", "target", "procedure", "fault", "rc_com", "rc"]

@@ -29,7 +29,7 @@ def row(chance, number):
     target, name, hz, v, distance = TARGETS[number // len(COMMANDS) % len(TARGETS)]
     place = number % (len(COMMANDS) * len(TARGETS))
     procedure = COMMANDS[number % len(COMMANDS)]
-    outcome = chance.choices([b"answered", b"late", b"lost", b"skipped", b"unreadable", b"missed"], [80, 3, 3, 6, 1, 2])[0]
+    outcome = chance.choices([b"answered", b"late", b"lost", b"skipped", b"unreadable", b"missed", b"elsewhere"], [80, 3, 3, 6, 1, 2, 1])[0]
     fault = codes = values = b""
     if outcome == b"answered":
         codes = b"0,0"
@@ -44,6 +44,8 @@ def row(chance, number):
             values = b'"""SIM %d"""' % number
     elif outcome == b"unreadable":
         fault, codes, values = b"11", b"0,0", rb'"x,\xff\x00%d"' % number
+    elif outcome == b"elsewhere":
+        codes, values = b"0,0", b'"%.9f,%.9f"' % (hz + 0.5, v)
     sent = b"" if outcome.decode() in UNSENT else stamp(moment - datetime.timedelta(milliseconds=1_234))
     cycle = number // (len(COMMANDS) * len(TARGETS)) + 1
     numbers = b"%d,%d,%d" % (cycle, place, target)

@@ -5,6 +5,7 @@ use Rattle.std.specs.Fmt.{digits}
 use Rattle.gc_lines.specs.Readers.{header_at, reply_at}
 use Rattle.gc_catalogue.specs.declared.call.Call.TheVariants.{InstrumentNo}
 use Rattle.gc_client.specs.declared.window.TheConstants.{WINDOW}
+use Rattle.gc_texts.specs.Nears.{is_elsewhere}
 use Rattle.gc_station.specs.Beginnings.{IsAnew}
 use Rattle.gc_station.specs.Parts as part
 use Rattle.gc_station.specs.Parts.{Part, parts_of}
@@ -31,42 +32,42 @@ parts =
     ∷ one_part all_turns (seen moves_anew) ((7, 120) ∷ [])
 
 parts_are : parts_of plan commands (opening plan scope) acts ≡ parts
-unfolding header_at reply_at digits
+unfolding is_elsewhere header_at reply_at digits
 parts_are = refl
 
 shown_are : shown counting eight (begins before) ≡ asked_each begun
-unfolding header_at reply_at digits
+unfolding is_elsewhere header_at reply_at digits
 shown_are = refl
 
 shown_anew : shown counting turns (begins left) ≡ all_turns
-unfolding header_at reply_at digits
+unfolding is_elsewhere header_at reply_at digits
 shown_anew = refl
 
 -- each act is the one that was to be made next
 given_up_runs : Runs plan commands (opening plan scope) given_up
-unfolding header_at reply_at digits
+unfolding is_elsewhere header_at reply_at digits
 given_up_runs =
     run_on plan commands (opening plan scope) (begun_with begun []) (drop 27 given_up) (opens_counting 7 commands scope.reads)
     (tt, (refl, (tt, (refl, (tt, (refl, (tt, (refl, (tt, (refl, (tt, (refl, (tt, (refl, (tt, (tt, tt))))))))))))))))
 
 anew_runs : Runs plan commands (after_all plan commands (opening plan scope) given_up) anew
-unfolding header_at reply_at digits
+unfolding is_elsewhere header_at reply_at digits
 anew_runs =
     run_on plan commands (after_all plan commands (opening plan scope) given_up) (take 9 anew) (drop 9 anew)
     (tt, (refl, (tt, (tt, (tt, (refl, (tt, (tt, (tt, tt)))))))))
     (refl, (tt, (tt, (refl, (tt, (tt, (refl, (tt, (tt, (refl, (tt, (tt, (refl, (tt, (tt, (refl, (tt, (tt, (refl, (tt, (tt, (refl, tt))))))))))))))))))))))
 
 begins_anew : IsAnew plan commands scope given_up (Told (at 115))
-unfolding header_at reply_at digits
+unfolding is_elsewhere header_at reply_at digits
 begins_anew = record { renews = refl; moment = at 115; told = refl; seven = refl; given_up = refl; word = refl; client = refl }
 
 -- the last command's request is the client's first one behind the new beginning, and reaches the instrument at the third move
 was_made : WasMadeOn WINDOW counting from moves_anew 8 InstrumentNo answer
-unfolding header_at reply_at digits
+unfolding is_elsewhere header_at reply_at digits
 was_made = record { front = take 2 moves_anew; later = drop 3 moves_anew; split = refl; id = 0; rest = []; reaches = refl; executed = refl; reply = refl }
 
 pub answered_anew : IsAnsweredAnew
-unfolding header_at reply_at digits
+unfolding is_elsewhere header_at reply_at digits
 answered_anew =
     record {
       is = counted.is;

@@ -1,11 +1,12 @@
 -- A run of a chain that points the telescope, in the field, computed.
-use Rattle.std.proofs.Common.{◌≡◌, zero, suc, true, [], ◌∷◌, refl, sym, ap, subst, arith}
+use Rattle.std.proofs.Common.{◌≡◌, zero, suc, true, [], ◌∷◌, refl, sym, ap, subst, arith, None}
 use Rattle.std.specs.Prelude.{take, drop}
 use Rattle.std.specs.Fmt.{digits}
 use Rattle.gc_lines.specs.Readers.{header_at, reply_at}
 use Rattle.gc_values.specs.Decimals.{rounded}
 use Rattle.gc_instrument.specs.Execution.{exec}
 use Rattle.gc_instrument.specs.Replying.{handed}
+use Rattle.gc_texts.specs.Nears.{is_elsewhere}
 use Rattle.gc_texts.specs.declared.tasks.Task.{Task}
 use Rattle.gc_station.specs.Links.{AreChained}
 use Rattle.gc_world.proofs.Options.{some_is}
@@ -29,19 +30,19 @@ all_chained (suc (suc (suc p))) above upto = absurd (omega (arith, upto))
 none_turns : AreStill commands 0 2
 none_turns zero task above under e = absurd (omega (arith, above))
 none_turns (suc zero) task above under e =
-    let one : Task = record { command = record { target = 7; call = measures }; deadline = 100; chained = true } in ap (λ (t : Task). turns t.command.call) (sym (some_is one task e))
+    let one : Task = record { command = record { target = 7; call = measures }; deadline = 100; chained = true; near = None } in ap (λ (t : Task). turns t.command.call) (sym (some_is one task e))
 none_turns (suc (suc p)) task above under e = absurd (omega (arith, under))
 
 parts_are : parts_of plan commands (opening plan scope) acts ≡ one_part (asked_each replies) (seen moves) ((0, 15) ∷ (1, 20) ∷ (2, 25) ∷ [])
-unfolding header_at reply_at digits rounded
+unfolding is_elsewhere header_at reply_at digits rounded
 parts_are = refl
 
 shown_are : shown ends eight (begins before) ≡ asked_each replies
-unfolding header_at reply_at handed exec digits rounded
+unfolding is_elsewhere header_at reply_at handed exec digits rounded
 shown_are = refl
 
 pub chain : IsPointedInField
-unfolding header_at reply_at handed exec digits rounded
+unfolding is_elsewhere header_at reply_at handed exec digits rounded
 chain =
     record {
       field =

@@ -8,6 +8,7 @@ use Rattle.gc_client.specs.OneForOne as step
 use Rattle.gc_client.specs.OneForOne.{Asked}
 use Rattle.gc_client.specs.Rule.{Answered, Settlement}
 use Rattle.gc_instrument.specs.State.{KeptReply}
+use Rattle.gc_texts.specs.declared.near.Near.{Near}
 use Rattle.gc_texts.specs.declared.tasks.Task.{Task}
 use Rattle.gc_station.specs.declared.plan.Plan.{Plan}
 use Rattle.gc_links.specs.Acts.{Act}
@@ -347,12 +348,12 @@ module _ {State : Type 0} (ends : Ends State) (Good : State → Type 0) (kept : 
     (stay : ChainsStay) (go_on : MarksGoOn) (records_stay : RecordsStay) (plan : Plan) (commands : List Task) (scope : Scope) where
   -- where a command's own request is, whose record is known
   own_place : (acts : List Act) → Runs plan commands (opening plan scope) acts
-      → (i m : ℕ) (part : Part) (r : Record) (ss : List (Stretch State)) (line : List ℕ) → slice_get (parts plan commands scope acts) i ≡ Some part
-      → slice_get part.marks m ≡ Some (Some (mark_of r)) → (u : IsItsOwn ends Good kept commands (parts plan commands scope acts) ss r line) → (u.k ≡ i) × (u.m ≡ m)
-  own_place acts runs i m part r ss line of_parts mark u =
+      → (i m : ℕ) (part : Part) (near : Option Near) (r : Record) (ss : List (Stretch State)) (line : List ℕ) → slice_get (parts plan commands scope acts) i ≡ Some part
+      → slice_get part.marks m ≡ Some (Some (mark_of near r)) → (u : IsItsOwn ends Good kept commands (parts plan commands scope acts) ss r line) → (u.k ≡ i) × (u.m ≡ m)
+  own_place acts runs i m part near r ss line of_parts mark u =
       same_place u.k i u.m m
-      (λ l. not_itself r.cycle r.place (go_on plan commands scope acts runs u.k i u.m m u.part part (mark_of r) (mark_of r) u.of_parts of_parts u.mark mark l))
-      (λ l. not_itself r.cycle r.place (go_on plan commands scope acts runs i u.k m u.m part u.part (mark_of r) (mark_of r) of_parts u.of_parts mark u.mark l))
+      (λ l. not_itself r.cycle r.place (go_on plan commands scope acts runs u.k i u.m m u.part part (mark_of u.near r) (mark_of near r) u.of_parts of_parts u.mark mark l))
+      (λ l. not_itself r.cycle r.place (go_on plan commands scope acts runs i u.k m u.m part u.part (mark_of near r) (mark_of u.near r) of_parts u.of_parts mark u.mark l))
 
   -- the run up to a request is one in the field
   in_front_of : (acts before rest : List Act) (u : UnderWay State) (rs : List (Run State)) → acts ≡ before ++ rest
@@ -377,7 +378,7 @@ module _ {State : Type 0} (ends : Ends State) (Good : State → Type 0) (kept : 
       let f = run_faithful ends Good kept is plan commands scope before u rs h in
       let o = all_at (IsOwnAnswer ends Good kept commands (parts plan commands scope before) ss)
       (stood plan commands scope before).records back.k back.answer f.own back.among back.line (ap answer_of back.answered) in
-      let at = own_place before h.runs i back.m first back.answer ss back.line of_first back.mark o in
+      let at = own_place before h.runs i back.m first back.near back.answer ss back.line of_first back.mark o in
       let of_ss : slice_get ss i ≡ Some o.stretch = subst (λ k. slice_get ss k ≡ Some o.stretch) at.0 o.of_stretches in
       let size : length first.marks ≡ length (own_sent ends o.stretch) =
       of_length commands first.marks (map asked (own_sent ends o.stretch))
@@ -405,9 +406,9 @@ module _ {State : Type 0} (ends : Ends State) (Good : State → Type 0) (kept : 
       → IsChainedTo ends Good kept scope.reads (parts plan commands scope acts) (stretches ends v rs) (stood plan commands scope acts).records a b line
   chained_to acts v rs h b line u a less chained =
       let ss = stretches ends v rs in
-      let sent = stay plan commands scope acts h.runs u.k u.m u.part (mark_of b) u.of_parts u.mark in
+      let sent = stay plan commands scope acts h.runs u.k u.m u.part (mark_of u.near b) u.of_parts u.mark in
       let back = sent.chain a less chained in
-      let marked = last_marked (parts plan commands scope sent.before) u.k back.m sent.first (Some (mark_of back.answer)) sent.last sent.of_parts back.mark in
+      let marked = last_marked (parts plan commands scope sent.before) u.k back.m sent.first (Some (mark_of back.near back.answer)) sent.last sent.of_parts back.mark in
       let cut = in_front_of acts sent.before sent.rest v rs sent.order marked h in
       let there = settled_there sent.before v cut.0.runs cut.1 u.k u.m b.cycle a sent.first sent.of_parts sent.count back in
       let c = cut.0.last u.k there.0 u.stretch sent.last there.1 u.of_stretches in
@@ -423,9 +424,9 @@ module _ {State : Type 0} (ends : Ends State) (Good : State → Type 0) (kept : 
       let front : IsFront (parts plan commands scope sent.before) (parts plan commands scope acts) =
       subst (λ l. IsFront (parts plan commands scope sent.before) (parts plan commands scope l)) (sym sent.order) (front_parts plan commands (opening plan scope) sent.before sent.rest) in
       let more = front_last (parts plan commands scope sent.before) (parts plan commands scope acts) u.k sent.first u.part front sent.last sent.of_parts u.of_parts in
-      let mark_a : slice_get u.part.marks back.m ≡ Some (Some (mark_of back.answer)) =
-      ap (λ (p : Part). slice_get p.marks back.m) more.1 ∙ in_more sent.first.marks more.0.marks back.m (Some (mark_of back.answer)) back.mark in
-      let small : back.m < length sent.first.marks = below sent.first.marks back.m (Some (mark_of back.answer)) back.mark in
+      let mark_a : slice_get u.part.marks back.m ≡ Some (Some (mark_of back.near back.answer)) =
+      ap (λ (p : Part). slice_get p.marks back.m) more.1 ∙ in_more sent.first.marks more.0.marks back.m (Some (mark_of back.near back.answer)) back.mark in
+      let small : back.m < length sent.first.marks = below sent.first.marks back.m (Some (mark_of back.near back.answer)) back.mark in
       let grown = records_stay plan commands scope sent.before sent.rest in
       let same_cycle : back.answer.cycle ≡ b.cycle = back.own_cycle in
       record {
@@ -447,11 +448,13 @@ module _ {State : Type 0} (ends : Ends State) (Good : State → Type 0) (kept : 
         m = back.m;
         n = u.m;
         goes_on = omega (arith, small, sent.count);
+        near_a = back.near;
+        near_b = u.near;
         mark_a = mark_a;
         mark_b = u.mark;
         between = λ k mark above under at.
-            let first = go_on plan commands scope acts h.runs u.k u.k back.m k u.part u.part (mark_of back.answer) mark u.of_parts u.of_parts mark_a at (inr (refl, above)) in
-            let last = go_on plan commands scope acts h.runs u.k u.k k u.m u.part u.part mark (mark_of b) u.of_parts u.of_parts at u.mark (inr (refl, under)) in
+            let first = go_on plan commands scope acts h.runs u.k u.k back.m k u.part u.part (mark_of back.near back.answer) mark u.of_parts u.of_parts mark_a at (inr (refl, above)) in
+            let last = go_on plan commands scope acts h.runs u.k u.k k u.m u.part u.part mark (mark_of u.near b) u.of_parts u.of_parts at u.mark (inr (refl, under)) in
             let it = within back.answer.cycle back.answer.place mark.cycle mark.place b.cycle b.place first last same_cycle in
             (it.0, subst (λ p. p < mark.place) back.own_place it.1, it.2);
         executed =

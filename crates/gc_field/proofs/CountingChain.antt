@@ -9,6 +9,7 @@ use Rattle.gc_catalogue.specs.declared.call.Call.{Call}
 use Rattle.gc_client.specs.declared.window.TheConstants.{WINDOW}
 use Rattle.gc_client.specs.Rule.{heard}
 use Rattle.gc_instrument.specs.State.{KeptReply}
+use Rattle.gc_texts.specs.Nears.{is_elsewhere}
 use Rattle.gc_texts.specs.declared.tasks.Task.{Task}
 use Rattle.gc_world.proofs.Options.{some_is}
 use Rattle.gc_field.specs.ChainWitness.{commands, points, reads_all, scope}
@@ -91,28 +92,28 @@ effect =
 pub opens_counting :
     (width : ℕ) (tasks : List Task) (reads : Call → List ℕ → Reading)
     → Runs (plan_of width) tasks (opening (plan_of width) (record { turns = 100; reads = reads })) (begun_with begun [])
-unfolding header_at reply_at digits
+unfolding is_elsewhere header_at reply_at digits
 opens_counting width tasks reads =
     (tt, (refl, (tt, (refl, (tt, (tt, (refl, (tt, (tt, (refl, (tt, (tt, (refl, (tt, (tt, (refl, (tt, (tt, (refl, (tt, (tt, (refl, (tt, (tt, (refl, (tt, (tt, tt)))))))))))))))))))))))))))
 
 first_made : WasMadeOn WINDOW counting stretch.from moves 8 points first
-unfolding header_at reply_at digits
+unfolding is_elsewhere header_at reply_at digits
 first_made = record { front = take 3 moves; later = drop 4 moves; split = refl; id = 0; rest = []; reaches = refl; executed = refl; reply = refl }
 
 third_made : WasMadeOn WINDOW counting stretch.from moves 10 reads_all third
-unfolding header_at reply_at digits
+unfolding is_elsewhere header_at reply_at digits
 third_made = record { front = take 13 moves; later = drop 14 moves; split = refl; id = 2; rest = []; reaches = refl; executed = refl; reply = refl }
 
 parts_are : parts_of plan commands (opening plan scope) acts ≡ one_part (asked_each begun) (seen moves) ((0, 15) ∷ (1, 20) ∷ (2, 25) ∷ [])
-unfolding header_at reply_at digits
+unfolding is_elsewhere header_at reply_at digits
 parts_are = refl
 
 shown_are : shown counting eight (begins before) ≡ asked_each begun
-unfolding header_at reply_at digits
+unfolding is_elsewhere header_at reply_at digits
 shown_are = refl
 
 pub counted : IsCountedInField
-unfolding header_at reply_at digits
+unfolding is_elsewhere header_at reply_at digits
 counted =
     record {
       is = is;

@@ -11,6 +11,7 @@ use Rattle.gc_field.specs.Instrument.{IsAnInstrument, AnyState, nothing}
 use Rattle.gc_field.specs.Begin.{begins, leaves, none_under_way, turned}
 use Rattle.gc_field.specs.Begun.{WasMadeOn}
 use Rattle.gc_field.specs.Drifting.{IsAnsweredByDrifting, acts, answer, begun, commands, drifting, moves, plan, runs, scope, turns}
+use Rattle.gc_texts.specs.Nears.{is_elsewhere}
 use Rattle.gc_station.specs.Parts.{parts_of}
 use Rattle.gc_station.specs.Model.{after_all, opening}
 use Rattle.gc_field.specs.Field.{seen}
@@ -34,19 +35,19 @@ is =
     }
 
 was_made : WasMadeOn WINDOW drifting (leaves (turned drifting turns (begins (none_under_way 5)))) moves 9 InstrumentNo answer
-unfolding header_at reply_at digits
+unfolding is_elsewhere header_at reply_at digits
 was_made = record { front = take 11 moves; later = drop 12 moves; split = refl; id = 1; rest = []; reaches = refl; executed = refl; reply = refl }
 
 parts_are : parts_of plan commands (opening plan scope) acts ≡ one_part (part.Asks ∷ part.Asks ∷ asked_each begun) (seen moves) ((0, 220) ∷ (1, 320) ∷ [])
-unfolding header_at reply_at digits
+unfolding is_elsewhere header_at reply_at digits
 parts_are = refl
 
 shown_are : shown drifting turns (begins (none_under_way 5)) ≡ part.Asks ∷ part.Asks ∷ asked_each begun
-unfolding header_at reply_at digits
+unfolding is_elsewhere header_at reply_at digits
 shown_are = refl
 
 pub answered : IsAnsweredByDrifting
-unfolding header_at reply_at digits
+unfolding is_elsewhere header_at reply_at digits
 answered =
     record {
       is = is;

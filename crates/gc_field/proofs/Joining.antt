@@ -268,6 +268,7 @@ module _ {State : Type 0} (ends : Ends State) (Good : State → Type 0) (kept : 
     of_parts = h.of_parts;
     of_stretches = h.of_stretches;
     m = h.m;
+    near = h.near;
     mark = h.mark;
     request = h.request;
     sent = h.sent;
@@ -291,6 +292,7 @@ module _ {State : Type 0} (ends : Ends State) (Good : State → Type 0) (kept : 
     of_parts = h.of_parts;
     of_stretches = h.of_stretches;
     m = h.m;
+    near = h.near;
     mark = h.mark;
     request = h.request;
     sent = h.sent;
@@ -322,7 +324,7 @@ module _ {State : Type 0} (ends : Ends State) (Good : State → Type 0) (kept : 
   own_first reads commands p s ps ss waiting xs e f sent =
       all_records reads (IsOwnAnswer ends Good kept commands (p ∷ ps) (s ∷ ss)) p.marks xs
       (λ n mark x at got line says.
-      let answered : x.outcome ≡ Answered line = was_answered (record_of reads 0 mark x) x (record { reads = reads; command = refl; ended = refl }) line says in
+      let answered : x.outcome ≡ Answered line = was_answered (record_of reads 0 mark x) x (record { reads = reads; near = mark.near; command = refl; ended = refl }) line says in
       let here = among_settled (own_settled ends s) waiting n x line (sym (ap (λ l. slice_get l n) e) ∙ got) answered in
       let beyond : 8 ≤ 8 + n = omega arith in
       let there = get_drop 8 n (world ends s).wire.settled x here in
@@ -337,6 +339,7 @@ module _ {State : Type 0} (ends : Ends State) (Good : State → Type 0) (kept : 
         of_parts = refl;
         of_stretches = refl;
         m = n;
+        near = mark.near;
         mark = at;
         request = r.0;
         sent = r.1;
@@ -371,6 +374,7 @@ module _ {State : Type 0} (ends : Ends State) (Good : State → Type 0) (kept : 
     none : (e : End) → went_out e ≡ false → answer_of e ≡ Some line → ⊥
     none (end.Answered said l) out answered = cc
     none (end.Unreadable l fault) out answered = cc
+    none (end.Elsewhere l) out answered = cc
     none end.Late out answered = cc
     none end.Lost out answered = cc
     none end.Skipped out answered = cc
@@ -398,6 +402,7 @@ module _ {State : Type 0} (ends : Ends State) (Good : State → Type 0) (kept : 
         of_parts = h.of_parts;
         of_stretches = h.of_stretches;
         m = h.m;
+        near = h.near;
         mark = h.mark;
         task =
             h.task;
@@ -423,6 +428,7 @@ module _ {State : Type 0} (ends : Ends State) (Good : State → Type 0) (kept : 
           of_parts = g.of_parts;
           of_stretches = g.of_stretches;
           m = g.m;
+          near = g.near;
           mark = g.mark;
           task =
               g.task;
@@ -440,7 +446,7 @@ module _ {State : Type 0} (ends : Ends State) (Good : State → Type 0) (kept : 
   late_first reads commands p s ps ss waiting xs e f sent =
       all_records reads (IsDealtWith ends Good kept commands (p ∷ ps) (s ∷ ss)) p.marks xs
       (λ n mark x at got says.
-      let late : x.outcome ≡ Late = was_late (record_of reads 0 mark x) x (record { reads = reads; command = refl; ended = refl }) says in
+      let late : x.outcome ≡ Late = was_late (record_of reads 0 mark x) x (record { reads = reads; near = mark.near; command = refl; ended = refl }) says in
       let here = among_late (own_settled ends s) waiting n x (sym (ap (λ l. slice_get l n) e) ∙ got) late in
       let beyond : 8 ≤ 8 + n = omega arith in
       let there = get_drop 8 n (world ends s).wire.settled x here in
@@ -455,6 +461,7 @@ module _ {State : Type 0} (ends : Ends State) (Good : State → Type 0) (kept : 
         of_parts = refl;
         of_stretches = refl;
         m = n;
+        near = mark.near;
         mark = at;
         task = a.2.0;
         listed = a.2.1;

@@ -11,6 +11,7 @@ use Rattle.gc_world.specs.Clients.{ends}
 use Rattle.gc_field.specs.LateAnswer.{IsLateInField, acts, answer, before, commands, from, late, moves, runs}
 use Rattle.gc_field.specs.Begun.{WasMadeOn}
 use Rattle.gc_field.proofs.Witness.{asked_each, fits, one_part, opens, run_on, units}
+use Rattle.gc_texts.specs.Nears.{is_elsewhere}
 use Rattle.gc_station.specs.Parts.{parts_of}
 use Rattle.gc_station.specs.Model.{opening}
 use Rattle.gc_field.specs.Field.{seen}
@@ -19,23 +20,23 @@ use Rattle.gc_field.specs.Begin.{begins}
 use Rattle.gc_field.specs.Witness.{eight, plan, replies, scope}
 
 late_made : WasMadeOn WINDOW ends from moves 8 InstrumentNo late
-unfolding header_at reply_at handed exec digits
+unfolding is_elsewhere header_at reply_at handed exec digits
 late_made = record { front = take 3 moves; later = drop 4 moves; split = refl; id = 0; rest = []; reaches = refl; executed = refl; reply = refl }
 
 answer_made : WasMadeOn WINDOW ends from moves 9 InstrumentNo answer
-unfolding header_at reply_at handed exec digits
+unfolding is_elsewhere header_at reply_at handed exec digits
 answer_made = record { front = take 9 moves; later = drop 10 moves; split = refl; id = 1; rest = []; reaches = refl; executed = refl; reply = refl }
 
 parts_are : parts_of plan commands (opening plan scope) acts ≡ one_part (asked_each replies) (seen moves) ((0, 15) ∷ (1, 115) ∷ [])
-unfolding header_at reply_at digits
+unfolding is_elsewhere header_at reply_at digits
 parts_are = refl
 
 shown_are : shown ends eight (begins before) ≡ asked_each replies
-unfolding header_at reply_at handed exec digits
+unfolding is_elsewhere header_at reply_at handed exec digits
 shown_are = refl
 
 pub come_late : IsLateInField
-unfolding header_at reply_at handed exec digits
+unfolding is_elsewhere header_at reply_at handed exec digits
 come_late =
     record {
       field =

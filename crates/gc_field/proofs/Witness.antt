@@ -1,5 +1,5 @@
 -- A run of one command, in the field.
-use Rattle.std.proofs.Common.{◌≡◌, inl, inr, ℕ, zero, suc, ◌<◌, List, [], ◌∷◌, ◌++◌, Some, refl, sym, subst, arith, lit<}
+use Rattle.std.proofs.Common.{◌≡◌, inl, inr, ℕ, zero, suc, ◌<◌, List, [], ◌∷◌, ◌++◌, Some, refl, sym, subst, arith, lit<, None}
 use Rattle.std.proofs.lemmas.Int.{ints}
 use Rattle.std.specs.Prelude.{codes, map, take, drop}
 use Rattle.std.specs.Fmt.{digits}
@@ -15,6 +15,7 @@ use Rattle.gc_instrument.specs.Execution.{exec}
 use Rattle.gc_instrument.specs.Replying.{handed}
 use Rattle.gc_instrument.specs.State.{IsFittingState, simulator_opening}
 use Rattle.gc_links.specs.Acts.{Act}
+use Rattle.gc_texts.specs.Nears.{is_elsewhere}
 use Rattle.gc_texts.specs.declared.tasks.Task.{Task}
 use Rattle.gc_station.specs.declared.plan.Plan.{Plan}
 use Rattle.gc_station.specs.Parts as part
@@ -49,13 +50,13 @@ run_on p tasks s (act ∷ front) later h g = (h.0, run_on p tasks (after p tasks
 pub opens :
     (width : ℕ) (tasks : List Task) (reads : Call → List ℕ → Reading)
     → Runs (plan_of width) tasks (opening (plan_of width) (record { turns = 100; reads = reads })) (begun_with replies [])
-unfolding header_at reply_at digits
+unfolding is_elsewhere header_at reply_at digits
 opens width tasks reads =
     (tt, (refl, (tt, (refl, (tt, (tt, (refl, (tt, (tt, (refl, (tt, (tt, (refl, (tt, (tt, (refl, (tt, (tt, (refl, (tt, (tt, (refl, (tt, (tt, (refl, (tt, (tt, tt)))))))))))))))))))))))))))
 
 -- a part with requests of the first cycle, each by its place and by when it went out; and a run in one part, behind which nothing happens
 abbrev pub part_of : List part.Turn → List Step → List (ℕ × ℕ) → Part
-part_of turns steps sent = record { turns = turns; steps = steps; marks = map (λ x. Some (record { cycle = 1; place = x.0; sent = x.1 })) sent }
+part_of turns steps sent = record { turns = turns; steps = steps; marks = map (λ x. Some (record { cycle = 1; place = x.0; sent = x.1; near = None })) sent }
 
 abbrev pub one_part : List part.Turn → List Step → List (ℕ × ℕ) → List Part
 one_part turns steps sent = part_of turns steps sent ∷ nothing ∷ []
@@ -107,7 +108,7 @@ none_here (inr (inr h)) = h
 
 -- the command's request is the client's first one, and reaches the simulator at the fourth move
 was_made : WasMadeOn WINDOW ends (leaves (turned ends turns (begins before))) moves 8 InstrumentNo answer
-unfolding header_at reply_at handed exec digits
+unfolding is_elsewhere header_at reply_at handed exec digits
 was_made = record { front = take 3 moves; later = drop 4 moves; split = refl; id = 0; rest = []; reaches = refl; executed = refl; reply = refl }
 
 -- a null procedure goes out, and this is heard, for each of these
@@ -119,15 +120,15 @@ abbrev all_turns : List part.Turn
 all_turns = part.Asks ∷ part.Hears (codes "%R1P,0,0:0,654321") ∷ part.Hears answer ∷ part.Hears (codes "%R1P,0,6:0") ∷ asked_each (drop 1 replies)
 
 parts_are : parts_of plan commands (opening plan scope) acts ≡ one_part all_turns (seen moves) ((0, 15) ∷ [])
-unfolding header_at reply_at digits
+unfolding is_elsewhere header_at reply_at digits
 parts_are = refl
 
 shown_are : shown ends turns (begins before) ≡ all_turns
-unfolding header_at reply_at handed exec digits
+unfolding is_elsewhere header_at reply_at handed exec digits
 shown_are = refl
 
 pub answered : IsAnsweredInField
-unfolding header_at reply_at handed exec digits
+unfolding is_elsewhere header_at reply_at handed exec digits
 answered =
     record {
       field =

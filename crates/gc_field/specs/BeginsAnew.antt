@@ -1,7 +1,7 @@
 -- Some run begins anew within itself, this project's own. Seven requests go out at once, and are given up. The reply to the first is under
 -- way then, and the seventh request: both come while the station begins again, on the same connection. The eighth command goes out behind
 -- that, with the first one's id, and has the answer that was made for it.
-use Rattle.std.specs.Prelude.{◌≡◌, ℕ, true, false, List, [], ◌∷◌, ◌++◌, codes, drop, map, pos, Some}
+use Rattle.std.specs.Prelude.{◌≡◌, ℕ, true, false, List, [], ◌∷◌, ◌++◌, codes, drop, map, pos, Some, None}
 use Rattle.gc_lines.specs.Lines.{with_end}
 use Rattle.gc_catalogue.specs.declared.answer.Answer.TheVariants.{Long}
 use Rattle.gc_catalogue.specs.declared.answer.Reading.TheVariants.{Value}
@@ -37,7 +37,7 @@ abbrev pub command : ℕ → Command
 command target = record { target = target; call = InstrumentNo }
 
 abbrev pub commands : List Task
-commands = map (λ target. record { command = command target; deadline = 100; chained = false }) (1 ∷ 2 ∷ 3 ∷ 4 ∷ 5 ∷ 6 ∷ 7 ∷ 8 ∷ [])
+commands = map (λ target. record { command = command target; deadline = 100; chained = false; near = None }) (1 ∷ 2 ∷ 3 ∷ 4 ∷ 5 ∷ 6 ∷ 7 ∷ 8 ∷ [])
 
 -- the scope of this run: at most a hundred acts; every reply is taken to say what the reply to the last command says
 abbrev pub scope : Scope

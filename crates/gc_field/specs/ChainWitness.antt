@@ -1,6 +1,6 @@
 -- Some run of a chain is one in the field, this project's own: it points the telescope at a target, measures the distance, and reads both
 -- there.
-use Rattle.std.specs.Prelude.{◌≡◌, ℕ, true, false, List, [], ◌∷◌, take, codes, pos, Some, refl}
+use Rattle.std.specs.Prelude.{◌≡◌, ℕ, true, false, List, [], ◌∷◌, take, codes, pos, Some, refl, None}
 use Rattle.gc_lines.specs.Lines.{with_end}
 use Rattle.gc_values.specs.Decimals.{decimal}
 use Rattle.gc_values.specs.declared.decimal.Decimal.{Decimal}
@@ -49,9 +49,9 @@ reads_all = SimpleMea (pos 3000) (pos 1)
 -- the three commands, as one chain
 abbrev pub commands : List Task
 commands =
-    record { command = record { target = 7; call = points }; deadline = 100; chained = false }
-    ∷ record { command = record { target = 7; call = measures }; deadline = 100; chained = true }
-    ∷ record { command = record { target = 7; call = reads_all }; deadline = 100; chained = true }
+    record { command = record { target = 7; call = points }; deadline = 100; chained = false; near = None }
+    ∷ record { command = record { target = 7; call = measures }; deadline = 100; chained = true; near = None }
+    ∷ record { command = record { target = 7; call = reads_all }; deadline = 100; chained = true; near = None }
     ∷ []
 
 -- the scope of this run: at most a hundred acts; every reply is taken to say a value, whichever

@@ -10,6 +10,7 @@ use Rattle.gc_client.specs.declared.window.TheConstants.{WINDOW}
 use Rattle.gc_instrument.specs.State.{KeptReply}
 use Rattle.gc_links.specs.Acts.{Act}
 use Rattle.gc_texts.specs.Endings.{Answered}
+use Rattle.gc_texts.specs.declared.near.Near.{Near}
 use Rattle.gc_texts.specs.declared.tasks.Task.{Task}
 use Rattle.gc_station.specs.Answers.{answer_of}
 use Rattle.gc_station.specs.Links.{AreChained}
@@ -126,8 +127,10 @@ module _ {State : Type 0} (ends : Ends State) (Good : State → Type 0) (kept : 
     pub m : ℕ
     pub n : ℕ
     pub goes_on : m < n
-    pub mark_a : slice_get part.marks m ≡ Some (Some (mark_of record_a))
-    pub mark_b : slice_get part.marks n ≡ Some (Some (mark_of b))
+    pub near_a : Option Near
+    pub near_b : Option Near
+    pub mark_a : slice_get part.marks m ≡ Some (Some (mark_of near_a record_a))
+    pub mark_b : slice_get part.marks n ≡ Some (Some (mark_of near_b b))
     -- the commands that went out between them are those of the places between them, of the same cycle
     pub between : (x : ℕ) (mark : _) → m < x → x < n → slice_get part.marks x ≡ Some (Some mark) → (mark.cycle ≡ b.cycle) × (a < mark.place) × (mark.place < b.place)
     -- and they were executed in this order, with these replies

@@ -1,7 +1,7 @@
 -- A run over an instrument that isn't the simulator, this project's own: it keeps no reply, and what it measures changes by itself. The
 -- first null procedure goes out again, and the beginning goes on over another connection; a reply is lost, and its request given up; the
 -- instrument starts anew, and its connection is made again.
-use Rattle.std.specs.Prelude.{◌≡◌, ℕ, true, false, List, [], ◌∷◌, codes, pos, Some}
+use Rattle.std.specs.Prelude.{◌≡◌, ℕ, true, false, List, [], ◌∷◌, codes, pos, Some, None}
 use Rattle.std.specs.Fmt.{decimal}
 use Rattle.gc_lines.specs.Lines.{with_end}
 use Rattle.gc_lines.specs.Replies.{reply_text}
@@ -44,8 +44,8 @@ plan = record { width = 1; deadline = 100; every = 0; cycles = 1; quiet = 10; re
 -- two requests for a number
 abbrev pub commands : List Task
 commands =
-    record { command = record { target = 7; call = InstrumentNo }; deadline = 100; chained = false }
-    ∷ record { command = record { target = 8; call = InstrumentNo }; deadline = 100; chained = false }
+    record { command = record { target = 7; call = InstrumentNo }; deadline = 100; chained = false; near = None }
+    ∷ record { command = record { target = 8; call = InstrumentNo }; deadline = 100; chained = false; near = None }
     ∷ []
 
 -- the scope of this run: at most a hundred acts; every reply is taken to say what the reply to the second command says

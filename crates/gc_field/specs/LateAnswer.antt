@@ -1,5 +1,5 @@
 -- Some run in the field writes a late record down, this project's own: a command is given up, and its reply comes behind that.
-use Rattle.std.specs.Prelude.{◌≡◌, ℕ, true, false, List, [], ◌∷◌, codes, pos, Some}
+use Rattle.std.specs.Prelude.{◌≡◌, ℕ, true, false, List, [], ◌∷◌, codes, pos, Some, None}
 use Rattle.gc_lines.specs.Lines.{with_end}
 use Rattle.gc_catalogue.specs.declared.answer.Answer.TheVariants.{Long}
 use Rattle.gc_catalogue.specs.declared.call.Call.TheVariants.{InstrumentNo}
@@ -23,8 +23,8 @@ use Rattle.gc_field.specs.Witness.{plan, scope, at, begun_with, eight, replies}
 -- two requests for the instrument's number
 abbrev pub commands : List Task
 commands =
-    record { command = record { target = 7; call = InstrumentNo }; deadline = 100; chained = false }
-    ∷ record { command = record { target = 8; call = InstrumentNo }; deadline = 100; chained = false }
+    record { command = record { target = 7; call = InstrumentNo }; deadline = 100; chained = false; near = None }
+    ∷ record { command = record { target = 8; call = InstrumentNo }; deadline = 100; chained = false; near = None }
     ∷ []
 
 -- the replies to the two requests

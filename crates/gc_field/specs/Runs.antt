@@ -8,6 +8,7 @@ use Rattle.gc_client.specs.Beginning.{IsSubsequence, the_word}
 use Rattle.gc_client.specs.declared.window.TheConstants.{WINDOW}
 use Rattle.gc_client.specs.Rule.{ById, Answered, Late, Settlement, lost}
 use Rattle.gc_instrument.specs.State.{KeptReply, State, IsFittingState}
+use Rattle.gc_texts.specs.declared.near.Near.{Near}
 use Rattle.gc_texts.specs.declared.tasks.Task.{Task}
 use Rattle.gc_texts.specs.Endings as end
 use Rattle.gc_station.specs.declared.plan.Plan.{Plan}
@@ -110,7 +111,8 @@ module _ {State : Type 0} (ends : Ends State) (Good : State → Type 0) (kept : 
     pub of_parts : slice_get ps k ≡ Some part
     pub of_stretches : slice_get ss k ≡ Some stretch
     pub m : ℕ
-    pub mark : slice_get part.marks m ≡ Some (Some (mark_of r))
+    pub near : Option Near
+    pub mark : slice_get part.marks m ≡ Some (Some (mark_of near r))
     pub request : Sent
     pub sent : slice_get (own_sent ends stretch) m ≡ Some request
     pub task : Task
@@ -137,7 +139,8 @@ module _ {State : Type 0} (ends : Ends State) (Good : State → Type 0) (kept : 
     pub of_parts : slice_get ps k ≡ Some part
     pub of_stretches : slice_get ss k ≡ Some stretch
     pub m : ℕ
-    pub mark : slice_get part.marks m ≡ Some (Some (mark_of r))
+    pub near : Option Near
+    pub mark : slice_get part.marks m ≡ Some (Some (mark_of near r))
     pub task : Task
     pub listed : slice_get commands r.place ≡ Some task
     pub line : List ℕ

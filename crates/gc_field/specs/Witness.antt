@@ -1,6 +1,6 @@
 -- Some run is one in the field, this project's own: over a line with a request and a reply of before under way it begins, and a command is
 -- asked and answered. So what is said of all such runs is said of some.
-use Rattle.std.specs.Prelude.{◌≡◌, ℕ, true, false, List, [], ◌∷◌, codes, drop, pos, Some}
+use Rattle.std.specs.Prelude.{◌≡◌, ℕ, true, false, List, [], ◌∷◌, codes, drop, pos, Some, None}
 use Rattle.gc_lines.specs.Lines.{with_end}
 use Rattle.gc_catalogue.specs.declared.answer.Answer.TheVariants.{Long}
 use Rattle.gc_catalogue.specs.declared.answer.Reading.TheVariants.{Value}
@@ -35,7 +35,7 @@ plan = plan_of 1
 
 -- the command: a request for the instrument's number
 abbrev pub commands : List Task
-commands = record { command = record { target = 7; call = InstrumentNo }; deadline = 100; chained = false } ∷ []
+commands = record { command = record { target = 7; call = InstrumentNo }; deadline = 100; chained = false; near = None } ∷ []
 
 -- the scope of this run: at most a hundred acts; every reply is taken to say what the reply to the command says
 abbrev pub scope : Scope

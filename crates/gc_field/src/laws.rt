@@ -35,7 +35,7 @@ pub fn stations_answers_are_their_own<State>()
 /// Of every run of a station, for any instrument, over any number of connections, with whatever the line does, and with an instrument
 /// that may start anew and change by itself at any time; and whatever is under way at its start, unless the word 6 5 4 3 2 1 0 7 is a
 /// subsequence of the ids of that: it begins cleanly, at first and wherever it begins anew; each answer that it writes down, from its first
-/// command on, was made on executing the very request of that cycle and place; the instrument dealt with each that is late; the records
+/// command on, also one that is unreadable or elsewhere, was made on executing the very request of that cycle and place; the instrument dealt with each that is late; the records
 /// and what waits are the commands sent, one for one; and each stretch from one beginning to the next is faithful.
 pub fn runs_are_faithful<State>()
     ensures { RunsAreFaithful State }

@@ -131,12 +131,14 @@ AllLast is_durable (Err _) = Unit {0}
 abbrev pub overrun_line : ℕ → List ℕ
 overrun_line cycle = codes "geocom: cycle " ++ decimal cycle ++ codes " was not done when the next was due\n"
 
--- how many were answered, late and lost, and how many were skipped, unreadable and missed, to the end of the line
+-- how many were answered, late and lost, and how many were skipped, unreadable, missed and elsewhere, to the end of the line
 abbrev pub ends_text : Tally → List ℕ
 ends_text t = codes "answered " ++ decimal t.answered ++ codes " late " ++ decimal t.late ++ codes " lost " ++ decimal t.lost ++ codes " "
 
 abbrev pub others_text : Tally → List ℕ
-others_text t = codes "skipped " ++ decimal t.skipped ++ codes " unreadable " ++ decimal t.unreadable ++ codes " missed " ++ decimal t.missed ++ codes "\n"
+others_text t =
+    codes "skipped " ++ decimal t.skipped ++ codes " unreadable " ++ decimal t.unreadable ++ codes " missed " ++ decimal t.missed
+    ++ codes " elsewhere " ++ decimal t.elsewhere ++ codes "\n"
 
 -- the line of the counts of a run that is done
 abbrev pub tally_line : Tally → List ℕ

@@ -12,6 +12,7 @@ use Rattle.gc_texts.specs.WholeTexts.{Input, WasRead, RefusesText}
 use Rattle.gc_texts.specs.declared.fault.RunFault.{RunFault}
 use Rattle.gc_texts.specs.declared.fault.RunFault.TheVariants.{Schedule}
 use Rattle.gc_texts.specs.declared.name.Name.{Name}
+use Rattle.gc_texts.specs.declared.near.Near.{Near}
 use Rattle.gc_texts.specs.declared.tasks.Task.{Task}
 use Rattle.gc_texts.specs.declared.trouble.Trouble.{Trouble}
 
@@ -30,7 +31,8 @@ pub record HasNoCommand (given : List ℕ) (old new : Input) (stop : Stop) : Typ
   pub deadline : ℕ
   pub chained : Bool
   pub names : List Name
-  pub are : IsTasks given deadline chained [] names
+  pub nears : List Near
+  pub are : IsTasks given deadline chained [] names nears
   pub is : stop ≡ Empty
 
 -- the text that a source gave is no station's text, or wasn't read, or it has no command
@@ -42,5 +44,6 @@ RefusesTasks given old new stop =
 -- choice's deadline, and are chained or not as the choice says
 pub record GivesTasks (given : List ℕ) (old new : Input) (choice : Choice) (tasks : List Task) (names : List Name) : Type 0 where
   pub read : WasRead given old new
-  pub are : IsTasks given choice.deadline choice.chained tasks names
+  pub nears : List Near
+  pub are : IsTasks given choice.deadline choice.chained tasks names nears
   pub some : 0 < length tasks

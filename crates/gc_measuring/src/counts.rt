@@ -51,7 +51,7 @@ fn write_ends<E: Write>(tally: Tally, messages: &mut E) -> io::Result<()>
     write!(messages, "answered {answered} late {late} lost {lost} ")
 }
 
-// How many were skipped, unreadable and missed, to the end of the line.
+// How many were skipped, unreadable, missed and elsewhere, to the end of the line.
 fn write_others<E: Write>(tally: Tally, messages: &mut E) -> io::Result<()>
     ensures { OnOk result (Appends (E.contents messages.old) (E.contents messages.new) (others_text tally)) }
 {
@@ -59,10 +59,11 @@ fn write_others<E: Write>(tally: Tally, messages: &mut E) -> io::Result<()>
         skipped,
         unreadable,
         missed,
+        elsewhere,
         ..
     } = tally;
     writeln!(
         messages,
-        "skipped {skipped} unreadable {unreadable} missed {missed}"
+        "skipped {skipped} unreadable {unreadable} missed {missed} elsewhere {elsewhere}"
     )
 }

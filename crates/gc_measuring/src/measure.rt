@@ -15,7 +15,7 @@ use crate::task_text::read_task_text;
 use crate::telling::Teller;
 use gc_lines::{Durable, PortFailed, Source, write_whole};
 use gc_links::{Link, Moment};
-use gc_messages::{Noticed, Spot, Streams, tell_turns};
+use gc_messages::{Noticed, Spot, Streams, tell_turns, tell_unasked};
 use gc_rows::{When, write_head, write_record};
 use gc_station::{Book, LinkHealth, Tally, run_station};
 use gc_texts::{Command, Ending, RunFault, Stamp, Task, Tasks};
@@ -33,7 +33,8 @@ use std::io::Write;
 /// comes with the faults of [`run_station`], and with `Output` where the output failed: in front of the records, and then the link
 /// wasn't used, or at a record.
 ///
-/// What is odd of the text is told on the messages at the start: each angle of a positioning that lies outside one turn. So are signs
+/// What is odd of the text is told on the messages at the start: each angle of a positioning that lies outside one turn, and each target
+/// that stands somewhere and that no command asks for its direction. So are signs
 /// of life, each at most once a minute, where the choice has them, and once what is noticed of the line at the spot. Where that
 /// can't be written the station measures on.
 pub fn run_station_text<L: Link, S: Source, K: Durable, E: Write>(
@@ -73,13 +74,23 @@ pub fn run_station_text<L: Link, S: Source, K: Durable, E: Write>(
     let Ok(()) = write_front(&mut streams.output, station.layout) else {
         return (streams, Err(Stop::Run(RunFault::Output)));
     };
-    let Tasks { tasks, names } = tasks;
-    let _ = tell_turns(text.as_slice(), tasks.as_slice(), &mut streams.messages);
+    let _ = tell_turns(
+        text.as_slice(),
+        tasks.tasks.as_slice(),
+        &mut streams.messages,
+    );
+    let _ = tell_unasked(&tasks, &mut streams.messages);
+    let Tasks {
+        tasks,
+        names,
+        nears,
+    } = tasks;
     // A run may take months.
     drop(text);
     let named = Tasks {
         tasks: Vec::new(alloc),
         names,
+        nears,
     };
     let work = Work {
         tasks,

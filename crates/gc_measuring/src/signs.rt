@@ -127,13 +127,13 @@ impl Signs {
     {
         self.cycle = stamp.cycle;
         match ending {
-            Ending::Answered(..) | Ending::Unreadable(_, _) => self.answer(),
+            Ending::Answered(..) | Ending::Unreadable(_, _) | Ending::Elsewhere(_) => self.answer(),
             Ending::Skipped => self.skip(stamp.utc),
             Ending::Late | Ending::Lost | Ending::Missed => {}
         }
     }
 
-    // An answer came, whether its values read or not.
+    // An answer came, whether its values read or not, and wherever it was measured.
     fn answer(&mut self)
         ensures { self.new.counts ≡ self.old.counts }
     {
@@ -378,6 +378,7 @@ fn show_others<E: Write>(counts: Tally, row: &mut E) -> io::Result<()> {
         ("skipped", counts.skipped),
         ("unreadable", counts.unreadable),
         ("missed", counts.missed),
+        ("elsewhere", counts.elsewhere),
     ] {
         show_count(name, count, row)?;
     }

@@ -12,6 +12,7 @@ mod oddity;
 mod standard;
 mod streams;
 mod turns;
+mod unasked;
 
 pub use bounded::Bounded;
 pub use ending::{end_of, refuse_numbers, refuse_place, tell_end};
@@ -23,3 +24,4 @@ pub use oddity::{Noticed, Noticing, Oddities, Spot, tell_place};
 pub use standard::{Places, Standard};
 pub use streams::Streams;
 pub use turns::tell_turns;
+pub use unasked::tell_unasked;

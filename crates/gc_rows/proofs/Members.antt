@@ -29,7 +29,7 @@ use Rattle.gc_values.specs.declared.fault.ValueFault.TheVariants.{Spelling, Rang
 use Rattle.gc_values.specs.declared.value.Value.{Value}
 use Rattle.gc_values.specs.declared.value.Value.TheVariants as value
 use Rattle.gc_values.proofs.OneText.{whole_text_once, decimal_text_once}
-use Rattle.gc_texts.specs.Endings.{End, Answered, Unreadable, Late, Lost, Skipped, Missed}
+use Rattle.gc_texts.specs.Endings.{End, Answered, Unreadable, Elsewhere, Late, Lost, Skipped, Missed}
 use Rattle.gc_rows.specs.JsonLines.{Text, Number, without_zeros, sent_members, when_members, name_members, what_members, reply_members, ending_members, value_members, values_members, quantity_members}
 use Rattle.gc_rows.specs.Laws.{IsPlainName, IsMember, IsReplyOfBytes, IsAnswerOfBytes, IsEnd, IsWhen, ColumnsSay, RecordsAreMembers}
 use Rattle.gc_rows.specs.Quantities.{column_of, quantity_name, quantity_names}
@@ -232,6 +232,7 @@ ending_are (Answered (Some answer) line) is = (outcome (codes "answered") refl, 
 ending_are (Answered None line) is = (outcome (codes "answered") refl, reply_are line is)
 ending_are (Unreadable line fault) is =
     (outcome (codes "unreadable") refl, ((plain_name (codes "fault") refl, IsNumber-decimal (fault_number fault) (fault_fits fault)), reply_are line is))
+ending_are (Elsewhere line) is = (outcome (codes "elsewhere") refl, reply_are line is)
 ending_are Late is = (outcome (codes "late") refl, tt)
 ending_are Lost is = (outcome (codes "lost") refl, tt)
 ending_are Skipped is = (outcome (codes "skipped") refl, tt)

@@ -7,7 +7,7 @@ use Rattle.json.specs.Json as json
 use Rattle.json.specs.Json.{document}
 use Rattle.json.specs.Print.{IsNumber}
 use Rattle.csv.specs.declared.parser.State.TheVariants.{StartRecord}
-use Rattle.gc_texts.specs.Endings.{End, Answered, Unreadable, Late, Lost, Skipped, Missed}
+use Rattle.gc_texts.specs.Endings.{End, Answered, Unreadable, Elsewhere, Late, Lost, Skipped, Missed}
 use Rattle.gc_catalogue.specs.Answers.{IsFittingAnswer}
 use Rattle.gc_catalogue.specs.declared.answer.Answer.{Answer}
 use Rattle.gc_catalogue.specs.declared.answer.Answer.TheVariants as answers
@@ -87,6 +87,7 @@ abbrev pub IsEnd : End → Type 0
 IsEnd (Answered (Some answer) line) = IsReplyOfBytes line × IsAnswerOfBytes answer
 IsEnd (Answered None line) = IsReplyOfBytes line
 IsEnd (Unreadable line fault) = IsReplyOfBytes line
+IsEnd (Elsewhere line) = IsReplyOfBytes line
 IsEnd Late = Unit {0}
 IsEnd Lost = Unit {0}
 IsEnd Skipped = Unit {0}

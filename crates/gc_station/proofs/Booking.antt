@@ -4,15 +4,18 @@ use Rattle.std.specs.Prelude.{slice_get}
 use Rattle.std.specs.List.{AllByRecursion}
 use Rattle.std.proofs.lemmas.List.{length-map, length-append, map-append}
 use Rattle.std.proofs.lemmas.Bool.{ne_eqb}
+use Rattle.gc_catalogue.specs.declared.answer.Answer.{Answer}
 use Rattle.gc_catalogue.specs.declared.answer.Reading.{Reading}
 use Rattle.gc_catalogue.specs.declared.call.Call.{Call}
 use Rattle.gc_catalogue.specs.declared.answer.Reading.TheVariants as kind
 use Rattle.gc_client.specs.OneForOne.{Asked, Course, Step, Send, Hear, Expire, Restart, sent_on, goes, course, of_settled, of_pending}
 use Rattle.gc_client.specs.Rule.{ById, Outcome, Answered, Late, Lost, Sending, Settlement, fresh, heard, hears, expires, lost, id_send, sends}
 use Rattle.gc_client.proofs.OneForOne.{heard_parts, lost_parts}
+use Rattle.gc_texts.specs.Nears.{is_elsewhere}
+use Rattle.gc_texts.specs.declared.near.Near.{Near}
 use Rattle.gc_texts.specs.declared.tasks.Task.{Task}
 use Rattle.gc_station.specs.declared.mark.Mark.{Mark}
-use Rattle.gc_station.specs.Marks.{answer_as, end_of, record_of, records_of}
+use Rattle.gc_station.specs.Marks.{value_as, answer_as, end_of, record_of, records_of}
 use Rattle.gc_station.specs.Records.{Record}
 use Rattle.gc_station.specs.Model.{client_sent}
 use Rattle.gc_station.specs.Parts.{Turn, Part, only_turns, only, nothing, joined, asking, IsOf, AreOf, went_out, sent_with, sent_of, timeless}
@@ -134,16 +137,20 @@ records_more reads (None ∷ ms) more (s ∷ ss) le = records_more reads ms more
 records_more reads (Some mark ∷ ms) more (s ∷ ss) le = ap (λ rs. record_of reads 0 mark s ∷ rs) (records_more reads ms more ss (omega (arith, le)))
 
 -- those that are of settlements went out, all of them
-end_sent : (reading : Reading) (line : List ℕ) → went_out (answer_as reading line) ≡ true
-end_sent (kind.Value answer) line = refl
-end_sent (kind.Refused code) line = refl
-end_sent (kind.ComFault code) line = refl
-end_sent (kind.Unreadable fault) line = refl
+value_sent : (away : Bool) (answer : Answer) (line : List ℕ) → went_out (value_as away answer line) ≡ true
+value_sent true answer line = refl
+value_sent false answer line = refl
 
-ended_sent : (reads : Call → List ℕ → Reading) (call : Call) (o : Outcome) → went_out (end_of reads call o) ≡ true
-ended_sent reads call (Answered line) = end_sent (reads call line) line
-ended_sent reads call Late = refl
-ended_sent reads call Lost = refl
+end_sent : (near : Option Near) (reading : Reading) (line : List ℕ) → went_out (answer_as near reading line) ≡ true
+end_sent near (kind.Value answer) line = value_sent (is_elsewhere near answer) answer line
+end_sent near (kind.Refused code) line = refl
+end_sent near (kind.ComFault code) line = refl
+end_sent near (kind.Unreadable fault) line = refl
+
+pub ended_sent : (reads : Call → List ℕ → Reading) (near : Option Near) (call : Call) (o : Outcome) → went_out (end_of reads near call o) ≡ true
+ended_sent reads near call (Answered line) = end_sent near (reads call line) line
+ended_sent reads near call Late = refl
+ended_sent reads near call Lost = refl
 
 records_sent : (reads : Call → List ℕ → Reading) (utc : ℕ) (ms : List (Option Mark)) (ss : List Settlement) → sent_of (records_of reads utc ms ss) ≡ records_of reads utc ms ss
 records_sent reads utc [] ss = refl
@@ -151,7 +158,7 @@ records_sent reads utc (m ∷ ms) [] = refl
 records_sent reads utc (None ∷ ms) (s ∷ ss) = records_sent reads utc ms ss
 records_sent reads utc (Some mark ∷ ms) (s ∷ ss) =
     let r = record_of reads utc mark s in
-    ap (λ (b : Bool). sent_with b r (sent_of (records_of reads utc ms ss))) (ended_sent reads s.call s.outcome) ∙ ap (λ rs. r ∷ rs) (records_sent reads utc ms ss)
+    ap (λ (b : Bool). sent_with b r (sent_of (records_of reads utc ms ss))) (ended_sent reads mark.near s.call s.outcome) ∙ ap (λ rs. r ∷ rs) (records_sent reads utc ms ss)
 
 sent_more : (b : Bool) (r : Record) (xs ys : List Record) → sent_with b r (xs ++ ys) ≡ sent_with b r xs ++ ys
 sent_more true r xs ys = refl

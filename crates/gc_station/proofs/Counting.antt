@@ -1,7 +1,7 @@
 -- A tally counts the records.
 use Rattle.std.proofs.Common.{◌≡◌, ℕ, suc, ◌+◌, ◌≤◌, Bool, true, false, List, [], ◌∷◌, if◌then◌else◌, refl, ap, ◌∙◌, arith}
-use Rattle.gc_texts.specs.Endings.{End, Answered, Unreadable, Late, Lost, Skipped, Missed}
-use Rattle.gc_station.specs.Counting.{how_many, is_answered, is_unreadable, is_late, is_lost, is_skipped, is_missed, at_most, TalliesCountRecords}
+use Rattle.gc_texts.specs.Endings.{End, Answered, Unreadable, Elsewhere, Late, Lost, Skipped, Missed}
+use Rattle.gc_station.specs.Counting.{how_many, is_answered, is_unreadable, is_elsewhere, is_late, is_lost, is_skipped, is_missed, at_most, TalliesCountRecords}
 use Rattle.gc_station.specs.Records.{Record}
 use Rattle.gc_station.specs.Tallies.{none_yet, one_more, counted, tallied}
 use Rattle.gc_station.specs.declared.tally.Tally.{Tally}
@@ -35,6 +35,10 @@ unreadable : (end : End) (t : Tally) → (counted end t).unreadable ≡ (if is_u
 unreadable (Unreadable line fault) t = refl
 unreadable end t = refl
 
+elsewhere : (end : End) (t : Tally) → (counted end t).elsewhere ≡ (if is_elsewhere end then one_more t.elsewhere else t.elsewhere)
+elsewhere (Elsewhere line) t = refl
+elsewhere end t = refl
+
 late : (end : End) (t : Tally) → (counted end t).late ≡ (if is_late end then one_more t.late else t.late)
 late Late t = refl
 late end t = refl
@@ -59,4 +63,5 @@ count_records = record {
   lost = counts_all (λ (t : Tally). t.lost) is_lost lost refl;
   skipped = counts_all (λ (t : Tally). t.skipped) is_skipped skipped refl;
   missed = counts_all (λ (t : Tally). t.missed) is_missed missed refl;
+  elsewhere = counts_all (λ (t : Tally). t.elsewhere) is_elsewhere elsewhere refl;
 }

@@ -7,6 +7,7 @@ use Rattle.gc_client.specs.declared.pending.Pending.{Pending}
 use Rattle.gc_client.specs.Rule.{Settlement, expired}
 use Rattle.gc_client.specs.OneForOne.{Asked, of_settled, of_pending}
 use Rattle.gc_client.proofs.OneForOne.{expired_parts}
+use Rattle.gc_texts.specs.declared.near.Near.{Near}
 use Rattle.gc_texts.specs.declared.tasks.Task.{Task}
 use Rattle.gc_station.specs.declared.mark.Mark.{Mark}
 use Rattle.gc_station.specs.EachOnce.{Request, requests, of_task, all_cycles, sent_by, of_record, of_waiting, still_waiting}
@@ -149,12 +150,12 @@ sent_next commands (suc n) place task others at some =
     ∙ ap (λ xs. cycles ++ requests (suc n) 0 xs) (sym (map-append of_task (take place commands) (task ∷ [])) ∙ ap (map of_task) (sym (take_next commands place task others at)))
 
 -- a command is sent
-pub each_sent : (commands : List Task) (begun place utc : ℕ) (ms : List (Option Mark)) (ws : List Pending) (p : Pending) (rs : List Record) (task : Task) (others : List Task)
+pub each_sent : (commands : List Task) (begun place utc : ℕ) (near : Option Near) (ms : List (Option Mark)) (ws : List Pending) (p : Pending) (rs : List Record) (task : Task) (others : List Task)
     → length ms ≡ length ws → drop place commands ≡ task ∷ others → of_pending p ≡ of_task task → 0 < begun
-    → EachIs ms ws rs (sent_by commands begun place) → EachIs (ms ++ Some (record { cycle = begun; place = place; sent = utc }) ∷ []) (ws ++ p ∷ []) rs (sent_by commands begun (place + 1))
-each_sent commands begun place utc ms ws p rs task others paired at is some h =
+    → EachIs ms ws rs (sent_by commands begun place) → EachIs (ms ++ Some (record { cycle = begun; place = place; sent = utc; near = near }) ∷ []) (ws ++ p ∷ []) rs (sent_by commands begun (place + 1))
+each_sent commands begun place utc near ms ws p rs task others paired at is some h =
     let front = map of_record rs in
-    let mark : Mark = record { cycle = begun; place = place; sent = utc } in
+    let mark : Mark = record { cycle = begun; place = place; sent = utc; near = near } in
     ap (λ xs. front ++ xs) (more_waiting ms ws (Some mark) p paired ∙ ap (λ a. still_waiting ms ws ++ requests begun place (a ∷ [])) is)
     ∙ sym (append_assoc front (still_waiting ms ws) (requests begun place (of_task task ∷ [])))
     ∙ ap (λ xs. xs ++ requests begun place (of_task task ∷ [])) h

@@ -23,7 +23,7 @@ use Rattle.gc_station.specs.Reasons.{IsFor}
 use Rattle.gc_station.specs.Records.{Record}
 use Rattle.gc_station.specs.Runs.{stood}
 use Rattle.gc_texts.specs.Endings.{Skipped, Missed}
-use Rattle.gc_station.specs.Model.{Model, opening, action_at, waiting_of, place_next, mark_next, with_progress, asks_null, asks_first, asks_next, is_chained_behind_next, with_records, skips, skips_first, after_clock, moved, after, after_all}
+use Rattle.gc_station.specs.Model.{Model, opening, action_at, waiting_of, place_next, near_first, mark_next, with_progress, asks_null, asks_first, asks_next, is_chained_behind_next, with_records, skips, skips_first, after_clock, moved, after, after_all}
 use Rattle.gc_station.proofs.Acting.{mid_fail, mid_moment, mid_clock, mid_put, mid_open, mid_close, mid_read}
 use Rattle.gc_station.proofs.Each.{each_empty, sent_whole}
 use Rattle.gc_station.proofs.Facts.{action_for}
@@ -75,7 +75,7 @@ mid_first plan commands next_is_chained s [] at is some room mid =
 mid_first plan commands next_is_chained s (task ∷ others) at is some room mid =
     let p = s.progress in
     let t = asks_first (mark_next plan commands p) (task ∷ others) s in (
-      sound_sent plan commands p.left p.unsent s.client s.marks s.records p.moment.utc (later p.moment.elapsed task.deadline) task others room some at mid.0,
+      sound_sent plan commands p.left p.unsent s.client s.marks s.records p.moment.utc (later p.moment.elapsed task.deadline) (near_first (drop (place_next commands p) commands)) task others room some at mid.0,
       going_placed p.phase p.left (p.unsent - 1) s.rest t.marks is,
     )
 

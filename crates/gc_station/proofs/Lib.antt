@@ -49,3 +49,4 @@ mod Ticking
 mod Cycles
 mod Unsent
 mod Pauses
+mod Nearly

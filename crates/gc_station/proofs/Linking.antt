@@ -21,7 +21,7 @@ use Rattle.gc_station.specs.Reasons.{IsFor}
 use Rattle.gc_station.specs.Records.{Record}
 use Rattle.gc_station.specs.Runs.{stood}
 use Rattle.gc_station.specs.Scopes.{Scope}
-use Rattle.gc_station.specs.Model.{Model, Performs, Puts, Runs, opening, action_at, waiting_of, place_next, cycles_begun, mark_next, first_text, after, after_all}
+use Rattle.gc_station.specs.Model.{Model, Performs, Puts, Runs, opening, action_at, waiting_of, place_next, cycles_begun, near_first, mark_next, first_text, after, after_all}
 use Rattle.gc_texts.specs.Endings.{Answered}
 use Rattle.gc_catalogue.specs.declared.answer.Answer.{Answer}
 use Rattle.gc_station.proofs.Chaining.{StaysBegun, chain_whole}
@@ -312,7 +312,7 @@ module _ (plan : Plan) (commands : List Task) (scope : Scope) where
     rest : List Act
     order : before ≡ start ++ act ∷ rest
     sends : action_at plan (at start) ≡ Send
-    mark : mark_of answer ≡ mark_next plan commands (at start).progress
+    mark : mark_of (near_first (drop (place_next commands (at start).progress) commands)) answer ≡ mark_next plan commands (at start).progress
     same : length (parts plan commands scope before) ≡ length (parts plan commands scope start)
 
   get_last : (xs : List Record) (x : Record) → slice_get (xs ++ x ∷ []) (length xs) ≡ Some x
@@ -352,9 +352,10 @@ module _ (plan : Plan) (commands : List Task) (scope : Scope) where
         order = l.order;
         sends = l.sends;
         mark =
-            ap (λ c. record { cycle = c; place = l.answer.place; sent = unwrap_or l.answer.sent 0 }) l.own_cycle
-            ∙ ap (λ p. record { cycle = cycles_begun plan (at l.before).progress; place = p; sent = unwrap_or l.answer.sent 0 }) l.own_place
-            ∙ ap (λ o. record { cycle = cycles_begun plan (at l.before).progress; place = place_next commands (at l.before).progress; sent = unwrap_or o 0 }) utc;
+            let near = near_first (drop (place_next commands (at l.before).progress) commands) in
+            ap (λ c. record { cycle = c; place = l.answer.place; sent = unwrap_or l.answer.sent 0; near = near }) l.own_cycle
+            ∙ ap (λ p. record { cycle = cycles_begun plan (at l.before).progress; place = p; sent = unwrap_or l.answer.sent 0; near = near }) l.own_place
+            ∙ ap (λ o. record { cycle = cycles_begun plan (at l.before).progress; place = place_next commands (at l.before).progress; sent = unwrap_or o 0; near = near }) utc;
         same = same_link acts runs next l keeps;
       }
 
@@ -424,7 +425,8 @@ module _ (plan : Plan) (commands : List Task) (scope : Scope) where
         answered = h.answered;
         well = h.well;
         m = has.2;
-        mark = subst (λ (p : Part). slice_get p.marks has.2 ≡ Some (Some (mark_of h.answer))) same (subst (λ (k : Mark). slice_get has.0.marks has.2 ≡ Some (Some k)) (sym h.mark) has.3);
+        near = near_first (drop (place_next commands s.progress) commands);
+        mark = subst (λ (p : Part). slice_get p.marks has.2 ≡ Some (Some (mark_of (near_first (drop (place_next commands s.progress) commands)) h.answer))) same (subst (λ (k : Mark). slice_get has.0.marks has.2 ≡ Some (Some k)) (sym h.mark) has.3);
       }
 
 pub chains_stay : ChainsStay

@@ -227,7 +227,7 @@ losing_honest plan commands scope acts act fine obeys h = by_test (loses_all t.p
   of_lost : AllByRecursion (IsLostRecord plan commands scope all) written
   of_lost =
       records_all (λ (k : ℕ). LostOf plan commands scope all) (IsLostRecord plan commands scope all) t.reads t.progress.moment.utc 0 (map lost t.client.waiting) t.marks
-      (λ i x mark is. (mark, x, refl, refl, refl, record { reads = t.reads; command = refl; ended = refl }, is))
+      (λ i x mark is. (mark, x, refl, refl, refl, record { reads = t.reads; near = mark.near; command = refl; ended = refl }, is))
       (rows_all (Waits plan commands scope all t.client.next (length t.client.waiting)) (λ (k : ℕ). LostOf plan commands scope all) lost 0 0 t.client.waiting t.marks
       (λ n j p mark w. record { number = n; at = j; id = id_at t.client.next (length t.client.waiting) j; pending = p; is = refl; asked = w }) h.waiting)
 

@@ -3,6 +3,7 @@ use Rattle.std.proofs.Common.{◌≡◌, ℕ, zero, suc, ◌+◌, ◌-◌, ◌<�
 use Rattle.std.specs.List.{AllByRecursion}
 use Rattle.std.proofs.lemmas.Bool.{ltb-true}
 use Rattle.std.proofs.lemmas.List.{length-drop}
+use Rattle.gc_catalogue.specs.declared.answer.Answer.{Answer}
 use Rattle.gc_catalogue.specs.declared.answer.Reading.{Reading}
 use Rattle.gc_catalogue.specs.declared.answer.Reading.TheVariants as reading
 use Rattle.gc_catalogue.specs.declared.call.Call.{Call}
@@ -12,12 +13,15 @@ use Rattle.gc_client.specs.Ids.{id_at, IsWindow}
 use Rattle.gc_client.specs.Rule.{ById, Outcome, Settlement, Settled, Answered, Late, Lost, place_in, met, settle, hears, id_settled}
 use Rattle.gc_client.proofs.Digits.{settling}
 use Rattle.gc_texts.specs.declared.tasks.Task.{Task}
+use Rattle.gc_texts.specs.Endings.{End}
 use Rattle.gc_texts.specs.Endings as ends
+use Rattle.gc_texts.specs.Nears.{is_elsewhere}
+use Rattle.gc_texts.specs.declared.near.Near.{Near}
 use Rattle.gc_station.specs.declared.mark.Mark.{Mark}
 use Rattle.gc_station.specs.declared.plan.Plan.{Plan}
 use Rattle.gc_links.specs.Acts.{Act}
 use Rattle.gc_station.specs.Answers.{answer_of}
-use Rattle.gc_station.specs.Marks.{answer_as, end_of, command_of, record_of, records_of}
+use Rattle.gc_station.specs.Marks.{value_as, answer_as, end_of, command_of, record_of, records_of}
 use Rattle.gc_station.specs.Records.{Record}
 use Rattle.gc_station.proofs.Lists.{AllAt, Rows, RowAt, rows_on, rows_drop, row_at}
 use Rattle.gc_station.proofs.Waiting.{StayedAt, WaitsAt, asked_as}
@@ -155,51 +159,48 @@ left_waits plan commands scope acts first now c x marks l w all =
 -- a record is that of a settlement
 pub record IsRecordOf (r : Record) (x : Settlement) : Type 0 where
   pub reads : Call → List ℕ → Reading
+  pub near : Option Near
   pub command : r.command ≡ command_of x
-  pub ended : r.end ≡ end_of reads x.call x.outcome
+  pub ended : r.end ≡ end_of reads near x.call x.outcome
 
-answer_line : (x : Reading) (line : List ℕ) → answer_of (answer_as x line) ≡ Some line
-answer_line (reading.Value answer) line = refl
-answer_line (reading.Refused code) line = refl
-answer_line (reading.ComFault code) line = refl
-answer_line (reading.Unreadable fault) line = refl
+value_line : (away : Bool) (answer : Answer) (line : List ℕ) → answer_of (value_as away answer line) ≡ Some line
+value_line true answer line = refl
+value_line false answer line = refl
 
-never_late : (x : Reading) (line : List ℕ) → answer_as x line ≡ ends.Late → ⊥
-never_late (reading.Value answer) line e = cc
-never_late (reading.Refused code) line e = cc
-never_late (reading.ComFault code) line e = cc
-never_late (reading.Unreadable fault) line e = cc
+answer_line : (near : Option Near) (x : Reading) (line : List ℕ) → answer_of (answer_as near x line) ≡ Some line
+answer_line near (reading.Value answer) line = value_line (is_elsewhere near answer) answer line
+answer_line near (reading.Refused code) line = refl
+answer_line near (reading.ComFault code) line = refl
+answer_line near (reading.Unreadable fault) line = refl
 
-never_lost : (x : Reading) (line : List ℕ) → answer_as x line ≡ ends.Lost → ⊥
-never_lost (reading.Value answer) line e = cc
-never_lost (reading.Refused code) line e = cc
-never_lost (reading.ComFault code) line e = cc
-never_lost (reading.Unreadable fault) line e = cc
+-- an end without a line is none of an answer
+unanswered : (near : Option Near) (x : Reading) (line : List ℕ) (end : End) → answer_of end ≡ None → answer_as near x line ≡ end → ⊥
+unanswered near x line end none e = let bad : Some line ≡ None = sym (answer_line near x line) ∙ ap answer_of e ∙ none in cc
 
 -- how its request ended
-answered_so : (reads : Call → List ℕ → Reading) (call : Call) (o : Outcome) (l : List ℕ) → answer_of (end_of reads call o) ≡ Some l → o ≡ Answered l
-answered_so reads call (Answered line) l e = let same : Some line ≡ Some l = sym (answer_line (reads call line) line) ∙ e in cc
-answered_so reads call Late l e = cc
-answered_so reads call Lost l e = cc
+answered_so : (reads : Call → List ℕ → Reading) (near : Option Near) (call : Call) (o : Outcome) (l : List ℕ) → answer_of (end_of reads near call o) ≡ Some l → o ≡ Answered l
+answered_so reads near call (Answered line) l e = let same : Some line ≡ Some l = sym (answer_line near (reads call line) line) ∙ e in cc
+answered_so reads near call Late l e = cc
+answered_so reads near call Lost l e = cc
 
-late_so : (reads : Call → List ℕ → Reading) (call : Call) (o : Outcome) → end_of reads call o ≡ ends.Late → o ≡ Late
-late_so reads call (Answered line) e = absurd (never_late (reads call line) line e)
-late_so reads call Late e = refl
-late_so reads call Lost e = cc
+late_so : (reads : Call → List ℕ → Reading) (near : Option Near) (call : Call) (o : Outcome) → end_of reads near call o ≡ ends.Late → o ≡ Late
+late_so reads near call (Answered line) e = absurd (unanswered near (reads call line) line ends.Late refl e)
+late_so reads near call Late e = refl
+late_so reads near call Lost e = cc
 
-lost_so : (reads : Call → List ℕ → Reading) (call : Call) (o : Outcome) → end_of reads call o ≡ ends.Lost → o ≡ Lost
-lost_so reads call (Answered line) e = absurd (never_lost (reads call line) line e)
-lost_so reads call Late e = cc
-lost_so reads call Lost e = refl
+lost_so : (reads : Call → List ℕ → Reading) (near : Option Near) (call : Call) (o : Outcome) → end_of reads near call o ≡ ends.Lost → o ≡ Lost
+lost_so reads near call (Answered line) e = absurd (unanswered near (reads call line) line ends.Lost refl e)
+lost_so reads near call Late e = cc
+lost_so reads near call Lost e = refl
 
 pub was_answered : (r : Record) (x : Settlement) → IsRecordOf r x → (l : List ℕ) → answer_of r.end ≡ Some l → x.outcome ≡ Answered l
-was_answered r x is l e = answered_so is.reads x.call x.outcome l (ap answer_of (sym is.ended) ∙ e)
+was_answered r x is l e = answered_so is.reads is.near x.call x.outcome l (ap answer_of (sym is.ended) ∙ e)
 
 pub was_late : (r : Record) (x : Settlement) → IsRecordOf r x → r.end ≡ ends.Late → x.outcome ≡ Late
-was_late r x is e = late_so is.reads x.call x.outcome (sym is.ended ∙ e)
+was_late r x is e = late_so is.reads is.near x.call x.outcome (sym is.ended ∙ e)
 
 pub was_lost : (r : Record) (x : Settlement) → IsRecordOf r x → r.end ≡ ends.Lost → x.outcome ≡ Lost
-was_lost r x is e = lost_so is.reads x.call x.outcome (sym is.ended ∙ e)
+was_lost r x is e = lost_so is.reads is.near x.call x.outcome (sym is.ended ∙ e)
 
 -- the records of settlements
 pub records_all : (Q : ℕ → Settlement → Option Mark → Type 0) (R : Record → Type 0) (reads : Call → List ℕ → Reading) (utc j : ℕ) (xs : List Settlement) (marks : List (Option Mark))

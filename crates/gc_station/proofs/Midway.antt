@@ -11,6 +11,7 @@ use Rattle.gc_client.specs.declared.pending.Pending.{Pending}
 use Rattle.gc_client.specs.Rule.{ById, Settlement, expires, expired, fresh, lost, pending_of, id_send, sends}
 use Rattle.gc_client.specs.OneForOne.{of_settled, of_pending}
 use Rattle.gc_client.proofs.OneForOne.{lost_parts}
+use Rattle.gc_texts.specs.declared.near.Near.{Near}
 use Rattle.gc_texts.specs.declared.tasks.Task.{Task}
 use Rattle.gc_texts.specs.Endings.{End}
 use Rattle.gc_station.specs.declared.mark.Mark.{Mark}
@@ -141,20 +142,20 @@ sound_null plan commands left unsent client marks records target call deadline r
     })
 
 -- a command is sent
-pub sound_sent : (plan : Plan) (commands : List Task) (left unsent : ℕ) (client : ById) (marks : List (Option Mark)) (records : List Record) (utc deadline : ℕ) (task : Task) (others : List Task)
+pub sound_sent : (plan : Plan) (commands : List Task) (left unsent : ℕ) (client : ById) (marks : List (Option Mark)) (records : List Record) (utc deadline : ℕ) (near : Option Near) (task : Task) (others : List Task)
     → length client.waiting < 7 → 0 < unsent → drop (length commands - unsent) commands ≡ task ∷ others → Sound plan commands left unsent client marks records
     → Sound plan commands left (unsent - 1) (client_sent client (sends WINDOW client task.command.target task.command.call deadline))
-    (marks ++ Some (record { cycle = plan.cycles - left; place = length commands - unsent; sent = utc }) ∷ []) records
-sound_sent plan commands left unsent client marks records utc deadline task others room some at sound =
+    (marks ++ Some (record { cycle = plan.cycles - left; place = length commands - unsent; sent = utc; near = near }) ∷ []) records
+sound_sent plan commands left unsent client marks records utc deadline near task others room some at sound =
     let p = pending_of task.command.target task.command.call deadline in
     let begun = plan.cycles - left in
     let place = length commands - unsent in
-    let mark : Mark = record { cycle = begun; place = place; sent = utc } in
+    let mark : Mark = record { cycle = begun; place = place; sent = utc; near = near } in
     let more : length (client.waiting ++ p ∷ []) ≡ length client.waiting + 1 = length-append client.waiting (p ∷ []) in
     let below = sound.begun some in
     let many : 0 < begun = omega (arith, below) in
     let place_is : length commands - (unsent - 1) ≡ place + 1 = omega (arith, some, sound.unsents) in
-    let each = each_sent commands begun place utc marks client.waiting p records task others sound.paired at refl many sound.each in
+    let each = each_sent commands begun place utc near marks client.waiting p records task others sound.paired at refl many sound.each in
     subst (λ (c : ById). Sound plan commands left (unsent - 1) c (marks ++ Some mark ∷ []) records) (sym (client_behind client task.command.target task.command.call deadline room)) (record {
       unsents = omega (arith, sound.unsents);
       lefts = sound.lefts;

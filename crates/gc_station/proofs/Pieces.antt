@@ -212,7 +212,7 @@ pub line_written : (plan : Plan) (commands : List Task) (scope : Scope) (acts : 
 line_written plan commands scope acts reads now utc c marks line waits =
     let W = WaitsAt plan commands scope acts (stood plan commands scope acts).client now c.next (length c.waiting) in
     records_all (EndedBy W c (heard line) line) (IsRecorded plan commands scope acts now c line) reads utc 0 (hears c line (heard line)).settlements marks
-    (λ i y mark ended. (i, mark, y, refl, refl, refl, record { reads = reads; command = refl; ended = refl }, ended)) (heard_ended W c marks line (heard line) waits)
+    (λ i y mark ended. (i, mark, y, refl, refl, refl, record { reads = reads; near = mark.near; command = refl; ended = refl }, ended)) (heard_ended W c marks line (heard line) waits)
 
 -- it is true
 line_true : (plan : Plan) (commands : List Task) (scope : Scope) (acts : List Act) (piece : List ℕ) (m : Moment) (c : ById) (front others : List (List ℕ))

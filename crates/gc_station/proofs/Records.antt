@@ -1,5 +1,5 @@
 -- Records, written one after the other by the marks of requests.
-use Rattle.std.proofs.Common.{◌≡◌, ℕ, ◌+◌, ◌<◌, Bool, true, false, List, [], ◌∷◌, ◌++◌, length, take, drop, map, get_or, Option, Some, None, is_some, if◌then◌else◌, refl, sym, ap, ◌∙◌, subst, arith, append_assoc, append-nil}
+use Rattle.std.proofs.Common.{◌≡◌, ℕ, zero, suc, ◌+◌, ◌<◌, Bool, true, false, List, [], ◌∷◌, ◌++◌, length, take, drop, map, get_or, Option, Some, None, is_some, if◌then◌else◌, refl, sym, ap, ◌∙◌, subst, arith, append_assoc, append-nil}
 use Rattle.std.specs.Prelude.{slice_get}
 use Rattle.std.proofs.lemmas.List.{length-map, length-take, map-append, map_more, take_more, take-append-drop}
 use Rattle.std.specs.Io.KnownBytes.{Appends}
@@ -29,6 +29,15 @@ commands_one None true e = cc
 commands_one None false e = refl
 commands_one (Some m) true e = refl
 commands_one (Some m) false e = cc
+
+got_there : (marks : List (Option Mark)) (i : ℕ) (d : Option Mark) → i < length marks → get_or marks i d ≡ get_or marks i None
+got_there [] i d below = absurd (omega (arith, below))
+got_there (mark ∷ marks) zero d below = refl
+got_there (mark ∷ marks) (suc i) d below = let low : i < length marks = omega (arith, below) in got_there marks i d low
+
+-- the mark that is looked at
+pub item_there : (marks : List (Option Mark)) (i : ℕ) (mark : Option Mark) → i < length marks → mark ≡ get_or marks i mark → is_some mark ≡ is_some (get_or marks i None)
+item_there marks i mark below is = ap is_some (is ∙ got_there marks i mark below)
 
 pub commands_more : (marks : List (Option Mark)) (i : ℕ) (b : Bool) → i < length marks → b ≡ is_some (get_or marks i None)
     → commands_in (take (i + 1) marks) ≡ commands_in (take i marks) + (if b then 1 else 0)
@@ -176,6 +185,6 @@ last_more reads a b c front one next so more is = more ∙ ap (λ x. last_well r
 abbrev pub record_as : ℕ → Mark → Rule.Settlement → End → Record
 record_as utc mark settlement end = record { sent = Some mark.sent; utc = utc; cycle = mark.cycle; place = mark.place; command = command_of settlement; end = end }
 
-pub record_same : (reads : Call → List ℕ → Reading) (utc : ℕ) (mark : Mark) (x : Rule.Settlement) (end : End) → end ≡ end_of reads x.call x.outcome
+pub record_same : (reads : Call → List ℕ → Reading) (utc : ℕ) (mark : Mark) (x : Rule.Settlement) (end : End) → end ≡ end_of reads mark.near x.call x.outcome
     → record_as utc mark x end ≡ record_of reads utc mark x
 record_same reads utc mark x end is = ap (record_as utc mark x) is

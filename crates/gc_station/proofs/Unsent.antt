@@ -3,7 +3,6 @@ use Rattle.std.proofs.Common.{◌≡◌, ◌⊎◌, inl, inr, ℕ, ◌<◌, Bool
 use Rattle.std.specs.List.{AllByRecursion}
 use Rattle.gc_lines.specs.Frames.{rest_behind}
 use Rattle.gc_catalogue.specs.declared.answer.Reading.{Reading}
-use Rattle.gc_catalogue.specs.declared.answer.Reading.TheVariants as reading
 use Rattle.gc_catalogue.specs.declared.call.Call.{Call}
 use Rattle.gc_client.specs.Rule
 use Rattle.gc_client.specs.Rule.{heard, hears, lost, restarts}
@@ -12,7 +11,7 @@ use Rattle.gc_texts.specs.declared.tasks.Task.{Task}
 use Rattle.gc_links.specs.Acts.{Act, Told, Gave}
 use Rattle.gc_links.specs.declared.link.Moment.{Moment}
 use Rattle.gc_station.specs.Cycles.{Rises, IsMissedIn, IsSkippedIn, IsTrulyUnsent, UnsentForACause}
-use Rattle.gc_station.specs.Marks.{answer_as, end_of, records_of}
+use Rattle.gc_station.specs.Marks.{records_of}
 use Rattle.gc_station.specs.Parts.{went_out}
 use Rattle.gc_station.specs.Progressing.{turned, told, begun, skipped_at, loses_all}
 use Rattle.gc_station.specs.Records.{Record}
@@ -24,6 +23,7 @@ use Rattle.gc_station.specs.declared.plan.Plan.{Plan}
 use Rattle.gc_station.specs.declared.progress.Action.{Action}
 use Rattle.gc_station.specs.declared.progress.Action.TheVariants as actions
 use Rattle.gc_station.specs.declared.progress.Progress.{Progress}
+use Rattle.gc_station.proofs.Booking.{ended_sent}
 use Rattle.gc_station.proofs.Closings.{needs_of}
 use Rattle.gc_station.proofs.Always.{always}
 use Rattle.gc_station.proofs.Going.{after_all-append}
@@ -73,17 +73,6 @@ module _ (plan : Plan) (commands : List Task) (scope : Scope) (some : 0 < plan.e
           utc = x.utc;
         }
 
-  answer_sent : (said : Reading) (line : List ℕ) → went_out (answer_as said line) ≡ true
-  answer_sent (reading.Value answer) line = refl
-  answer_sent (reading.Refused code) line = refl
-  answer_sent (reading.ComFault code) line = refl
-  answer_sent (reading.Unreadable fault) line = refl
-
-  end_sent : (reads : Call → List ℕ → Reading) (call : Call) (outcome : Rule.Outcome) → went_out (end_of reads call outcome) ≡ true
-  end_sent reads call (Rule.Answered line) = answer_sent (reads call line) line
-  end_sent reads call Rule.Late = refl
-  end_sent reads call Rule.Lost = refl
-
   sent_truly : (acts : List Act) (r : Record) → went_out r.end ≡ true → Truly acts r
   sent_truly acts r out = (λ e. absurd (clash (went_out r.end) out (ap went_out e)), λ e. absurd (clash (went_out r.end) out (ap went_out e)))
 
@@ -92,7 +81,7 @@ module _ (plan : Plan) (commands : List Task) (scope : Scope) (some : 0 < plan.e
   settled_truly acts reads utc [] settlements = tt
   settled_truly acts reads utc (mark ∷ marks) [] = tt
   settled_truly acts reads utc (None ∷ marks) (x ∷ others) = settled_truly acts reads utc marks others
-  settled_truly acts reads utc (Some mark ∷ marks) (x ∷ others) = (sent_truly acts _ (end_sent reads x.call x.outcome), settled_truly acts reads utc marks others)
+  settled_truly acts reads utc (Some mark ∷ marks) (x ∷ others) = (sent_truly acts _ (ended_sent reads mark.near x.call x.outcome), settled_truly acts reads utc marks others)
 
   lines_truly : (acts : List Act) (s : Model) (lines : List (List ℕ)) → AllByRecursion (Truly acts) s.records → AllByRecursion (Truly acts) (lines_came s lines).records
   lines_truly acts s lines h =

@@ -3,7 +3,7 @@
 use Rattle.std.specs.Prelude.{◌≡◌, ℕ, ◌<◌, List, [], ◌∷◌, ◌++◌, drop, Option, Some, None}
 use Rattle.std.specs.List.{AllByRecursion}
 use Rattle.gc_client.specs.Rule.{heard}
-use Rattle.gc_texts.specs.Endings.{End, Answered, Unreadable, Late, Lost, Skipped, Missed}
+use Rattle.gc_texts.specs.Endings.{End, Answered, Unreadable, Elsewhere, Late, Lost, Skipped, Missed}
 use Rattle.gc_texts.specs.declared.tasks.Task.{Task}
 use Rattle.gc_links.specs.declared.link.Moment.{Moment}
 use Rattle.gc_station.specs.declared.plan.Plan.{Plan}
@@ -59,10 +59,11 @@ pub record IsAnsweredIn (plan : Plan) (commands : List Task) (scope : Scope) (ac
   pub written : (stood plan commands scope (before ++ request ∷ (between ++ Gave piece moment ∷ []))).records
       ≡ (stood plan commands scope (before ++ request ∷ between)).records ++ (earlier ++ r ∷ later)
 
--- the line that answered a command, where it ended so; its values read or don't
+-- the line that answered a command, where it ended so: its values read or don't, and it was measured at its target or elsewhere
 abbrev pub answer_of : End → Option (List ℕ)
 answer_of (Answered answer line) = Some line
 answer_of (Unreadable line fault) = Some line
+answer_of (Elsewhere line) = Some line
 answer_of Late = None
 answer_of Lost = None
 answer_of Skipped = None

@@ -1,6 +1,6 @@
 -- A tally counts the records: this project's own.
 use Rattle.std.specs.Prelude.{◌≡◌, ℕ, suc, Bool, true, false, List, [], ◌∷◌, if◌then◌else◌, min}
-use Rattle.gc_texts.specs.Endings.{End, Answered, Unreadable, Late, Lost, Skipped, Missed}
+use Rattle.gc_texts.specs.Endings.{End, Answered, Unreadable, Elsewhere, Late, Lost, Skipped, Missed}
 use Rattle.gc_station.specs.Records.{Record}
 use Rattle.gc_station.specs.Tallies.{none_yet, tallied}
 
@@ -16,6 +16,10 @@ is_answered _ = false
 abbrev pub is_unreadable : End → Bool
 is_unreadable (Unreadable line fault) = true
 is_unreadable _ = false
+
+abbrev pub is_elsewhere : End → Bool
+is_elsewhere (Elsewhere line) = true
+is_elsewhere _ = false
 
 abbrev pub is_late : End → Bool
 is_late Late = true
@@ -45,3 +49,4 @@ pub record TalliesCountRecords : Type 0 where
   pub lost : (records : List Record) → (tallied none_yet records).lost ≡ at_most (how_many is_lost records)
   pub skipped : (records : List Record) → (tallied none_yet records).skipped ≡ at_most (how_many is_skipped records)
   pub missed : (records : List Record) → (tallied none_yet records).missed ≡ at_most (how_many is_missed records)
+  pub elsewhere : (records : List Record) → (tallied none_yet records).elsewhere ≡ at_most (how_many is_elsewhere records)

@@ -29,3 +29,4 @@ pub mod Counting
 pub mod Room
 pub mod Cycles
 pub mod Pauses
+pub mod Nearness

@@ -3,6 +3,7 @@ use Rattle.std.specs.Prelude.{◌≡◌, ◌⊎◌, ℕ, suc, ◌<◌, ◌≤◌
 use Rattle.gc_catalogue.specs.declared.answer.Answer.{Answer}
 use Rattle.gc_links.specs.Acts.{Act}
 use Rattle.gc_texts.specs.Endings.{Answered}
+use Rattle.gc_texts.specs.declared.near.Near.{Near}
 use Rattle.gc_texts.specs.declared.tasks.Task.{Task}
 use Rattle.gc_station.specs.Marks.{is_value}
 use Rattle.gc_station.specs.Parts.{Part, mark_of, parts_of}
@@ -38,7 +39,8 @@ pub record IsAnsweredBack (plan : Plan) (commands : List Task) (scope : Scope) (
   pub answered : answer.end ≡ Answered said line
   pub well : is_value (scope.reads answer.command.call line) ≡ true
   pub m : ℕ
-  pub mark : slice_get part.marks m ≡ Some (Some (mark_of answer))
+  pub near : Option Near
+  pub mark : slice_get part.marks m ≡ Some (Some (mark_of near answer))
 
 -- the command of this cycle and place went out as request n of part i of a run: behind acts whose last part is the front of that one, with n
 -- requests; and each command before it from which it is chained was answered by then, as a request of that very part

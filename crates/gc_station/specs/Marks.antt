@@ -1,12 +1,15 @@
 -- Marks, this project's own: for each request that waits, which command of which cycle it is; a null procedure of the station's own
 -- has none.
 use Rattle.std.specs.Prelude.{ℕ, suc, Bool, true, false, List, [], ◌∷◌, Option, Some, None}
+use Rattle.gc_catalogue.specs.declared.answer.Answer.{Answer}
 use Rattle.gc_catalogue.specs.declared.answer.Reading.{Reading}
 use Rattle.gc_catalogue.specs.declared.answer.Reading.TheVariants as reading
 use Rattle.gc_catalogue.specs.declared.call.Call.{Call}
 use Rattle.gc_client.specs.Rule.{Settlement, Outcome, Answered, Late, Lost}
 use Rattle.gc_texts.specs.declared.commands.Command.{Command}
 use Rattle.gc_texts.specs.Endings.{End}
+use Rattle.gc_texts.specs.Nears.{is_elsewhere}
+use Rattle.gc_texts.specs.declared.near.Near.{Near}
 use Rattle.gc_texts.specs.Endings as end
 use Rattle.gc_station.specs.declared.mark.Mark.{Mark}
 use Rattle.gc_station.specs.Records.{Record}
@@ -17,18 +20,23 @@ commands_in [] = 0
 commands_in (None ∷ marks) = commands_in marks
 commands_in (Some mark ∷ marks) = suc (commands_in marks)
 
--- the end of a command whose reply came in time, by what its line says: the values don't read, or the command is answered, with this
--- answer if both codes are 0
-abbrev pub answer_as : Reading → List ℕ → End
-answer_as (reading.Unreadable fault) line = end.Unreadable line fault
-answer_as (reading.Value answer) line = end.Answered (Some answer) line
-answer_as _ line = end.Answered None line
+-- how an answer with both codes 0 ends a command: it is answered with this answer, or that was measured elsewhere than its target stands
+abbrev pub value_as : Bool → Answer → List ℕ → End
+value_as true answer line = end.Elsewhere line
+value_as false answer line = end.Answered (Some answer) line
+
+-- how an answer ends a command of which its line says this, and whose target stands there, where that was said: its values don't read, or it
+-- was measured elsewhere, or it is answered, and where both codes are 0 with this answer
+abbrev pub answer_as : Option Near → Reading → List ℕ → End
+answer_as near (reading.Unreadable fault) line = end.Unreadable line fault
+answer_as near (reading.Value answer) line = value_as (is_elsewhere near answer) answer line
+answer_as near _ line = end.Answered None line
 
 -- how a command ended whose request ended so
-abbrev pub end_of : (Call → List ℕ → Reading) → Call → Outcome → End
-end_of reads call (Answered line) = answer_as (reads call line) line
-end_of reads call Late = end.Late
-end_of reads call Lost = end.Lost
+abbrev pub end_of : (Call → List ℕ → Reading) → Option Near → Call → Outcome → End
+end_of reads near call (Answered line) = answer_as near (reads call line) line
+end_of reads near call Late = end.Late
+end_of reads near call Lost = end.Lost
 
 -- the command that was settled
 abbrev pub command_of : Settlement → Command
@@ -42,7 +50,7 @@ record_of reads utc mark settlement = record {
   cycle = mark.cycle;
   place = mark.place;
   command = command_of settlement;
-  end = end_of reads settlement.call settlement.outcome;
+  end = end_of reads mark.near settlement.call settlement.outcome;
 }
 
 -- the records of the requests that were settled at a moment, the oldest of those with these marks; a null procedure has none
@@ -63,6 +71,7 @@ is_value (reading.Unreadable fault) = false
 abbrev pub is_well : (Call → List ℕ → Reading) → Call → End → Bool
 is_well reads call (end.Answered answer line) = is_value (reads call line)
 is_well reads call (end.Unreadable line fault) = false
+is_well reads call (end.Elsewhere line) = false
 is_well reads call end.Late = false
 is_well reads call end.Lost = false
 is_well reads call end.Skipped = false

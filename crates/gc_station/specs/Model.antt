@@ -11,6 +11,7 @@ use Rattle.gc_catalogue.specs.declared.call.Call.TheVariants.{NullProc}
 use Rattle.gc_catalogue.specs.Texts.{request_line}
 use Rattle.gc_client.specs.declared.window.TheConstants.{WINDOW}
 use Rattle.gc_client.specs.Rule.{ById, Settlement, Settled, Sending, fresh, sends, hears, heard, expires, restarts, deadlines}
+use Rattle.gc_texts.specs.declared.near.Near.{Near}
 use Rattle.gc_texts.specs.declared.tasks.Task.{Task}
 use Rattle.gc_links.specs.declared.link.Moment.{Moment}
 use Rattle.gc_station.specs.declared.plan.Plan.{Plan}
@@ -69,9 +70,15 @@ place_next commands p = length commands - p.unsent
 abbrev pub cycles_begun : Plan → Progress → ℕ
 cycles_begun plan p = plan.cycles - p.left
 
--- the mark of the next command: its cycle, its place, and the moment told last
+-- where the target of the first of these commands stands, where the text says so
+abbrev pub near_first : List Task → Option Near
+near_first [] = None
+near_first (task ∷ others) = task.near
+
+-- the next command, the cycle that it is of, the moment told last, and where its target stands
 abbrev pub mark_next : Plan → List Task → Progress → Mark
-mark_next plan commands p = record { cycle = cycles_begun plan p; place = place_next commands p; sent = p.moment.utc }
+mark_next plan commands p =
+    record { cycle = cycles_begun plan p; place = place_next commands p; sent = p.moment.utc; near = near_first (drop (place_next commands p) commands) }
 
 -- how many requests of the cycle went out: none before the first cycle
 abbrev pub requests_out : Plan → List Task → Progress → ℕ

@@ -4,8 +4,9 @@ use Rattle.std.specs.Prelude.{◌≡◌, ℕ, ◌&&◌, Bool, true, false, if◌
 use Rattle.gc_catalogue.specs.declared.call.Call.{Call}
 use Rattle.gc_catalogue.specs.declared.call.Call.TheVariants.{NullProc}
 use Rattle.gc_client.specs.OneForOne.{Asked, Step, Send, Hear, Expire}
+use Rattle.gc_texts.specs.declared.near.Near.{Near}
 use Rattle.gc_texts.specs.declared.tasks.Task.{Task}
-use Rattle.gc_texts.specs.Endings.{End, Answered, Unreadable, Late, Lost, Skipped, Missed}
+use Rattle.gc_texts.specs.Endings.{End, Answered, Unreadable, Elsewhere, Late, Lost, Skipped, Missed}
 use Rattle.gc_station.specs.declared.plan.Plan.{Plan}
 use Rattle.gc_station.specs.declared.mark.Mark.{Mark}
 use Rattle.gc_station.specs.declared.progress.Action.{Action}
@@ -117,6 +118,7 @@ AreOf commands _ _ = ⊥
 abbrev pub went_out : End → Bool
 went_out (Answered answer line) = true
 went_out (Unreadable line fault) = true
+went_out (Elsewhere line) = true
 went_out Late = true
 went_out Lost = true
 went_out Skipped = false
@@ -132,9 +134,9 @@ abbrev pub sent_of : List Record → List Record
 sent_of [] = []
 sent_of (r ∷ rs) = sent_with (went_out r.end) r (sent_of rs)
 
--- the command that a record is of; and the record without its moment
-abbrev pub mark_of : Record → Mark
-mark_of r = record { cycle = r.cycle; place = r.place; sent = unwrap_or r.sent 0 }
+-- the command that a record is of, whose target stands there, where that was said; and the record without its moment
+abbrev pub mark_of : Option Near → Record → Mark
+mark_of near r = record { cycle = r.cycle; place = r.place; sent = unwrap_or r.sent 0; near = near }
 
 abbrev pub timeless : Record → Record
 timeless r = record r { utc = 0 }

@@ -1,12 +1,12 @@
 -- How many commands ended how, this project's own.
 use Rattle.std.specs.Prelude.{ℕ, List, [], ◌∷◌}
-use Rattle.gc_texts.specs.Endings.{End, Answered, Unreadable, Late, Lost, Skipped, Missed}
+use Rattle.gc_texts.specs.Endings.{End, Answered, Unreadable, Elsewhere, Late, Lost, Skipped, Missed}
 use Rattle.gc_station.specs.Deciding.{later}
 use Rattle.gc_station.specs.Records.{Record}
 use Rattle.gc_station.specs.declared.tally.Tally.{Tally}
 
 abbrev pub none_yet : Tally
-none_yet = record { answered = 0; late = 0; lost = 0; skipped = 0; unreadable = 0; missed = 0 }
+none_yet = record { answered = 0; late = 0; lost = 0; skipped = 0; unreadable = 0; missed = 0; elsewhere = 0 }
 
 -- one more, or 2^64 - 1 where the count is that already (`later` adds up to that)
 abbrev pub one_more : ℕ → ℕ
@@ -19,6 +19,7 @@ counted Late t = record t { late = one_more t.late }
 counted Lost t = record t { lost = one_more t.lost }
 counted Skipped t = record t { skipped = one_more t.skipped }
 counted (Unreadable line fault) t = record t { unreadable = one_more t.unreadable }
+counted (Elsewhere line) t = record t { elsewhere = one_more t.elsewhere }
 counted Missed t = record t { missed = one_more t.missed }
 
 -- a tally in which the commands of these records are counted

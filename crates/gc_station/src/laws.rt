@@ -23,6 +23,7 @@ ghost use Rattle.gc_station.specs.EachOnce.{EachOnce, IsFurther};
 ghost use Rattle.gc_station.specs.Links.{ChainsStay, MarksGoOn, RecordsStay};
 ghost use Rattle.gc_station.specs.Ends.{IsTrulyLate, IsTrulyLost};
 ghost use Rattle.gc_station.specs.Given.{given};
+ghost use Rattle.gc_station.specs.Nearness.{AnswersAreAtTheirTargets};
 ghost use Rattle.gc_station.specs.Quiet.{IsRequest};
 ghost use Rattle.gc_station.specs.Runs.{stood};
 ghost use Rattle.gc_station.specs.Scopes.{Scope, OneReadingForALine, SomeReadings};
@@ -181,9 +182,15 @@ pub fn chains_stay()
 {}
 
 /// A command was answered well exactly where the communication code and the return code of its reply are both 0 and its parameters
-/// read as an answer of its call. One that is late, lost, skipped or missed never was.
+/// read as an answer of its call that wasn't measured elsewhere. One that is late, lost, skipped or missed never was.
 pub fn answered_well_is_both_codes_zero()
     ensures { WellIsBothCodesZero }
+{}
+
+/// Whatever the line, the instrument or a hand at it did: a record that is answered, of a command whose target stands somewhere, and that has
+/// a direction, is near it. One that is elsewhere has both codes 0, and a direction that isn't.
+pub fn answers_are_at_their_targets()
+    ensures { AnswersAreAtTheirTargets }
 {}
 
 /// Each count of a tally is that of the records that ended so, up to 2^64 - 1.

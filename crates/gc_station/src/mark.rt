@@ -3,7 +3,9 @@
 ghost use Rattle.std.specs.Prelude.{◌≡◌};
 ghost use Rattle.gc_station.specs.Marks.{commands_in};
 
-/// Which command of which cycle was sent, and when.
+use gc_texts::Near;
+
+/// Which command of which cycle was sent, when, and where its target stands.
 #[derive(Clone, Copy, Debug, PartialEq, Eq)]
 pub(crate) struct Mark {
     /// The cycle, counted from 1.
@@ -12,6 +14,8 @@ pub(crate) struct Mark {
     pub place: usize,
     /// The moment that was told last before it was sent, in milliseconds since 1970-01-01, UTC.
     pub sent: u64,
+    /// Where the command's target stands, where the text says so.
+    pub near: Option<Near>,
 }
 
 // How many of these marks are of commands; a null procedure has no mark.

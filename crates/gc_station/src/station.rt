@@ -11,7 +11,7 @@ ghost use Rattle.gc_links.specs.Acts.{Told};
 ghost use Rattle.gc_station.specs.Marks.{commands_in, records_of, last_well};
 ghost use Rattle.gc_station.specs.Scopes.{AreReadings};
 ghost use Rattle.gc_station.specs.Records.{Record, texts_of, WritesAll, WritesNews};
-ghost use Rattle.gc_station.specs.Model.{Model, opening, action_at, place_next, mark_next, requests_out, is_chained, is_chained_behind_next, skips, moved, ended};
+ghost use Rattle.gc_station.specs.Model.{Model, opening, action_at, place_next, near_first, mark_next, requests_out, is_chained, is_chained_behind_next, skips, moved, ended};
 ghost use Rattle.gc_station.specs.Stations.{waiting_in, IsPaired, Refines, Took, Does, Made, stepped, OnCall, ComesTo, IsFitting, seen};
 ghost use Rattle.gc_station.specs.Tallies.{tallied};
 ghost use Rattle.gc_station.specs.declared.progress.Action.TheVariants.{ReadClock, Renew, Begin, Open, Skip, Close};
@@ -31,7 +31,7 @@ use arrayvec::ArrayVec;
 use gc_client::{Client, Settlement, Slots, WINDOW};
 use gc_lines::{Assembler, PortFailed};
 use gc_links::{Link, Moment};
-use gc_texts::{Ending, Stamp, Task};
+use gc_texts::{Ending, Near, Stamp, Task};
 
 // Whether a command at this place goes out only once the one before it was answered well.
 fn is_chained(commands: &[Task], place: usize) -> bool
@@ -109,6 +109,16 @@ impl Station {
         commands.len().saturating_sub(self.progress.unsent)
     }
 
+    // Where the target of the next command stands, where the text says so.
+    fn near(&self, commands: &[Task]) -> Option<Near>
+        ensures { result ≡ near_first (drop (place_next commands.now self.now.progress) commands.now) }
+    {
+        match commands.get(self.place(commands)) {
+            Some(task) => task.near,
+            None => None,
+        }
+    }
+
     // The mark of the next command.
     fn mark(&self, plan: &Plan, commands: &[Task]) -> Mark
         ensures { result ≡ mark_next plan.now commands.now self.now.progress }
@@ -117,6 +127,7 @@ impl Station {
             cycle: plan.cycles.saturating_sub(self.progress.left),
             place: self.place(commands),
             sent: self.progress.moment.utc,
+            near: self.near(commands),
         }
     }
 

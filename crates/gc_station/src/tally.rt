@@ -21,6 +21,8 @@ pub struct Tally {
     pub unreadable: u64,
     /// It wasn't sent: its cycle couldn't begin before the next was due.
     pub missed: u64,
+    /// A reply came in time, with both codes 0, whose direction isn't near where its target stands.
+    pub elsewhere: u64,
 }
 
 impl Tally {
@@ -35,6 +37,7 @@ impl Tally {
             skipped: 0,
             unreadable: 0,
             missed: 0,
+            elsewhere: 0,
         }
     }
 
@@ -45,6 +48,7 @@ impl Tally {
         match ending {
             Ending::Answered(..) => self.answered = self.answered.saturating_add(1),
             Ending::Unreadable(_, _) => self.unreadable = self.unreadable.saturating_add(1),
+            Ending::Elsewhere(_) => self.elsewhere = self.elsewhere.saturating_add(1),
             Ending::Late => self.late = self.late.saturating_add(1),
             Ending::Lost => self.lost = self.lost.saturating_add(1),
             Ending::Skipped => self.skipped = self.skipped.saturating_add(1),

@@ -7,9 +7,10 @@ ghost use Rattle.gc_client.specs.Rule;
 ghost use Rattle.gc_catalogue.specs.declared.answer.Reading.{Reading};
 ghost use Rattle.gc_catalogue.specs.declared.call.Call.{Call};
 ghost use Rattle.gc_client.specs.Settlements.{settlement_seen, outcome_seen, IsWellRead};
-ghost use Rattle.gc_station.specs.Marks.{records_of, end_of, last_well, is_well};
+ghost use Rattle.gc_station.specs.Marks.{records_of, value_as, end_of, last_well, is_well};
 ghost use Rattle.gc_station.specs.Scopes.{AreReadings};
 ghost use Rattle.gc_texts.specs.Endings.{ending_seen};
+ghost use Rattle.gc_texts.specs.Nears.{is_elsewhere};
 ghost use Rattle.gc_station.specs.Records.{WritesNews};
 ghost use Rattle.gc_station.specs.Tallies.{tallied};
 
@@ -17,10 +18,10 @@ use crate::book::Book;
 use crate::mark::Mark;
 use crate::tally::Tally;
 use arrayvec::ArrayVec;
-use gc_catalogue::Reading;
+use gc_catalogue::{Answer, Reading};
 use gc_client::{Outcome, Settlement, WINDOW};
-use gc_lines::PortFailed;
-use gc_texts::{Command, Ending, Stamp};
+use gc_lines::{Line, PortFailed};
+use gc_texts::{Command, Ending, Near, Stamp, is_elsewhere};
 
 // Takes out the mark of the oldest request that waits.
 fn take_mark(marks: &mut ArrayVec<Option<Mark>, WINDOW>) -> Option<Mark>
@@ -34,26 +35,40 @@ fn take_mark(marks: &mut ArrayVec<Option<Mark>, WINDOW>) -> Option<Mark>
     }
 }
 
-// The ending of a command whose request had this outcome.
-fn ending_of(outcome: &Outcome) -> Ending<'_>
+// The ending of a command whose reply has this answer.
+fn value_ending<'a>(near: Option<Near>, answer: &'a Answer, line: &'a Line) -> Ending<'a>
+    ensures { ending_seen result ≡ value_as (is_elsewhere near answer.now) answer.now line.now.items }
+{
+    if is_elsewhere(near, answer) {
+        Ending::Elsewhere(line)
+    } else {
+        Ending::Answered(Some(answer), line)
+    }
+}
+
+// The ending of a command whose request had this outcome, and whose target stands there, where that was said.
+fn ending_of(near: Option<Near>, outcome: &Outcome) -> Ending<'_>
     ensures { (reads : Call → List ℕ → Reading) (call : Call) → AreReadings reads → IsWellRead call outcome.now
-        → ending_seen result ≡ end_of reads call (outcome_seen outcome.now) }
+        → ending_seen result ≡ end_of reads near call (outcome_seen outcome.now) }
 {
     match outcome {
         Outcome::Answered(Reading::Unreadable(fault), line) => Ending::Unreadable(line, *fault),
-        Outcome::Answered(Reading::Value(answer), line) => Ending::Answered(Some(answer), line),
+        Outcome::Answered(Reading::Value(answer), line) => value_ending(near, answer, line),
         Outcome::Answered(_, line) => Ending::Answered(None, line),
         Outcome::Late => Ending::Late,
         Outcome::Lost => Ending::Lost,
     }
 }
 
-// Whether it was answered well: with both codes 0 and values that read.
-fn is_well(outcome: &Outcome) -> bool
+// Whether it was answered well: with both codes 0 and values that read, and not elsewhere.
+fn is_well(near: Option<Near>, outcome: &Outcome) -> bool
     ensures { (reads : Call → List ℕ → Reading) (call : Call) → AreReadings reads → IsWellRead call outcome.now
-        → result ≡ is_well reads call (end_of reads call (outcome_seen outcome.now)) }
+        → result ≡ is_well reads call (end_of reads near call (outcome_seen outcome.now)) }
 {
-    matches!(outcome, Outcome::Answered(Reading::Value(_), _))
+    match outcome {
+        Outcome::Answered(Reading::Value(answer), _) => !is_elsewhere(near, answer),
+        _ => false,
+    }
 }
 
 // Writes how a request with this mark ended. A null procedure has none, and isn't written.
@@ -87,12 +102,12 @@ fn write_one<B: Book>(
         target: settlement.target,
         call: settlement.call,
     };
-    let ending = ending_of(&settlement.outcome);
+    let ending = ending_of(mark.near, &settlement.outcome);
     if let Err(failed) = book.write(stamp, &command, ending) {
         return Err(failed);
     }
     tally.count(ending);
-    *well = is_well(&settlement.outcome);
+    *well = is_well(mark.near, &settlement.outcome);
     Ok(())
 }
 

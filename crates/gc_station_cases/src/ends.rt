@@ -70,6 +70,7 @@ impl Book for Ends {
         match ending {
             Ending::Answered(_, line) => self.note_values(b"a", line),
             Ending::Unreadable(line, _) => self.note_values(b"u", line),
+            Ending::Elsewhere(line) => self.note_values(b"e", line),
             Ending::Late => self.note(b"l"),
             Ending::Lost => self.note(b"x"),
             Ending::Skipped => self.note(b"s"),

@@ -6,7 +6,8 @@
 //!     steps BEGUN #0 end QUIET    what the reads come to
 //!     then dead answers           the steps behind these, where `with` or a row says `first`
 //!     put open lf begin %R1Q,0,0: ..    what is put; `begin` are the eight null procedures of a beginning, one after the other, each once
-//!     ends 10a 11x 2!             cycle, place and a letter for each record: answered (its values behind it), unreadable (likewise),
+//!     ends 10a 11x 2!             cycle, place and a letter for each record: answered (its values behind it), unreadable and
+//!                             elsewhere (likewise),
 //!                                 late, lost (x), skipped or missed; and `!` behind a cycle that overran
 //!     end fault 46                the fault, if there is one
 //!     log ..                      what the log has, over a link with one; without tasks the link only hears

@@ -1,10 +1,13 @@
 -- What holds of a command in a station's text, by the lines in front of it.
-use Rattle.std.proofs.Common.{◌≡◌, inl, inr, ℕ, suc, ◌&&◌, Bool, true, false, List, [], ◌∷◌, ◌++◌, length, Option, Some, None, refl, sym, ap, ◌∙◌, subst, append_assoc, append-nil}
+use Rattle.std.proofs.Common.{◌≡◌, inl, inr, ℕ, suc, ◌&&◌, Bool, true, false, List, [], ◌∷◌, ◌++◌, length, map, Option, Some, None, refl, sym, ap, ◌∙◌, subst, append_assoc, append-nil}
 use Rattle.std.specs.List.{AllByRecursion}
 use Rattle.std.proofs.lemmas.Bool.{eqb-true, eq-eqb}
+use Rattle.std.proofs.lemmas.List.{length-map, map-append}
 use Rattle.gc_texts.specs.Chained.{commands_in, SaysNoDeadline, IsDeadlineBehind, SaysNoMode, mode_line, IsModeBehind, KeepsChains, EndsWithTarget, GoesOut, CommandsGoOutSo}
-use Rattle.gc_texts.specs.Tasks.{opening, behind, goes_on, task_at, tasks_of}
+use Rattle.gc_texts.specs.Nears.{near_of}
+use Rattle.gc_texts.specs.Tasks.{opening, behind, goes_on, task_at, tasks_of, placed}
 use Rattle.gc_texts.specs.declared.commands.Command.{Command}
+use Rattle.gc_texts.specs.declared.near.Near.{Near}
 use Rattle.gc_texts.specs.declared.task_line.TaskLine.{TaskLine}
 use Rattle.gc_texts.specs.declared.task_line.TaskLine.TheVariants as says
 use Rattle.gc_texts.specs.declared.tasks.Mode.{Mode}
@@ -31,6 +34,7 @@ tasks_count mode (says.Deadline d ∷ later) = tasks_count (behind mode (says.De
 tasks_count mode (says.Chained ∷ later) = tasks_count (behind mode says.Chained) later
 tasks_count mode (says.Unchained ∷ later) = tasks_count (behind mode says.Unchained) later
 tasks_count mode (says.Naming n ∷ later) = tasks_count mode later
+tasks_count mode (says.Standing n ∷ later) = tasks_count mode later
 
 all_more : (P : TaskLine → Type 0) (xs : List TaskLine) (line : TaskLine) → AllByRecursion P xs → P line → AllByRecursion P (xs ++ line ∷ [])
 all_more P [] line all here = (here, tt)
@@ -88,6 +92,11 @@ says_more deadline chained lines mode (says.Naming n) h = record {
   mode_is = more_mode chained mode.chained lines (says.Naming n) tt h.mode_is;
   row = λ target e. more_row lines (says.Naming n) target tt (h.row target e);
 }
+says_more deadline chained lines mode (says.Standing n) h = record {
+  deadline_is = more_deadline deadline mode.deadline lines (says.Standing n) tt h.deadline_is;
+  mode_is = more_mode chained mode.chained lines (says.Standing n) tt h.mode_is;
+  row = λ target e. more_row lines (says.Standing n) target tt (h.row target e);
+}
 
 says_all : (deadline : ℕ) (chained : Bool) (done : List TaskLine) (mode : Mode) (lines : List TaskLine) → Says deadline chained done mode
     → Says deadline chained (done ++ lines) (behind_all mode lines)
@@ -107,6 +116,7 @@ row_stays mode (says.Deadline d ∷ later) keeps = row_stays (behind mode (says.
 row_stays mode (says.Chained ∷ later) keeps = absurd keeps.0
 row_stays mode (says.Unchained ∷ later) keeps = absurd keeps.0
 row_stays mode (says.Naming n ∷ later) keeps = row_stays mode later keeps.1
+row_stays mode (says.Standing n ∷ later) keeps = row_stays mode later keeps.1
 
 row_of : (mode : Mode) (lines : List TaskLine) (target : ℕ) → EndsWithTarget lines target → (behind_all mode lines).row ≡ Some target
 row_of mode lines target (before, command, between, at, keeps, same) =
@@ -121,6 +131,7 @@ mode_stays mode (says.Deadline d ∷ later) none = mode_stays (behind mode (says
 mode_stays mode (says.Chained ∷ later) none = absurd none.0
 mode_stays mode (says.Unchained ∷ later) none = absurd none.0
 mode_stays mode (says.Naming n ∷ later) none = mode_stays mode later none.1
+mode_stays mode (says.Standing n ∷ later) none = mode_stays mode later none.1
 
 mode_said : (mode : Mode) (b : Bool) → (behind mode (mode_line b)).chained ≡ b
 mode_said mode true = refl
@@ -147,9 +158,9 @@ goes_row (Some before) target e = ap Some (eqb-true before target e)
 row_goes : (row : Option ℕ) (target : ℕ) → row ≡ Some target → goes_on row target ≡ true
 row_goes row target e = ap (λ r. goes_on r target) e ∙ eq-eqb target target refl
 
-goes_out : (deadline : ℕ) (chained : Bool) (front : List TaskLine) (command : Command) (mode : Mode) → mode ≡ behind_all (opening deadline chained) front
-    → GoesOut deadline chained front command (record { command = command; deadline = mode.deadline; chained = mode.chained && goes_on mode.row command.target })
-goes_out deadline chained front command mode is =
+goes_out : (deadline : ℕ) (chained : Bool) (front : List TaskLine) (command : Command) (mode : Mode) (near : Option Near) → mode ≡ behind_all (opening deadline chained) front
+    → GoesOut deadline chained front command (record { command = command; deadline = mode.deadline; chained = mode.chained && goes_on mode.row command.target; near = near })
+goes_out deadline chained front command mode near is =
     let h : Says deadline chained front mode = subst (λ m. Says deadline chained front m) (sym is) (says_all deadline chained [] (opening deadline chained) front (says_opening deadline chained)) in
     record {
       asks = refl;
@@ -163,13 +174,16 @@ goes_out deadline chained front command mode is =
     }
 
 pub go_out_so : CommandsGoOutSo
-go_out_so text deadline chained tasks names is front later command at =
+go_out_so text deadline chained tasks names nears is front later command at =
     let mode = behind_all (opening deadline chained) front in
-    let task : Task = record { command = command; deadline = mode.deadline; chained = mode.chained && goes_on mode.row command.target } in (
-      tasks_of (opening deadline chained) front,
+    let task : Task = record { command = command; deadline = mode.deadline; chained = mode.chained && goes_on mode.row command.target; near = near_of command.target nears } in (
+      map (placed nears) (tasks_of (opening deadline chained) front),
       task,
-      tasks_of (behind mode (says.Command command)) later,
-      is.tasks_are ∙ ap (tasks_of (opening deadline chained)) at ∙ tasks_both (opening deadline chained) front (says.Command command ∷ later),
-      tasks_count (opening deadline chained) front,
-      goes_out deadline chained front command mode refl,
+      map (placed nears) (tasks_of (behind mode (says.Command command)) later),
+      is.tasks_are ∙ ap (λ said. map (placed nears) (tasks_of (opening deadline chained) said)) at
+          ∙ ap (map (placed nears)) (tasks_both (opening deadline chained) front (says.Command command ∷ later))
+          ∙ map-append (placed nears) (tasks_of (opening deadline chained) front) (tasks_of mode (says.Command command ∷ later)),
+      length-map (tasks_of (opening deadline chained) front) (placed nears) ∙ tasks_count (opening deadline chained) front,
+      goes_out deadline chained front command mode (near_of command.target nears) refl,
+      refl,
     )

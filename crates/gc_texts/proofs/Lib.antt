@@ -19,3 +19,6 @@ pub mod Logs
 pub mod LogStamps
 mod Moments
 mod Chained
+pub mod Placing
+mod Directed
+mod Doubles

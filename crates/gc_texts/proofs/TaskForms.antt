@@ -1,12 +1,15 @@
 -- Which lines have the forms of a station's text.
-use Rattle.std.proofs.Common.{◌≡◌, ◌≤◌, ◌==◌, ℕ, List, [], ◌∷◌, ◌++◌, get_or, true, false, Option, Some, None, arith, refl, ap, subst, sym, ◌∙◌, codes, cond, ne_eqb, if◌then◌else◌}
+use Rattle.std.proofs.Common.{◌≡◌, ◌≤◌, ◌==◌, ℕ, List, [], ◌∷◌, ◌++◌, get_or, true, false, Option, Some, None, MatchOption, arith, refl, ap, subst, sym, ◌∙◌, codes, cond, ne_eqb, if◌then◌else◌}
 use Rattle.std.proofs.lemmas.List.{append_cancel_left}
 use Rattle.gc_values.specs.Digits.{AreDigits}
-use Rattle.gc_texts.specs.Cuts.{Cuts}
+use Rattle.gc_values.proofs.DecimalLaws.{spells_unique}
+use Rattle.gc_texts.specs.Cuts.{Cuts, before, behind}
 use Rattle.gc_texts.specs.Names.{is_name}
 use Rattle.gc_texts.specs.Procedures.{IsNumber}
-use Rattle.gc_texts.specs.TaskLines.{IsDeadline, IsNaming, IsTaskLine}
+use Rattle.gc_texts.specs.Nears.{AreWords, IsNearText}
+use Rattle.gc_texts.specs.TaskLines.{IsDeadline, IsNaming, IsStanding, IsTaskLine}
 use Rattle.gc_texts.specs.declared.name.Name.{Name}
+use Rattle.gc_texts.specs.declared.near.Near.{Near}
 use Rattle.gc_texts.specs.declared.task_line.TaskLine.{TaskLine}
 use Rattle.gc_texts.specs.declared.task_line.TaskLine.TheVariants as says
 use Rattle.gc_texts.proofs.Cutting.{cut_found, one_front, digits_lack_spaces}
@@ -45,13 +48,14 @@ module _ (line rest : List ℕ) (name : Name) (e : line ≡ codes "name " ++ res
       let both : true ≡ false = sym is.text_is ∙ ap is_name (sym same) ∙ isnt in
       cc
 
--- what kind of line it is, and what its first byte tells of that
+-- what kind of line it is, and what its first byte tells of that: `name` and `near` begin alike
 abbrev kind : TaskLine → ℕ
 kind (says.Command command) = 0
 kind (says.Deadline deadline) = 1
 kind says.Chained = 2
 kind says.Unchained = 3
 kind (says.Naming name) = 4
+kind (says.Standing near) = 4
 
 abbrev first_kind : ℕ → ℕ
 first_kind b = if b == 100 then 1 else if b == 99 then 2 else if b == 117 then 3 else if b == 110 then 4 else 0
@@ -76,6 +80,7 @@ kind_is line (says.Deadline deadline) is = ap kind_in is.line_is
 kind_is line says.Chained is = ap kind_in is
 kind_is line says.Unchained is = ap kind_in is
 kind_is line (says.Naming name) is = ap kind_in is.line_is
+kind_is line (says.Standing near) is = ap kind_in is.line_is
 
 one_deadline : (line : List ℕ) (m n : ℕ) → IsDeadline line m → IsDeadline line n → m ≡ n
 one_deadline line m n x y =
@@ -91,12 +96,44 @@ one_naming line m n x y =
     (digits_lack_spaces x.target_text x.target_is.names.digits) (digits_lack_spaces y.target_text y.target_is.names.digits) in
     same_name m n (one_number y.target_text m.target n.target 4294967295 (subst (λ (t : List ℕ). IsNumber t m.target 4294967295) parts.0 x.target_is) y.target_is) parts.1
 
+same_near : (m n : Near) → m.target ≡ n.target → m.place.hz ≡ n.place.hz → m.place.v ≡ n.place.v → m.tolerance ≡ n.tolerance → m ≡ n
+same_near m n e f g h =
+    ap (λ t. record { target = t; place = m.place; tolerance = m.tolerance }) e
+    ∙ ap (λ z. record { target = n.target; place = record { hz = z; v = m.place.v }; tolerance = m.tolerance }) f
+    ∙ ap (λ z. record { target = n.target; place = record { hz = n.place.hz; v = z }; tolerance = m.tolerance }) g
+    ∙ ap (λ z. record { target = n.target; place = n.place; tolerance = z }) h
+
+one_near : (target hz v tolerance : List ℕ) (m n : Near) → AreWords target hz v tolerance m → AreWords target hz v tolerance n → m ≡ n
+one_near target hz v tolerance m n x y =
+    same_near m n (one_number target m.target n.target 4294967295 x.target_is y.target_is)
+    (spells_unique hz m.place.hz n.place.hz x.hz_is y.hz_is) (spells_unique v m.place.v n.place.v x.v_is y.v_is) (spells_unique tolerance m.tolerance n.tolerance x.tolerance_is y.tolerance_is)
+
+one_standing : (line : List ℕ) (m n : Near) → IsStanding line m → IsStanding line n → m ≡ n
+one_standing line m n x y =
+    one_near (before 32 y.rest) (before 32 (behind 32 y.rest)) (before 32 (behind 32 (behind 32 y.rest))) (behind 32 (behind 32 (behind 32 y.rest))) m n
+    (subst (λ (r : List ℕ). IsNearText r m) (append_cancel_left (codes "near ") x.rest y.rest (sym x.line_is ∙ y.line_is)) x.near_is) y.near_is
+
+-- what is read behind `near `
+pub stands_so : (line rest : List ℕ) (r : Option Near) → line ≡ codes "near " ++ rest → MatchOption r ((near : Near) → IsNearText rest near → ⊥) (λ near. IsNearText rest near)
+    → MatchOption r ((near : Near) → IsStanding line near → ⊥) (λ near. IsStanding line near)
+stands_so line rest None e none = λ near is. none near (subst (λ (r : List ℕ). IsNearText r near) (append_cancel_left (codes "near ") is.rest rest (sym is.line_is ∙ e)) is.near_is)
+stands_so line rest (Some near) e is = record { rest = rest; line_is = e; near_is = is }
+
+-- a line of a name is none of a place
+never_both : (line : List ℕ) (name : Name) (near : Near) → IsNaming line name → IsStanding line near → ⊥
+never_both line name near x y =
+    let second : ◌≡◌ {A = ℕ} 97 101 = ap (λ bs. get_or bs 1 0) (sym x.line_is ∙ y.line_is) in
+    omega (arith, second)
+
 same_said : (line : List ℕ) (a b : TaskLine) → IsTaskLine line a → IsTaskLine line b → kind a ≡ kind b → a ≡ b
 same_said line (says.Command c) (says.Command d) x y h = ap says.Command (one_command line c d x y)
 same_said line (says.Deadline m) (says.Deadline n) x y h = ap says.Deadline (one_deadline line m n x y)
 same_said line says.Chained says.Chained x y h = refl
 same_said line says.Unchained says.Unchained x y h = refl
 same_said line (says.Naming m) (says.Naming n) x y h = ap says.Naming (one_naming line m n x y)
+same_said line (says.Standing m) (says.Standing n) x y h = ap says.Standing (one_standing line m n x y)
+same_said line (says.Naming m) (says.Standing n) x y h = absurd (never_both line m n x y)
+same_said line (says.Standing m) (says.Naming n) x y h = absurd (never_both line n m y x)
 same_said line a b x y h = absurd (omega (arith, h))
 
 -- a line says one thing

@@ -6,9 +6,10 @@ use Rattle.gc_texts.specs.Commands.{IsCommand}
 use Rattle.gc_texts.specs.Laws.{OneTaskList, CommandsAreTasks, CommandsArePlain, AreRows, ChainsAreRows}
 use Rattle.gc_texts.specs.LineForms.{is_kept, text_lines, AreItems}
 use Rattle.gc_texts.specs.TaskLines.{IsTaskLine}
-use Rattle.gc_texts.specs.Tasks.{opening, behind, goes_on, tasks_of, names_of, MayFollow}
+use Rattle.gc_texts.specs.Tasks.{opening, behind, goes_on, tasks_of, names_of, nears_of, placed, MayFollow}
 use Rattle.gc_texts.specs.declared.commands.Command.{Command}
 use Rattle.gc_texts.specs.declared.name.Name.{Name}
+use Rattle.gc_texts.specs.declared.near.Near.{Near}
 use Rattle.gc_texts.specs.declared.task_line.TaskLine.{TaskLine}
 use Rattle.gc_texts.specs.declared.task_line.TaskLine.TheVariants as says
 use Rattle.gc_texts.specs.declared.tasks.Mode.{Mode}
@@ -16,11 +17,15 @@ use Rattle.gc_texts.specs.declared.tasks.Task.{Task}
 use Rattle.gc_texts.proofs.OneReading.{one_list}
 use Rattle.gc_texts.proofs.TaskForms.{one_said}
 
--- a text gives one list of tasks, and one of names
+-- a text gives one list of tasks, one of names, and one of places
 pub one_task_list : OneTaskList
-one_task_list text deadline chained xs ys ms ns h k =
+one_task_list text deadline chained xs ys ms ns ps qs h k =
     let same : h.said ≡ k.said = one_list IsTaskLine one_said (filter is_kept (text_lines text)) h.said k.said h.lines.forms k.lines.forms in
-    (h.tasks_are ∙ ap (tasks_of (opening deadline chained)) same ∙ sym k.tasks_are, h.names_are ∙ ap names_of same ∙ sym k.names_are)
+    let places : ps ≡ qs = h.nears_are ∙ ap nears_of same ∙ sym k.nears_are in (
+      h.tasks_are ∙ ap (λ ns. map (placed ns) (tasks_of (opening deadline chained) h.said)) places ∙ ap (λ said. map (placed qs) (tasks_of (opening deadline chained) said)) same ∙ sym k.tasks_are,
+      h.names_are ∙ ap names_of same ∙ sym k.names_are,
+      places,
+    )
 
 -- lines of commands
 abbrev asks : List Command → List TaskLine
@@ -32,14 +37,28 @@ asked_forms [] (c ∷ cs) are = absurd are
 asked_forms (line ∷ lines) [] are = absurd are
 asked_forms (line ∷ lines) (c ∷ cs) are = (are.0, asked_forms lines cs are.1)
 
--- whatever names there are, commands may follow
-asked_follow : (names : List Name) (commands : List Command) → MayFollow names (asks commands)
-asked_follow names [] = tt
-asked_follow names (c ∷ cs) = (refl, asked_follow (names ++ []) cs)
+-- whatever names and places there are, commands may follow
+asked_follow : (names : List Name) (nears : List Near) (commands : List Command) → MayFollow names nears (asks commands)
+asked_follow names nears [] = tt
+asked_follow names nears (c ∷ cs) = (refl, asked_follow (names ++ []) (nears ++ []) cs)
 
 asked_names : (commands : List Command) → [] ≡ names_of (asks commands)
 asked_names [] = refl
 asked_names (c ∷ cs) = asked_names cs
+
+asked_nears : (commands : List Command) → [] ≡ nears_of (asks commands)
+asked_nears [] = refl
+asked_nears (c ∷ cs) = asked_nears cs
+
+-- where no place is said, the tasks stand nowhere
+unplaced : (mode : Mode) (lines : List TaskLine) → tasks_of mode lines ≡ map (placed []) (tasks_of mode lines)
+unplaced mode [] = refl
+unplaced mode (says.Command c ∷ later) = ap (λ ts. tasks_of mode (says.Command c ∷ []) ++ ts) (unplaced (behind mode (says.Command c)) later)
+unplaced mode (says.Deadline d ∷ later) = unplaced (behind mode (says.Deadline d)) later
+unplaced mode (says.Chained ∷ later) = unplaced (behind mode says.Chained) later
+unplaced mode (says.Unchained ∷ later) = unplaced (behind mode says.Unchained) later
+unplaced mode (says.Naming n ∷ later) = unplaced mode later
+unplaced mode (says.Standing n ∷ later) = unplaced mode later
 
 asked_tasks : (mode : Mode) (commands : List Command) → map (λ task. task.command) (tasks_of mode (asks commands)) ≡ commands
 asked_tasks mode [] = refl
@@ -51,15 +70,16 @@ commands_are_tasks text commands deadline chained are = (
   tasks_of (opening deadline chained) (asks commands),
   record {
     said = asks commands;
-    lines = record { forms = asked_forms (filter is_kept (text_lines text)) commands are; follow = asked_follow [] commands };
-    tasks_are = refl;
+    lines = record { forms = asked_forms (filter is_kept (text_lines text)) commands are; follow = asked_follow [] [] commands };
+    tasks_are = unplaced (opening deadline chained) (asks commands);
     names_are = asked_names commands;
+    nears_are = asked_nears commands;
   },
   asked_tasks (opening deadline chained) commands,
 )
 
 abbrev plain : ℕ → Command → Task
-plain deadline command = record { command = command; deadline = deadline; chained = false }
+plain deadline command = record { command = command; deadline = deadline; chained = false; near = None }
 
 plain_tasks : (deadline : ℕ) (row : Option ℕ) (commands : List Command) → map (plain deadline) commands ≡ tasks_of (record { deadline = deadline; chained = false; row = row }) (asks commands)
 plain_tasks deadline row [] = refl
@@ -69,9 +89,10 @@ pub commands_are_plain : CommandsArePlain
 commands_are_plain text commands deadline are =
     record {
       said = asks commands;
-      lines = record { forms = asked_forms (filter is_kept (text_lines text)) commands are; follow = asked_follow [] commands };
-      tasks_are = plain_tasks deadline None commands;
+      lines = record { forms = asked_forms (filter is_kept (text_lines text)) commands are; follow = asked_follow [] [] commands };
+      tasks_are = plain_tasks deadline None commands ∙ unplaced (opening deadline false) (asks commands);
       names_are = asked_names commands;
+      nears_are = asked_nears commands;
     }
 
 both_true : (a b : Bool) → (a && b) ≡ true → b ≡ true
@@ -96,7 +117,14 @@ rows mode before (says.Deadline d ∷ later) h = rows (behind mode (says.Deadlin
 rows mode before (says.Chained ∷ later) h = rows (behind mode says.Chained) before later (inl refl)
 rows mode before (says.Unchained ∷ later) h = rows (behind mode says.Unchained) before later (inl refl)
 rows mode before (says.Naming n ∷ later) h = rows mode before later h
+rows mode before (says.Standing n ∷ later) h = rows mode before later h
+
+-- wherever targets stand
+placed_rows : (nears : List Near) (before : Option ℕ) (tasks : List Task) → AreRows before tasks → AreRows before (map (placed nears) tasks)
+placed_rows nears before [] are = tt
+placed_rows nears before (task ∷ later) are = (are.0, placed_rows nears (Some task.command.target) later are.1)
 
 -- a chain stays within its row
 pub chains_are_rows : ChainsAreRows
-chains_are_rows text deadline chained tasks names is = rw is.tasks_are (rows (opening deadline chained) None is.said (inl refl))
+chains_are_rows text deadline chained tasks names nears is =
+    rw is.tasks_are (placed_rows nears None (tasks_of (opening deadline chained) is.said) (rows (opening deadline chained) None is.said (inl refl)))

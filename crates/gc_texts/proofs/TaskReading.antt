@@ -1,11 +1,12 @@
--- The tasks and names of lines that stand one behind the other, and how far the reading of a station's text has come.
+-- The tasks, names and places of lines that stand one behind the other, and how far the reading of a station's text has come.
 use Rattle.std.proofs.Common.{◌≡◌, ◌+◌, ◌≤◌, ℕ, List, [], ◌∷◌, ◌++◌, length, Option, Some, Bool, true, false, refl, ap, subst, sym, ◌∙◌, append_assoc, append-nil}
 use Rattle.std.specs.Prelude.{not}
 use Rattle.gc_texts.specs.Cuts.{Cuts}
 use Rattle.gc_texts.specs.LineForms.{text_lines, is_skipped, is_kept, without_cr}
 use Rattle.gc_texts.specs.TaskLines.{IsTaskLine}
-use Rattle.gc_texts.specs.Tasks.{behind, task_at, tasks_of, name_at, names_of, may_stand, MayFollow, IsFirstFaultyTask, IsBehindATask}
+use Rattle.gc_texts.specs.Tasks.{behind, task_at, tasks_of, name_at, names_of, near_at, nears_of, may_stand, MayFollow, IsFirstFaultyTask, IsBehindATask}
 use Rattle.gc_texts.specs.declared.name.Name.{Name}
+use Rattle.gc_texts.specs.declared.near.Near.{Near}
 use Rattle.gc_texts.specs.declared.task_line.TaskLine.{TaskLine}
 use Rattle.gc_texts.specs.declared.tasks.Mode.{Mode}
 use Rattle.gc_texts.specs.declared.tasks.Task.{Task}
@@ -27,34 +28,47 @@ names_more : (lines : List TaskLine) (next : TaskLine) → names_of (lines ++ ne
 names_more [] next = append-nil (name_at next)
 names_more (line ∷ lines) next = ap (λ ns. name_at line ++ ns) (names_more lines next) ∙ sym (append_assoc (name_at line) (names_of lines) (name_at next))
 
+nears_more : (lines : List TaskLine) (next : TaskLine) → nears_of (lines ++ next ∷ []) ≡ nears_of lines ++ near_at next
+nears_more [] next = append-nil (near_at next)
+nears_more (line ∷ lines) next = ap (λ ns. near_at line ++ ns) (nears_more lines next) ∙ sym (append_assoc (near_at line) (nears_of lines) (near_at next))
+
 behind_more : (mode : Mode) (lines : List TaskLine) (next : TaskLine) → behind_all mode (lines ++ next ∷ []) ≡ behind (behind_all mode lines) next
 behind_more mode [] next = refl
 behind_more mode (line ∷ lines) next = behind_more (behind mode line) lines next
 
-follow_more : (names : List Name) (lines : List TaskLine) (next : TaskLine) → MayFollow names lines → may_stand (names ++ names_of lines) next ≡ true → MayFollow names (lines ++ next ∷ [])
-follow_more names [] next follow stands = (ap (λ ns. may_stand ns next) (sym (append-nil names)) ∙ stands, tt)
-follow_more names (line ∷ lines) next follow stands =
-    (follow.0, follow_more (names ++ name_at line) lines next follow.1 (ap (λ ns. may_stand ns next) (append_assoc names (name_at line) (names_of lines)) ∙ stands))
+follow_more : (names : List Name) (nears : List Near) (lines : List TaskLine) (next : TaskLine) → MayFollow names nears lines
+    → may_stand (names ++ names_of lines) (nears ++ nears_of lines) next ≡ true → MayFollow names nears (lines ++ next ∷ [])
+follow_more names nears [] next follow stands = (ap (λ ns. may_stand ns nears next) (sym (append-nil names)) ∙ ap (λ ps. may_stand (names ++ []) ps next) (sym (append-nil nears)) ∙ stands, tt)
+follow_more names nears (line ∷ lines) next follow stands = (
+  follow.0,
+  follow_more (names ++ name_at line) (nears ++ near_at line) lines next follow.1
+      (ap (λ ns. may_stand ns ((nears ++ near_at line) ++ nears_of lines) next) (append_assoc names (name_at line) (names_of lines))
+      ∙ ap (λ ps. may_stand (names ++ (name_at line ++ names_of lines)) ps next) (append_assoc nears (near_at line) (nears_of lines)) ∙ stands),
+)
 
 -- how far the reading has come: what the lines that were read said, and what holds behind them
-pub record ReadsTasks (text : List ℕ) (first : Mode) (left : Option (List ℕ)) (number : ℕ) (tasks : List Task) (names : List Name) (mode : Mode) : Type 0 where
+pub record ReadsTasks (text : List ℕ) (first : Mode) (left : Option (List ℕ)) (number : ℕ) (tasks : List Task) (names : List Name) (nears : List Near) (mode : Mode) : Type 0 where
   pub said : List TaskLine
   pub reads : Reads IsTaskLine text left number said
-  pub follow : MayFollow [] said
+  pub follow : MayFollow [] [] said
   pub tasks_are : tasks ≡ tasks_of first said
   pub names_are : names ≡ names_of said
+  pub nears_are : nears ≡ nears_of said
   pub mode_is : mode ≡ behind_all first said
 
--- a text within the limit has no more lines than a u32 counts
-pub tasks_few : (text : List ℕ) (first : Mode) (left : Option (List ℕ)) (number : ℕ) (tasks : List Task) (names : List Name) (mode : Mode)
-    → length text ≤ 65536 → ReadsTasks text first left number tasks names mode → number ≤ 65537
-tasks_few text first left number tasks names mode within r = reads_few IsTaskLine text left number r.said within r.reads
+-- of a text within the limit no more lines are read than a u32 counts
+pub tasks_few : (text : List ℕ) (first : Mode) (left : Option (List ℕ)) (number : ℕ) (tasks : List Task) (names : List Name) (nears : List Near) (mode : Mode)
+    → length text ≤ 65536 → ReadsTasks text first left number tasks names nears mode → number ≤ 65537
+tasks_few text first left number tasks names nears mode within r = reads_few IsTaskLine text left number r.said within r.reads
 
 -- one turn of the reading: a line that stands at the front of what is left
 module _
-    (text : List ℕ) (first : Mode) (left : Option (List ℕ)) (now line plain : List ℕ) (rest : Option (List ℕ)) (number : ℕ) (tasks : List Task) (names : List Name) (mode : Mode) (skipped : Bool)
-    (r : ReadsTasks text first left number tasks names mode) (some : left ≡ Some now) (cut : Cuts 10 now line rest) (is_plain : plain ≡ without_cr line) (tested : skipped ≡ is_skipped plain) where
-  pub task_skips : skipped ≡ true → ReadsTasks text first rest (number + 1) tasks names mode
+    (text : List ℕ) (first : Mode) (left : Option (List ℕ)) (now line plain : List ℕ) (rest : Option (List ℕ)) (number : ℕ) (tasks : List Task) (names : List Name) (nears : List Near) (mode : Mode) (skipped : Bool)
+    (r : ReadsTasks text first left number tasks names nears mode) (some : left ≡ Some now) (cut : Cuts 10 now line rest) (is_plain : plain ≡ without_cr line) (tested : skipped ≡ is_skipped plain) where
+  said_so : (said : TaskLine) → may_stand (names_of r.said) (nears_of r.said) said ≡ may_stand names nears said
+  said_so said = ap (λ ns. may_stand ns (nears_of r.said) said) (sym r.names_are) ∙ ap (λ ps. may_stand names ps said) (sym r.nears_are)
+
+  pub task_skips : skipped ≡ true → ReadsTasks text first rest (number + 1) tasks names nears mode
   task_skips is =
       record {
         said = r.said;
@@ -62,19 +76,22 @@ module _
         follow = r.follow;
         tasks_are = r.tasks_are;
         names_are = r.names_are;
+        nears_are = r.nears_are;
         mode_is = r.mode_is;
       }
 
   pub task_reads :
-      (said : TaskLine) (new_tasks : List Task) (new_names : List Name) (next : Mode) (stands : Bool) → skipped ≡ false → IsTaskLine plain said → stands ≡ may_stand names said → stands ≡ true →
-      new_tasks ≡ tasks ++ task_at mode said → new_names ≡ names ++ name_at said → next ≡ behind mode said → ReadsTasks text first rest (number + 1) new_tasks new_names next
-  task_reads said new_tasks new_names next stands isnt is asked did more_tasks more_names more =
+      (said : TaskLine) (new_tasks : List Task) (new_names : List Name) (new_nears : List Near) (next : Mode) (stands : Bool) → skipped ≡ false → IsTaskLine plain said
+      → stands ≡ may_stand names nears said → stands ≡ true → new_tasks ≡ tasks ++ task_at mode said → new_names ≡ names ++ name_at said → new_nears ≡ nears ++ near_at said
+      → next ≡ behind mode said → ReadsTasks text first rest (number + 1) new_tasks new_names new_nears next
+  task_reads said new_tasks new_names new_nears next stands isnt is asked did more_tasks more_names more_nears more =
       record {
         said = r.said ++ said ∷ [];
         reads = turn_reads IsTaskLine text left now line plain rest number r.said skipped r.reads some cut is_plain tested said (r.said ++ said ∷ []) isnt is refl;
-        follow = follow_more [] r.said said r.follow (ap (λ ns. may_stand ns said) (sym r.names_are) ∙ sym asked ∙ did);
+        follow = follow_more [] [] r.said said r.follow (said_so said ∙ sym asked ∙ did);
         tasks_are = more_tasks ∙ ap (λ ts. ts ++ task_at mode said) r.tasks_are ∙ ap (λ m. tasks_of first r.said ++ task_at m said) r.mode_is ∙ sym (tasks_more first r.said said);
         names_are = more_names ∙ ap (λ ns. ns ++ name_at said) r.names_are ∙ sym (names_more r.said said);
+        nears_are = more_nears ∙ ap (λ ns. ns ++ near_at said) r.nears_are ∙ sym (nears_more r.said said);
         mode_is = more ∙ ap (λ m. behind m said) r.mode_is ∙ sym (behind_more first r.said said);
       }
 
@@ -87,7 +104,7 @@ module _
   is_line : skipped ≡ false → is_kept (without_cr line) ≡ true
   is_line isnt = ap not (ap is_skipped (sym is_plain) ∙ sym tested ∙ isnt)
 
-  faulty : skipped ≡ false → ((said : TaskLine) → IsTaskLine plain said → may_stand names said ≡ false) → IsFirstFaultyTask text (number + 1)
+  faulty : skipped ≡ false → ((said : TaskLine) → IsTaskLine plain said → may_stand names nears said ≡ false) → IsFirstFaultyTask text (number + 1)
   faulty isnt none =
       record {
         front = stood.read;
@@ -98,7 +115,7 @@ module _
         kept = is_line isnt;
         before = r.said;
         lines = record { forms = stood.items_are; follow = r.follow };
-        faulty = λ said is. ap (λ ns. may_stand ns said) (sym r.names_are) ∙ none said (subst (λ (l : List ℕ). IsTaskLine l said) (sym is_plain) is);
+        faulty = λ said is. said_so said ∙ none said (subst (λ (l : List ℕ). IsTaskLine l said) (sym is_plain) is);
       }
 
   -- it has no form
@@ -106,11 +123,11 @@ module _
   task_fails isnt none = faulty isnt (λ said is. absurd (none said is))
 
   -- it may not stand there
-  pub task_refused : (said : TaskLine) (stands : Bool) → skipped ≡ false → IsTaskLine plain said → stands ≡ may_stand names said → stands ≡ false → IsFirstFaultyTask text (number + 1)
-  task_refused said stands isnt is asked no_more = faulty isnt (λ other form. ap (may_stand names) (one_said plain other said form is) ∙ sym asked ∙ no_more)
+  pub task_refused : (said : TaskLine) (stands : Bool) → skipped ≡ false → IsTaskLine plain said → stands ≡ may_stand names nears said → stands ≡ false → IsFirstFaultyTask text (number + 1)
+  task_refused said stands isnt is asked no_more = faulty isnt (λ other form. ap (may_stand names nears) (one_said plain other said form is) ∙ sym asked ∙ no_more)
 
   -- it stands, and there is no memory
-  pub task_wants : (said : TaskLine) (stands : Bool) → skipped ≡ false → IsTaskLine plain said → stands ≡ may_stand names said → stands ≡ true → IsBehindATask text
+  pub task_wants : (said : TaskLine) (stands : Bool) → skipped ≡ false → IsTaskLine plain said → stands ≡ may_stand names nears said → stands ≡ true → IsBehindATask text
   task_wants said stands isnt is asked did =
       record {
         front = stood.read;
@@ -122,5 +139,5 @@ module _
         lines = record { forms = stood.items_are; follow = r.follow };
         said = said;
         form = subst (λ (l : List ℕ). IsTaskLine l said) is_plain is;
-        stands = ap (λ ns. may_stand ns said) (sym r.names_are) ∙ sym asked ∙ did;
+        stands = said_so said ∙ sym asked ∙ did;
       }

@@ -1,9 +1,11 @@
 -- What holds of a command in a station's text, by the lines in front of it: this project's own.
-use Rattle.std.specs.Prelude.{◌≡◌, ◌⊎◌, ℕ, suc, Bool, true, false, List, [], ◌∷◌, ◌++◌, length}
+use Rattle.std.specs.Prelude.{◌≡◌, ◌⊎◌, ℕ, suc, Bool, true, false, List, [], ◌∷◌, ◌++◌, length, Some}
 use Rattle.std.specs.List.{AllByRecursion}
+use Rattle.gc_texts.specs.Nears.{near_of}
 use Rattle.gc_texts.specs.Tasks.{IsTasks}
 use Rattle.gc_texts.specs.declared.commands.Command.{Command}
 use Rattle.gc_texts.specs.declared.name.Name.{Name}
+use Rattle.gc_texts.specs.declared.near.Near.{Near}
 use Rattle.gc_texts.specs.declared.task_line.TaskLine.{TaskLine}
 use Rattle.gc_texts.specs.declared.task_line.TaskLine.TheVariants as says
 use Rattle.gc_texts.specs.declared.tasks.Task.{Task}
@@ -41,13 +43,14 @@ IsModeBehind given lines chained =
     (AllByRecursion SaysNoMode lines × (chained ≡ given))
     ⊎ ((before : List TaskLine) × (between : List TaskLine) × (lines ≡ before ++ mode_line chained ∷ between) × AllByRecursion SaysNoMode between)
 
--- a line between two commands of a chain: a deadline, or a name
+-- a line between two commands of a chain: a deadline, a name, or where a target stands
 abbrev pub KeepsChains : TaskLine → Type 0
 KeepsChains (says.Deadline deadline) = Unit {0}
 KeepsChains (says.Naming name) = Unit {0}
+KeepsChains (says.Standing near) = Unit {0}
 KeepsChains _ = ⊥
 
--- the last command of these lines is for this target, and behind it stand deadlines and names alone
+-- the last command of these lines is for this target, and behind it stand deadlines, names and places alone
 abbrev pub EndsWithTarget : List TaskLine → ℕ → Type 0
 EndsWithTarget lines target =
     (before : List TaskLine) × (command : Command) × (between : List TaskLine) × (lines ≡ before ++ says.Command command ∷ between) × AllByRecursion KeepsChains between × (command.target ≡ target)
@@ -60,9 +63,16 @@ pub record GoesOut (deadline : ℕ) (chained : Bool) (front : List TaskLine) (co
   pub only : task.chained ≡ true → IsModeBehind chained front true × EndsWithTarget front command.target
   pub found : IsModeBehind chained front true → EndsWithTarget front command.target → task.chained ≡ true
 
--- each command of a text goes out so
+-- each command of a text goes out so, and stands where it is said of its target
 abbrev pub CommandsGoOutSo : Type 0
 CommandsGoOutSo =
-    (text : List ℕ) (deadline : ℕ) (chained : Bool) (tasks : List Task) (names : List Name) (is : IsTasks text deadline chained tasks names)
+    (text : List ℕ) (deadline : ℕ) (chained : Bool) (tasks : List Task) (names : List Name) (nears : List Near) (is : IsTasks text deadline chained tasks names nears)
     (front later : List TaskLine) (command : Command) → is.said ≡ front ++ says.Command command ∷ later
-    → (earlier : List Task) × (task : Task) × (others : List Task) × (tasks ≡ earlier ++ task ∷ others) × (length earlier ≡ commands_in front) × GoesOut deadline chained front command task
+    → (earlier : List Task) × (task : Task) × (others : List Task) × (tasks ≡ earlier ++ task ∷ others) × (length earlier ≡ commands_in front) × GoesOut deadline chained front command task × (task.near ≡ near_of command.target nears)
+
+-- where a line says where a target stands, it says so of each command of that target, in front of it and behind it
+abbrev pub PlacesHoldForAll : Type 0
+PlacesHoldForAll =
+    (text : List ℕ) (deadline : ℕ) (chained : Bool) (tasks : List Task) (names : List Name) (nears : List Near) (is : IsTasks text deadline chained tasks names nears)
+    (front later : List TaskLine) (near : Near) → is.said ≡ front ++ says.Standing near ∷ later
+    → (earlier others : List Task) (task : Task) → tasks ≡ earlier ++ task ∷ others → task.command.target ≡ near.target → task.near ≡ Some near

@@ -9,6 +9,7 @@ use Rattle.gc_texts.specs.Logs.{log_text, IsPrintable, IsLogLine}
 use Rattle.gc_texts.specs.Stamps.{stamp_text}
 use Rattle.gc_texts.specs.declared.commands.Command.{Command}
 use Rattle.gc_texts.specs.declared.name.Name.{Name}
+use Rattle.gc_texts.specs.declared.near.Near.{Near}
 use Rattle.gc_texts.specs.declared.tasks.Task.{Task}
 use Rattle.gc_texts.specs.declared.log_line.LogMark.{LogMark}
 
@@ -16,23 +17,23 @@ use Rattle.gc_texts.specs.declared.log_line.LogMark.{LogMark}
 abbrev pub OneCommandList : Type 0
 OneCommandList = (text : List ℕ) (xs ys : List Command) → IsCommands text xs → IsCommands text ys → xs ≡ ys
 
--- a station's text gives one list of tasks, and one of names
+-- a station's text gives one list of tasks, one of names, and one of places
 abbrev pub OneTaskList : Type 0
 OneTaskList =
-    (text : List ℕ) (deadline : ℕ) (chained : Bool) (xs ys : List Task) (ms ns : List Name) →
-    IsTasks text deadline chained xs ms → IsTasks text deadline chained ys ns → (xs ≡ ys) × (ms ≡ ns)
+    (text : List ℕ) (deadline : ℕ) (chained : Bool) (xs ys : List Task) (ms ns : List Name) (ps qs : List Near) →
+    IsTasks text deadline chained xs ms ps → IsTasks text deadline chained ys ns qs → (xs ≡ ys) × (ms ≡ ns) × (ps ≡ qs)
 
--- each command text is a station's text: of the same commands in the same order, and without names
+-- each command text is a station's text: of the same commands in the same order, and without names and places
 abbrev pub CommandsAreTasks : Type 0
 CommandsAreTasks =
     (text : List ℕ) (commands : List Command) (deadline : ℕ) (chained : Bool) → IsCommands text commands →
-    (tasks : List Task) × IsTasks text deadline chained tasks [] × (map (λ task. task.command) tasks ≡ commands)
+    (tasks : List Task) × IsTasks text deadline chained tasks [] [] × (map (λ task. task.command) tasks ≡ commands)
 
 -- where commands aren't chained, each has its deadline and goes out by itself
 abbrev pub CommandsArePlain : Type 0
 CommandsArePlain =
     (text : List ℕ) (commands : List Command) (deadline : ℕ) → IsCommands text commands →
-    IsTasks text deadline false (map (λ command. record { command = command; deadline = deadline; chained = false }) commands) []
+    IsTasks text deadline false (map (λ command. record { command = command; deadline = deadline; chained = false; near = None }) commands) [] []
 
 -- each chained task stands behind one for the same target; what stands before them is for this one, where there is one
 abbrev pub AreRows : Option ℕ → List Task → Type 0
@@ -41,7 +42,7 @@ AreRows before (task ∷ later) = (task.chained ≡ true → before ≡ Some tas
 
 -- the first task of a text isn't chained, and each that is stands behind one for the same target
 abbrev pub ChainsAreRows : Type 0
-ChainsAreRows = (text : List ℕ) (deadline : ℕ) (chained : Bool) (tasks : List Task) (names : List Name) → IsTasks text deadline chained tasks names → AreRows None tasks
+ChainsAreRows = (text : List ℕ) (deadline : ℕ) (chained : Bool) (tasks : List Task) (names : List Name) (nears : List Near) → IsTasks text deadline chained tasks names nears → AreRows None tasks
 
 -- what a trouble says of a procedure's parameters is how many the catalogue has
 abbrev pub WantedIsTheCatalogues : Type 0

@@ -3,6 +3,7 @@ pub mod LineForms
 pub mod Procedures
 pub mod Commands
 pub mod Names
+pub mod Nears
 pub mod TaskLines
 pub mod Tasks
 pub mod Texts

@@ -2,8 +2,10 @@
 use Rattle.std.specs.Prelude.{◌≡◌, ℕ, ◌≤◌, true, List, ◌∷◌, ◌++◌, codes}
 use Rattle.gc_texts.specs.Commands.{IsCommand}
 use Rattle.gc_texts.specs.Names.{is_name}
+use Rattle.gc_texts.specs.Nears.{IsNearText}
 use Rattle.gc_texts.specs.Procedures.{IsNumber}
 use Rattle.gc_texts.specs.declared.name.Name.{Name}
+use Rattle.gc_texts.specs.declared.near.Near.{Near}
 use Rattle.gc_texts.specs.declared.task_line.TaskLine.{TaskLine}
 use Rattle.gc_texts.specs.declared.task_line.TaskLine.TheVariants as says
 
@@ -21,10 +23,17 @@ pub record IsNaming (line : List ℕ) (name : Name) : Type 0 where
   pub target_is : IsNumber target_text name.target 4294967295
   pub text_is : is_name name.text.items ≡ true
 
--- what a line says: a command, a deadline, a mode, or a name
+-- `near T HZ V TOLERANCE`: where a target stands
+pub record IsStanding (line : List ℕ) (near : Near) : Type 0 where
+  pub rest : List ℕ
+  pub line_is : line ≡ codes "near " ++ rest
+  pub near_is : IsNearText rest near
+
+-- what a line says: a command, a deadline, a mode, a name, or where a target stands
 abbrev pub IsTaskLine : List ℕ → TaskLine → Type 0
 IsTaskLine line (says.Command command) = IsCommand line command
 IsTaskLine line (says.Deadline deadline) = IsDeadline line deadline
 IsTaskLine line says.Chained = line ≡ codes "chained"
 IsTaskLine line says.Unchained = line ≡ codes "unchained"
 IsTaskLine line (says.Naming name) = IsNaming line name
+IsTaskLine line (says.Standing near) = IsStanding line near

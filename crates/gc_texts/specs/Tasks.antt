@@ -1,11 +1,13 @@
--- A station's text, and the tasks and names that it gives: this project's own.
-use Rattle.std.specs.Prelude.{◌≡◌, ℕ, ◌+◌, ◌<◌, ◌≤◌, ◌==◌, ◌&&◌, Bool, true, false, not, nat_lt, List, [], ◌∷◌, ◌++◌, length, filter, Option, None, Some}
+-- A station's text, and the tasks, the names and the places of targets that it gives: this project's own.
+use Rattle.std.specs.Prelude.{◌≡◌, ℕ, ◌+◌, ◌<◌, ◌≤◌, ◌==◌, ◌&&◌, Bool, true, false, not, nat_lt, List, [], ◌∷◌, ◌++◌, length, map, filter, Option, None, Some}
 use Rattle.gc_texts.specs.LineForms.{text_lines, is_kept, AreItems}
 use Rattle.gc_texts.specs.Names.{is_named}
+use Rattle.gc_texts.specs.Nears.{is_said, near_of}
 use Rattle.gc_texts.specs.TaskLines.{IsTaskLine}
 use Rattle.gc_texts.specs.declared.fault.RunFault.{RunFault}
 use Rattle.gc_texts.specs.declared.fault.RunFault.TheVariants.{Schedule, Memory, InputTooLong}
 use Rattle.gc_texts.specs.declared.name.Name.{Name}
+use Rattle.gc_texts.specs.declared.near.Near.{Near}
 use Rattle.gc_texts.specs.declared.task_line.TaskLine.{TaskLine}
 use Rattle.gc_texts.specs.declared.task_line.TaskLine.TheVariants as says
 use Rattle.gc_texts.specs.declared.tasks.Mode.{Mode}
@@ -16,13 +18,14 @@ use Rattle.gc_texts.specs.declared.text.TheConstants.{TEXT_LIMIT}
 abbrev pub opening : ℕ → Bool → Mode
 opening deadline chained = record { deadline = deadline; chained = chained; row = None }
 
--- the mode behind a line: a command's row is its target's, a line of the mode breaks the row, and a name changes nothing
+-- what holds behind a line: a command's row is its target's, a line of the mode breaks the row, and a line of a target changes nothing
 abbrev pub behind : Mode → TaskLine → Mode
 behind mode (says.Command command) = record { deadline = mode.deadline; chained = mode.chained; row = Some command.target }
 behind mode (says.Deadline deadline) = record { deadline = deadline; chained = mode.chained; row = mode.row }
 behind mode says.Chained = record { deadline = mode.deadline; chained = true; row = None }
 behind mode says.Unchained = record { deadline = mode.deadline; chained = false; row = None }
 behind mode (says.Naming name) = mode
+behind mode (says.Standing near) = mode
 
 -- whether a command for this target continues the row
 abbrev pub goes_on : Option ℕ → ℕ → Bool
@@ -32,7 +35,7 @@ goes_on None target = false
 -- the task of a line, where it is a command: chained where the mode is, and it goes on the row
 abbrev pub task_at : Mode → TaskLine → List Task
 task_at mode (says.Command command) =
-    record { command = command; deadline = mode.deadline; chained = mode.chained && goes_on mode.row command.target } ∷ []
+    record { command = command; deadline = mode.deadline; chained = mode.chained && goes_on mode.row command.target; near = None } ∷ []
 task_at mode _ = []
 
 -- the tasks of lines
@@ -50,27 +53,45 @@ abbrev pub names_of : List TaskLine → List Name
 names_of [] = []
 names_of (line ∷ later) = name_at line ++ names_of later
 
--- whether a line may stand behind those that gave these names: where it gives one, they are fewer than 64, and its target has none
-abbrev pub may_stand : List Name → TaskLine → Bool
-may_stand names (says.Naming name) = nat_lt (length names) 64 && not (is_named name.target names)
-may_stand names _ = true
+-- where a target stands, if the line says it
+abbrev pub near_at : TaskLine → List Near
+near_at (says.Standing near) = near ∷ []
+near_at _ = []
 
--- each line may stand behind these names and those of the lines before it
-abbrev pub MayFollow : List Name → List TaskLine → Type 0
-MayFollow names [] = Unit {0}
-MayFollow names (line ∷ later) = (may_stand names line ≡ true) × MayFollow (names ++ name_at line) later
+-- the same of lines
+abbrev pub nears_of : List TaskLine → List Near
+nears_of [] = []
+nears_of (line ∷ later) = near_at line ++ nears_of later
+
+-- a task with where its target stands, if that is said among these
+abbrev pub placed : List Near → Task → Task
+placed nears task = record task { near = near_of task.command.target nears }
+
+-- whether a line may stand behind those that gave these names and places: where it gives one, they are fewer than 64, and its target
+-- has none
+abbrev pub may_stand : List Name → List Near → TaskLine → Bool
+may_stand names nears (says.Naming name) = nat_lt (length names) 64 && not (is_named name.target names)
+may_stand names nears (says.Standing near) = nat_lt (length nears) 64 && not (is_said near.target nears)
+may_stand names nears _ = true
+
+-- each line may stand behind these names and places, and those of the lines before it
+abbrev pub MayFollow : List Name → List Near → List TaskLine → Type 0
+MayFollow names nears [] = Unit {0}
+MayFollow names nears (line ∷ later) = (may_stand names nears line ≡ true) × MayFollow (names ++ name_at line) (nears ++ near_at line) later
 
 -- these lines stand in a station's text: each has its form, and may stand behind those before it
 pub record AreTaskLines (lines : List (List ℕ)) (said : List TaskLine) : Type 0 where
   pub forms : AreItems IsTaskLine (filter is_kept lines) said
-  pub follow : MayFollow [] said
+  pub follow : MayFollow [] [] said
 
--- the text gives these tasks and names, where this deadline and this mode hold before any line
-pub record IsTasks (text : List ℕ) (deadline : ℕ) (chained : Bool) (tasks : List Task) (names : List Name) : Type 0 where
+-- the text gives these tasks, names and places, where this deadline and this mode hold before any line. A place holds for all tasks of its
+-- target, wherever its line stands
+pub record IsTasks (text : List ℕ) (deadline : ℕ) (chained : Bool) (tasks : List Task) (names : List Name) (nears : List Near) : Type 0 where
   pub said : List TaskLine
   pub lines : AreTaskLines (text_lines text) said
-  pub tasks_are : tasks ≡ tasks_of (opening deadline chained) said
+  pub tasks_are : tasks ≡ map (placed nears) (tasks_of (opening deadline chained) said)
   pub names_are : names ≡ names_of said
+  pub nears_are : nears ≡ nears_of said
 
 -- line number n, counted from 1, is the first that isn't skipped and has no form, or may not stand behind those before it
 pub record IsFirstFaultyTask (text : List ℕ) (n : ℕ) : Type 0 where
@@ -82,7 +103,7 @@ pub record IsFirstFaultyTask (text : List ℕ) (n : ℕ) : Type 0 where
   pub kept : is_kept line ≡ true
   pub before : List TaskLine
   pub lines : AreTaskLines front before
-  pub faulty : (said : TaskLine) → IsTaskLine line said → may_stand (names_of before) said ≡ false
+  pub faulty : (said : TaskLine) → IsTaskLine line said → may_stand (names_of before) (nears_of before) said ≡ false
 
 -- a line has a form and may stand there, and no line before it is faulty
 pub record IsBehindATask (text : List ℕ) : Type 0 where
@@ -95,7 +116,7 @@ pub record IsBehindATask (text : List ℕ) : Type 0 where
   pub lines : AreTaskLines front before
   pub said : TaskLine
   pub form : IsTaskLine line said
-  pub stands : may_stand (names_of before) said ≡ true
+  pub stands : may_stand (names_of before) (nears_of before) said ≡ true
 
 -- why a station's text gives no tasks, or none were read: it is too long, else its first faulty line, or a want of memory
 abbrev pub TaskFault : List ℕ → RunFault → Type 0

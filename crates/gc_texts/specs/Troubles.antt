@@ -63,7 +63,10 @@ pub record IsAsked (line : List ℕ) (t : Trouble) : Type 0 where
 abbrev pub IsTrouble : List ℕ → Trouble → Type 0
 IsTrouble line trouble.Deadline = first_word line ≡ codes "deadline"
 IsTrouble line trouble.Name = (first_word line ≡ codes "name") × ((n : ℕ) × IsNumber (second_word line) n 4294967295)
-IsTrouble line trouble.Target = ((first_word line ≡ codes "name") × NoNumber (second_word line) 4294967295) ⊎ NoNumber (first_word line) 4294967295
+IsTrouble line trouble.Near = (first_word line ≡ codes "near") × ((n : ℕ) × IsNumber (second_word line) n 4294967295)
+IsTrouble line trouble.Target =
+    ((first_word line ≡ codes "name") × NoNumber (second_word line) 4294967295)
+    ⊎ (((first_word line ≡ codes "near") × NoNumber (second_word line) 4294967295) ⊎ NoNumber (first_word line) 4294967295)
 IsTrouble line trouble.Number = NoNumber (second_word line) 65535
 IsTrouble line trouble.NoForm = (length (behind 32 line) ≡ 0) ⊎ IsAsked line trouble.NoForm
 IsTrouble line t = IsAsked line t
@@ -77,6 +80,7 @@ trouble_text trouble.Number = codes "procedure"
 trouble_text trouble.Target = codes "target"
 trouble_text trouble.Deadline = codes "deadline"
 trouble_text trouble.Name = codes "name"
+trouble_text trouble.Near = codes "near"
 trouble_text trouble.NoForm = codes "no form"
 
 -- the line that the program writes of the trouble of a text's line with this number, counted from 1

@@ -14,6 +14,9 @@ pub enum Ending<'a> {
     Answered(Option<&'a Answer>, &'a Line),
     /// Its reply came in time, with this line, whose codes are 0, and whose values don't read.
     Unreadable(&'a Line, ValueFault),
+    /// Its reply came in time, with this line, whose codes are 0 and whose values read, and have a direction that isn't near where its
+    /// target stands.
+    Elsewhere(&'a Line),
     /// A reply to it came after it was given up.
     Late,
     /// No reply came, or none will be taken.
@@ -33,6 +36,7 @@ impl<'a> Ending<'a> {
         match self {
             Ending::Answered(..) => b"answered",
             Ending::Unreadable(..) => b"unreadable",
+            Ending::Elsewhere(_) => b"elsewhere",
             Ending::Late => b"late",
             Ending::Lost => b"lost",
             Ending::Skipped => b"skipped",
@@ -56,6 +60,8 @@ impl<'a> Ending<'a> {
     {
         match self {
             Ending::Answered(_, line) | Ending::Unreadable(line, _) => Some(line),
+            // Its codes and its values stand in the row, too.
+            Ending::Elsewhere(line) => Some(line),
             Ending::Late | Ending::Lost | Ending::Skipped | Ending::Missed => None,
         }
     }

@@ -1,8 +1,9 @@
 //! What is proved of the definitions themselves. The functions have no effect: their contracts are the laws.
 
 ghost use Rattle.gc_texts.specs.FaultNumbers.{FaultsHaveTheirNumbers};
-ghost use Rattle.gc_texts.specs.Chained.{CommandsGoOutSo};
+ghost use Rattle.gc_texts.specs.Chained.{CommandsGoOutSo, PlacesHoldForAll};
 ghost use Rattle.gc_texts.specs.Moments.{StampsAreMoments};
+ghost use Rattle.gc_texts.specs.Nears.{DirectionsAreAskedFor};
 ghost use Rattle.gc_texts.specs.Laws.{OneCommandList, OneTaskList, CommandsAreTasks, CommandsArePlain, ChainsAreRows, WantedIsTheCatalogues, LogLinesReadBack, LogLinesArePrintable};
 
 /// A text gives one list of commands at most.
@@ -10,7 +11,7 @@ pub fn commands_have_one_reading()
     ensures { OneCommandList }
 {}
 
-/// A station's text gives one list of tasks at most, and one of names.
+/// A station's text gives one list of tasks at most, one of names, and one of places.
 pub fn tasks_have_one_reading()
     ensures { OneTaskList }
 {}
@@ -49,9 +50,19 @@ pub fn faults_have_their_numbers()
 
 /// Each command of a station's text has the deadline of the last line in front of it that says one. It is chained exactly where
 /// the last line of a mode says so, or the one who asked, and the command before it is for the same target, with no line of a mode
-/// between the two: lines of deadlines and names leave a chain whole.
+/// between the two: lines of deadlines, names and places leave a chain whole.
 pub fn commands_go_out_as_their_lines_say()
     ensures { CommandsGoOutSo }
+{}
+
+/// A line that says where a target stands holds for each command of that target, in front of it and behind it.
+pub fn places_hold_for_all_commands_of_a_target()
+    ensures { PlacesHoldForAll }
+{}
+
+/// The answers that have a direction, which can be near or elsewhere, are those of procedures 2107, 2108, 2117 and 17017.
+pub fn directions_are_asked_for()
+    ensures { DirectionsAreAskedFor }
 {}
 
 /// The text of a stamp reads as its moment: its date and its hour, minute, second and millisecond make up the milliseconds

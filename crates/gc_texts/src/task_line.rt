@@ -1,13 +1,15 @@
 //! One line of a station's text, read: the only place that knows its words.
 
 ghost use Rattle.std.specs.Prelude.{◌≡◌, ◌↔◌, ◌++◌, ℕ, List, IsTrue, MatchOption};
-ghost use Rattle.gc_texts.specs.TaskLines.{IsDeadline, IsNaming, IsTaskLine};
+ghost use Rattle.gc_texts.specs.TaskLines.{IsDeadline, IsNaming, IsStanding, IsTaskLine};
 ghost use Rattle.gc_texts.specs.declared.name.Name.{Name};
+ghost use Rattle.gc_texts.specs.declared.near.Near.{Near};
 ghost use Rattle.gc_texts.specs.declared.task_line.TaskLine.{TaskLine};
 
 use crate::commands::{Command, read_command};
 use crate::cuts::cut_at;
 use crate::name::{Name, is_name, name_of_bytes};
+use crate::near::{Near, read_near};
 use crate::procedure::{TARGET_MAX, number_of};
 
 /// The greatest deadline of a line, in milliseconds: a day.
@@ -26,6 +28,8 @@ pub(crate) enum TaskLine {
     Unchained,
     // A target has a name.
     Naming(Name),
+    // A target stands somewhere.
+    Standing(Near),
 }
 
 // What stands behind a word, where the line begins with it.
@@ -76,6 +80,16 @@ fn read_naming(line: &[u8]) -> Option<Name>
     Some(name_of_bytes(target as u32, text))
 }
 
+// `near T HZ V TOLERANCE`: where a target stands.
+fn read_standing(line: &[u8]) -> Option<Near>
+    ensures { MatchOption result ((near : Near) → IsStanding line.now near → ⊥) (λ near. IsStanding line.now near) }
+{
+    match behind(b"near ", line) {
+        Some(rest) => read_near(rest),
+        None => None,
+    }
+}
+
 // Reads one line of a station's text; none where it has no form.
 pub(crate) fn read_task_line(line: &[u8]) -> Option<TaskLine>
     ensures { MatchOption result ((said : TaskLine) → IsTaskLine line.now said → ⊥) (λ said. IsTaskLine line.now said) }
@@ -91,6 +105,9 @@ pub(crate) fn read_task_line(line: &[u8]) -> Option<TaskLine>
     }
     if let Some(name) = read_naming(line) {
         return Some(TaskLine::Naming(name));
+    }
+    if let Some(near) = read_standing(line) {
+        return Some(TaskLine::Standing(near));
     }
     match read_command(line) {
         Some(command) => Some(TaskLine::Command(command)),

@@ -1,9 +1,11 @@
-//! Tasks: commands of a station's text, with how each goes out.
+//! Tasks: commands of a station's text, with how each goes out and where its target stands.
 
-ghost use Rattle.std.specs.Prelude.{◌≡◌, ◌<◌, ◌≤◌, ◌↔◌, ◌⊎◌, ◌++◌, ℕ, length, Err, None, IfOk, IfErr, OnOk, OnErr};
+ghost use Rattle.std.specs.Prelude.{◌≡◌, ◌<◌, ◌≤◌, ◌↔◌, ◌⊎◌, ◌++◌, ◌==◌, ◌&&◌, ℕ, length, map, Err, None, IfOk, IfErr, OnOk, OnErr};
+ghost use Rattle.std.specs.List.{list_any};
 ghost use Rattle.std.specs.Vec.{vec_capacity, vec_len};
 ghost use Rattle.gc_texts.specs.Names.{name_text};
-ghost use Rattle.gc_texts.specs.Tasks.{opening, behind, goes_on, task_at, name_at, may_stand, IsTasks, IsFirstFaultyTask, IsBehindATask, TaskFault};
+ghost use Rattle.gc_texts.specs.Nears.{asks_direction};
+ghost use Rattle.gc_texts.specs.Tasks.{opening, behind, goes_on, task_at, name_at, near_at, placed, may_stand, IsTasks, IsFirstFaultyTask, IsBehindATask, TaskFault};
 ghost use Rattle.gc_texts.specs.declared.fault.RunFault.{RunFault};
 ghost use Rattle.gc_texts.specs.declared.text.TheConstants.{TEXT_LIMIT};
 
@@ -12,6 +14,7 @@ use crate::cuts::cut_at;
 use crate::fault::RunFault;
 use crate::line_forms::{is_skipped, without_cr};
 use crate::name::{Name, is_named, name_text};
+use crate::near::{Near, asks_direction, is_said, near_of};
 use crate::task_line::{TaskLine, read_task_line};
 use crate::text::TEXT_LIMIT;
 use std::alloc::{AllocError, Global};
@@ -25,15 +28,19 @@ pub struct Task {
     pub deadline: u64,
     /// Whether it goes out only once the command before it was answered with both codes 0 and values that read.
     pub chained: bool,
+    /// Where its target stands, where the text says so.
+    pub near: Option<Near>,
 }
 
-/// What a station's text gives: what is asked in each cycle, and what the targets are called.
+/// What a station's text gives: what is asked in each cycle, and what the targets are called and where they stand.
 #[derive(Drop)]
 pub struct Tasks {
     /// The commands, in order.
     pub tasks: Vec<Task>,
     /// The names, in order: one at most for each target, and 64 at most.
     pub names: Vec<Name>,
+    /// Where targets stand, in order: once at most for each, and 64 at most.
+    pub nears: Vec<Near>,
 }
 
 impl Tasks {
@@ -44,10 +51,21 @@ impl Tasks {
     {
         name_text(target, self.names.as_slice())
     }
+
+    /// Whether a command asks this target for its direction.
+    pub fn asks_direction_of(&self, target: u32) -> bool
+        ensures { result ≡ list_any (λ task. (task.command.target == target) && asks_direction task.command.call) self.now.tasks.items }
+    {
+        self.tasks.iter().any(|task| task.command.target == target
+            && asks_direction(&task.command.call))
+    }
 }
 
 // The most targets that have a name.
 const NAMES_MAX: usize = 64;
+
+// The most targets of which it is said where they stand.
+const NEARS_MAX: usize = 64;
 
 // What holds where a command stands.
 #[derive(Clone, Copy)]
@@ -83,7 +101,7 @@ fn behind(mode: Mode, said: &TaskLine) -> Mode
             row: None,
             ..mode
         },
-        TaskLine::Naming(_) => mode,
+        TaskLine::Naming(_) | TaskLine::Standing(_) => mode,
     }
 }
 
@@ -97,27 +115,32 @@ fn goes_on(row: Option<u32>, target: u32) -> bool
     }
 }
 
-// Whether a line may follow lines that gave these names: if it names a target, that target has no name yet, and there are
-// fewer than 64 names.
-fn may_stand(names: &[Name], said: &TaskLine) -> bool
-    ensures { result ≡ may_stand names.now said.now }
+// Whether a line may follow lines that gave these names and places: if it names a target, or says where it stands, that target has
+// no name, or no place, yet, and there are fewer than 64 of them.
+fn may_stand(names: &Vec<Name>, nears: &Vec<Near>, said: &TaskLine) -> bool
+    ensures { result ≡ may_stand names.now.items nears.now.items said.now }
 {
     match said {
-        TaskLine::Naming(name) => names.len() < NAMES_MAX && !is_named(name.target, names),
+        TaskLine::Naming(name) => names.len() < NAMES_MAX
+            && !is_named(name.target, names.as_slice()),
+        TaskLine::Standing(near) => nears.len() < NEARS_MAX
+            && !is_said(near.target, nears.as_slice()),
         _ => true,
     }
 }
 
-// Appends the task or the name that a line gives, if it gives one.
+// Appends the task, the name or the place that a line gives, if it gives one.
 fn keep(
     tasks: &mut Vec<Task>,
     names: &mut Vec<Name>,
+    nears: &mut Vec<Near>,
     mode: Mode,
     said: TaskLine,
 ) -> Result<(), AllocError>
     ensures tasks { OnOk result (tasks.new.items ≡ tasks.old.items ++ task_at mode said) }
     ensures names { OnOk result (names.new.items ≡ names.old.items ++ name_at said) }
-    ensures wants { OnErr result ((vec_capacity tasks.old ≤ vec_len tasks.old) ⊎ (vec_capacity names.old ≤ vec_len names.old)) }
+    ensures nears { OnOk result (nears.new.items ≡ nears.old.items ++ near_at said) }
+    ensures wants { OnErr result ((vec_capacity tasks.old ≤ vec_len tasks.old) ⊎ ((vec_capacity names.old ≤ vec_len names.old) ⊎ (vec_capacity nears.old ≤ vec_len nears.old))) }
 {
     match said {
         TaskLine::Command(command) => {
@@ -127,6 +150,7 @@ fn keep(
                 command,
                 deadline: mode.deadline,
                 chained,
+                near: None,
             });
             Ok(())
         }
@@ -135,15 +159,29 @@ fn keep(
             names.push_reserved(name);
             Ok(())
         }
+        TaskLine::Standing(near) => {
+            nears.reserve(1)?;
+            nears.push_reserved(near);
+            Ok(())
+        }
         _ => Ok(()),
     }
 }
 
-/// Reads a station's text: its commands with how each goes out, and the names of targets. Until a line says otherwise the
+// Gives each task where its target stands.
+fn place_tasks(tasks: &mut Vec<Task>, nears: &[Near])
+    ensures { tasks.new.items ≡ map (placed nears.now) tasks.old.items }
+{
+    for task in tasks.iter_mut() {
+        task.near = near_of(task.command.target, nears);
+    }
+}
+
+/// Reads a station's text: its commands with how each goes out, the names of targets, and where they stand. Until a line says otherwise the
 /// commands have this deadline, in milliseconds, and are chained or not.
 ///
 /// Refused are a text of more than 65,536 bytes (`InputTooLong`, before any line is looked at), and the first line that has no
-/// form, names a target a second time, or names one more than 64 (`Schedule`, with its number counted from 1). `Memory` comes
+/// form, names a target or says where it stands a second time, or is one more than 64 of either (`Schedule`, with its number counted from 1). `Memory` comes
 /// only where a growth was refused, behind a line that stands.
 pub fn read_tasks(
     alloc: Global,
@@ -151,7 +189,7 @@ pub fn read_tasks(
     deadline: u64,
     chained: bool,
 ) -> Result<Tasks, RunFault>
-    ensures found { IfOk result (λ all. IsTasks text.now deadline chained all.tasks.items all.names.items) }
+    ensures found { IfOk result (λ all. IsTasks text.now deadline chained all.tasks.items all.names.items all.nears.items) }
     ensures too_long { (result ≡ Err RunFault.InputTooLong) ↔ (TEXT_LIMIT < length text.now) }
     ensures faulty { (n : ℕ) → result ≡ Err (RunFault.Schedule n) → IsFirstFaultyTask text.now n }
     ensures memory { result ≡ Err RunFault.Memory → IsBehindATask text.now }
@@ -172,11 +210,12 @@ pub fn read_tasks(
 fn read_task_lines(alloc: Global, text: &[u8], opening: Mode) -> Result<Tasks, RunFault>
     requires short { length text.now ≤ TEXT_LIMIT }
     requires opening { opening.row ≡ None }
-    ensures found { IfOk result (λ all. IsTasks text.now opening.deadline opening.chained all.tasks.items all.names.items) }
+    ensures found { IfOk result (λ all. IsTasks text.now opening.deadline opening.chained all.tasks.items all.names.items all.nears.items) }
     ensures fault { IfErr result (λ e. TaskFault text.now e) }
 {
     let mut tasks = Vec::new(alloc);
     let mut names = Vec::new(alloc);
+    let mut nears = Vec::new(alloc);
     let mut mode = opening;
     let mut left = Some(text);
     let mut number = 0u32;
@@ -191,14 +230,19 @@ fn read_task_lines(alloc: Global, text: &[u8], opening: Mode) -> Result<Tasks, R
         let Some(said) = read_task_line(line) else {
             return Err(RunFault::Schedule { line: number });
         };
-        if !may_stand(names.as_slice(), &said) {
+        if !may_stand(&names, &nears, &said) {
             return Err(RunFault::Schedule { line: number });
         }
         let next = behind(mode, &said);
-        if keep(&mut tasks, &mut names, mode, said).is_err() {
+        if keep(&mut tasks, &mut names, &mut nears, mode, said).is_err() {
             return Err(RunFault::Memory);
         }
         mode = next;
     }
-    Ok(Tasks { tasks, names })
+    place_tasks(&mut tasks, nears.as_slice());
+    Ok(Tasks {
+        tasks,
+        names,
+        nears,
+    })
 }

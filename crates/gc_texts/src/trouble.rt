@@ -29,6 +29,8 @@ pub enum Trouble {
     Deadline,
     /// The name has no form, its target has one, or 64 targets have.
     Name,
+    /// The place has no form or lies outside its range, its target has one, or 64 targets have.
+    Near,
     /// The line has the form of nothing.
     NoForm,
 }
@@ -54,6 +56,7 @@ impl Trouble {
             Trouble::Target => writeln!(messages, "target"),
             Trouble::Deadline => writeln!(messages, "deadline"),
             Trouble::Name => writeln!(messages, "name"),
+            Trouble::Near => writeln!(messages, "near"),
             Trouble::NoForm => writeln!(messages, "no form"),
         }
     }
@@ -113,6 +116,12 @@ pub fn trouble_of(line: &[u8]) -> Trouble
     if is_word(b"name", first) {
         return match number_of(before(b' ', rest), TARGET_MAX) {
             Some(_) => Trouble::Name,
+            None => Trouble::Target,
+        };
+    }
+    if is_word(b"near", first) {
+        return match number_of(before(b' ', rest), TARGET_MAX) {
+            Some(_) => Trouble::Near,
             None => Trouble::Target,
         };
     }

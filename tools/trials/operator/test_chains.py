@@ -178,4 +178,4 @@ def test_counts(program):
             ends = ["answered", "late", "lost", "answered", "unreadable", "skipped"]
             assert [row["outcome"] for row in rows] == ends, "the outcomes"
             messages = run.messages().splitlines()[-1]
-            assert messages == "answered 2 late 1 lost 1 skipped 1 unreadable 1 missed 0", "the last line"
+            assert messages == "answered 2 late 1 lost 1 skipped 1 unreadable 1 missed 0 elsewhere 0", "the last line"

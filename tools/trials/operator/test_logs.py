@@ -104,7 +104,7 @@ def test_full_disk(program, folder):
             assert run.status() == 0, "the status"
             messages = run.messages().splitlines()
             assert messages[-1:] == ["geocom: the log could not be written to its end"], "the last line"
-            assert messages[-2] == "answered 2 late 0 lost 0 skipped 0 unreadable 0 missed 0", "the counts"
+            assert messages[-2] == "answered 2 late 0 lost 0 skipped 0 unreadable 0 missed 0 elsewhere 0", "the counts"
             assert run.output().count(b",answered,") == 2, "how many rows"
 
 

@@ -150,10 +150,10 @@ def test_terminal(program, what, words, most):
         words = f"--every 1 --cycles 4 --quiet 100 --deadline 100 {words}"
         with at_a_terminal(program, far, words, TWO) as (run, terminal):
             assert run.status(10) == 0
-            while select.select([terminal], [], [], 0.1)[0] and not shown.endswith(b"missed 0\n"):
+            while select.select([terminal], [], [], 0.1)[0] and not shown.endswith(b"elsewhere 0\n"):
                 shown += terminal.read(4096)
     *lines, last = shown.decode().split("\r\x1b[K")
-    assert last == "answered 8 late 0 lost 0 skipped 0 unreadable 0 missed 0\n", "the last line"
+    assert last == "answered 8 late 0 lost 0 skipped 0 unreadable 0 missed 0 elsewhere 0\n", "the last line"
     assert bool(lines) == bool(most)
     if lines:
         start, end, lines[0] = lines[0].partition(" one after the other\n")

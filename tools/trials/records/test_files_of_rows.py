@@ -22,7 +22,7 @@ def test_starts_whole(program, folder):
         held = held or b""
         with instrument() as far:
             found = appended(program, far, path, cycles=1)
-        counts = "answered 3 late 0 lost 0 skipped 0 unreadable 0 missed 0\n"
+        counts = "answered 3 late 0 lost 0 skipped 0 unreadable 0 missed 0 elsewhere 0\n"
         assert found == (0, b"", torn_line(torn) + counts), f"of {held[-60:]!r}"
         rows, rest = split(path.read_bytes())
         assert (numbers(rows), rest) == ([1, 2, 3], b""), f"of {held[-60:]!r}"

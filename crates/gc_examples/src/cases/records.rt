@@ -151,6 +151,7 @@ fn ending_of<'a>(word: &str, reading: &'a Reading, line: &'a Line) -> Ending<'a>
         "skipped" => Ending::Skipped,
         "missed" => Ending::Missed,
         "spelling" => Ending::Unreadable(line, ValueFault::Spelling),
+        "elsewhere" => Ending::Elsewhere(line),
         "unread" => Ending::Answered(None, line),
         _ => match reading {
             Reading::Value(answer) => Ending::Answered(Some(answer), line),

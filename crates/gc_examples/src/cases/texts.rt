@@ -118,7 +118,15 @@ fn tasks_text(alloc: Global, tasks: &[Task], names: usize) -> Result<String, All
 fn push_task(task: &Task, told: &mut String) -> Result<(), AllocError> {
     let mode = if task.chained { " chained" } else { "" };
     let (target, call) = (task.command.target, task.command.call.number());
-    write!(told, "{target} {call} within {}{mode}\n", task.deadline)
+    write!(told, "{target} {call} within {}{mode}", task.deadline)?;
+    push_near(task, told)?;
+    write!(told, "\n")
+}
+
+fn push_near(task: &Task, told: &mut String) -> Result<(), AllocError> {
+    let Some(near) = task.near else { return Ok(()) };
+    let (place, tolerance) = (near.place, near.tolerance);
+    write!(told, " near {} {} {tolerance}", place.hz, place.v)
 }
 
 // Tells the name of the target that the case asks for.

@@ -1,13 +1,13 @@
-use Rattle.std.proofs.Common.{rules, ◌≡◌, ◌≤◌, ◌++◌, ap, ◌∙◌, arith}
+use Rattle.std.proofs.Common.{rules, ◌≡◌, ◌≤◌, ◌++◌, ap, arith}
 use Rattle.std.specs.Option.{option_copied}
-use Rattle.gc_texts.specs.Tasks.{may_stand, task_at, name_at}
+use Rattle.gc_texts.specs.Tasks.{task_at, name_at, near_at}
 use Rattle.gc_texts.proofs.TaskReading.{tasks_few, task_skips, task_reads, task_fails, task_refused, task_wants}
 use Rattle.gc_texts.proofs.tasks.read_task_lines.Goals as goal
 
 pub overflow_add-number : goal.overflow_add-number
 overflow_add-number c =
     let few : c.loop-left.number ≤ 65537 =
-    tasks_few c.args.text.now c.args.opening (option_copied c.loop-left.left) c.loop-left.number c.loop-left.tasks.items c.loop-left.names.items
+    tasks_few c.args.text.now c.args.opening (option_copied c.loop-left.left) c.loop-left.number c.loop-left.tasks.items c.loop-left.names.items c.loop-left.nears.items
     c.loop-left.mode c.requires.short c.loop-left.invariant in
     omega (arith, few)
 
@@ -15,7 +15,7 @@ pub loop-left-preserved-then-is_skipped : goal.loop-left-preserved-then-is_skipp
 loop-left-preserved-then-is_skipped c =
     task_skips c.args.text.now c.args.opening (option_copied c.loop-left.left) c.in-Some.text.now c.cut_at.result.0.now c.without_cr-line.result.now
     (option_copied c.cut_at.result.1) c.loop-left.number
-    c.loop-left.tasks.items c.loop-left.names.items c.loop-left.mode c.is_skipped.result c.loop-left.invariant
+    c.loop-left.tasks.items c.loop-left.names.items c.loop-left.nears.items c.loop-left.mode c.is_skipped.result c.loop-left.invariant
     (ap option_copied c.in-Some.is) c.cut_at.ensures c.without_cr-line.ensures c.is_skipped.ensures
     c.if-is_skipped.true
 
@@ -23,7 +23,7 @@ pub returns-in_default-read_task_line-clause-fault : goal.returns-in_default-rea
 returns-in_default-read_task_line-clause-fault c = (
   c.requires.short,
   task_fails c.args.text.now c.args.opening (option_copied c.loop-left.left) c.in-Some.text.now c.cut_at.result.0.now c.without_cr-line.result.now (option_copied c.cut_at.result.1) c.loop-left.number
-      c.loop-left.tasks.items c.loop-left.names.items c.loop-left.mode c.is_skipped.result c.loop-left.invariant
+      c.loop-left.tasks.items c.loop-left.names.items c.loop-left.nears.items c.loop-left.mode c.is_skipped.result c.loop-left.invariant
       (ap option_copied c.in-Some.is) c.cut_at.ensures c.without_cr-line.ensures c.is_skipped.ensures
       c.if-is_skipped.false c.in_default-read_task_line.ensures,
 )
@@ -33,29 +33,30 @@ returns-then-not-may_stand-clause-fault c = (
   c.requires.short,
   task_refused c.args.text.now c.args.opening (option_copied c.loop-left.left) c.in-Some.text.now c.cut_at.result.0.now c.without_cr-line.result.now
       (option_copied c.cut_at.result.1) c.loop-left.number
-      c.loop-left.tasks.items c.loop-left.names.items c.loop-left.mode c.is_skipped.result c.loop-left.invariant
+      c.loop-left.tasks.items c.loop-left.names.items c.loop-left.nears.items c.loop-left.mode c.is_skipped.result c.loop-left.invariant
       (ap option_copied c.in-Some.is) c.cut_at.ensures c.without_cr-line.ensures c.is_skipped.ensures
       c.in-Some-read_task_line.said c.may_stand.result c.if-is_skipped.false c.in-Some-read_task_line.ensures
-      (c.may_stand.ensures ∙ ap (λ ns. may_stand ns c.in-Some-read_task_line.said) c.as_slice.ensures.value) c.if-not-may_stand.true,
+      c.may_stand.ensures c.if-not-may_stand.true,
 )
 
 pub returns-then-is_err-clause-fault : goal.returns-then-is_err-clause-fault
 returns-then-is_err-clause-fault c = (
   c.requires.short,
   task_wants c.args.text.now c.args.opening (option_copied c.loop-left.left) c.in-Some.text.now c.cut_at.result.0.now c.without_cr-line.result.now (option_copied c.cut_at.result.1) c.loop-left.number
-      c.loop-left.tasks.items c.loop-left.names.items c.loop-left.mode c.is_skipped.result c.loop-left.invariant
+      c.loop-left.tasks.items c.loop-left.names.items c.loop-left.nears.items c.loop-left.mode c.is_skipped.result c.loop-left.invariant
       (ap option_copied c.in-Some.is) c.cut_at.ensures c.without_cr-line.ensures c.is_skipped.ensures
       c.in-Some-read_task_line.said c.may_stand.result c.if-is_skipped.false c.in-Some-read_task_line.ensures
-      (c.may_stand.ensures ∙ ap (λ ns. may_stand ns c.in-Some-read_task_line.said) c.as_slice.ensures.value) c.if-not-may_stand.false,
+      c.may_stand.ensures c.if-not-may_stand.false,
 )
 
 pub loop-left-preserved : goal.loop-left-preserved
 loop-left-preserved c =
     let more_tasks : c.keep.new.tasks.items ≡ c.loop-left.tasks.items ++ task_at c.loop-left.mode c.in-Some-read_task_line.said = search rules in
+    let more_nears : c.keep.new.nears.items ≡ c.loop-left.nears.items ++ near_at c.in-Some-read_task_line.said = search rules in
     let more_names : c.keep.new.names.items ≡ c.loop-left.names.items ++ name_at c.in-Some-read_task_line.said = search rules in
     task_reads c.args.text.now c.args.opening (option_copied c.loop-left.left) c.in-Some.text.now c.cut_at.result.0.now c.without_cr-line.result.now
     (option_copied c.cut_at.result.1) c.loop-left.number
-    c.loop-left.tasks.items c.loop-left.names.items c.loop-left.mode c.is_skipped.result c.loop-left.invariant
+    c.loop-left.tasks.items c.loop-left.names.items c.loop-left.nears.items c.loop-left.mode c.is_skipped.result c.loop-left.invariant
     (ap option_copied c.in-Some.is) c.cut_at.ensures c.without_cr-line.ensures c.is_skipped.ensures
-    c.in-Some-read_task_line.said c.keep.new.tasks.items c.keep.new.names.items c.behind-next.result c.may_stand.result c.if-is_skipped.false c.in-Some-read_task_line.ensures
-    (c.may_stand.ensures ∙ ap (λ ns. may_stand ns c.in-Some-read_task_line.said) c.as_slice.ensures.value) c.if-not-may_stand.false more_tasks more_names c.behind-next.ensures
+    c.in-Some-read_task_line.said c.keep.new.tasks.items c.keep.new.names.items c.keep.new.nears.items c.behind-next.result c.may_stand.result c.if-is_skipped.false c.in-Some-read_task_line.ensures
+    c.may_stand.ensures c.if-not-may_stand.false more_tasks more_names more_nears c.behind-next.ensures

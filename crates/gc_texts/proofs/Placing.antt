@@ -1,0 +1,109 @@
+-- Where it is said of a target that it stands, and what that says of its tasks and of an answer.
+use Rattle.std.proofs.Common.{◌≡◌, ℕ, zero, suc, ◌+◌, take, drop, ◌<◌, get_or, slice_set, arith, ◌==◌, ◌&&◌, ◌||◌, not, nat_lt, List, [], ◌∷◌, ◌++◌, length, map, Option, Some, None, Bool, true, false, cond, refl, sym, ap, ◌∙◌, subst, append_assoc, append-nil}
+use Rattle.std.proofs.lemmas.Bool.{eq-eqb}
+use Rattle.gc_catalogue.specs.declared.answer.Answer.{Answer}
+use Rattle.gc_values.specs.Directions.{is_near, IsNear}
+use Rattle.gc_values.specs.declared.direction.Direction.{Direction}
+use Rattle.gc_values.proofs.NearLemmas.{near_is_within}
+use Rattle.gc_texts.specs.Chained.{PlacesHoldForAll}
+use Rattle.gc_texts.specs.Nears.{is_said, near_of, direction_of, is_away, is_elsewhere}
+use Rattle.gc_texts.specs.Tasks.{opening, tasks_of, name_at, near_at, nears_of, placed, MayFollow}
+use Rattle.gc_texts.specs.declared.name.Name.{Name}
+use Rattle.gc_texts.specs.declared.near.Near.{Near}
+use Rattle.gc_texts.specs.declared.task_line.TaskLine.{TaskLine}
+use Rattle.gc_texts.specs.declared.task_line.TaskLine.TheVariants as says
+use Rattle.gc_texts.specs.declared.tasks.Task.{Task}
+
+both_true : (a b : Bool) → (a && b) ≡ true → b ≡ true
+both_true true b e = e
+both_true false b e = cc
+
+not_true : (b : Bool) → not b ≡ true → b ≡ false
+not_true true e = cc
+not_true false e = refl
+
+-- where a line says where a target stands, no line before it does
+unsaid : (names : List Name) (nears : List Near) (front later : List TaskLine) (near : Near) → MayFollow names nears (front ++ says.Standing near ∷ later)
+    → is_said near.target (nears ++ nears_of front) ≡ false
+unsaid names nears [] later near follow =
+    ap (is_said near.target) (append-nil nears) ∙ not_true (is_said near.target nears) (both_true (nat_lt (length nears) 64) (not (is_said near.target nears)) follow.0)
+unsaid names nears (line ∷ front) later near follow =
+    ap (is_said near.target) (sym (append_assoc nears (near_at line) (nears_of front))) ∙ unsaid (names ++ name_at line) (nears ++ near_at line) front later near follow.1
+
+none_of : (a b : Bool) → (a || b) ≡ false → (a ≡ false) × (b ≡ false)
+none_of true b e = cc
+none_of false b e = (refl, e)
+
+-- so it is found
+found_near : (nears others : List Near) (near : Near) → is_said near.target nears ≡ false → near_of near.target (nears ++ near ∷ others) ≡ Some near
+found_near [] others near unsaid = ap (λ b. cond b (Some near) (near_of near.target others)) (eq-eqb near.target near.target refl)
+found_near (n ∷ nears) others near unsaid =
+    let apart = none_of (n.target == near.target) (is_said near.target nears) unsaid in
+    ap (λ b. cond b (Some n) (near_of near.target (nears ++ near ∷ others))) apart.0 ∙ found_near nears others near apart.1
+
+nears_both : (xs ys : List TaskLine) → nears_of (xs ++ ys) ≡ nears_of xs ++ nears_of ys
+nears_both [] ys = refl
+nears_both (x ∷ xs) ys = ap (λ ns. near_at x ++ ns) (nears_both xs ys) ∙ sym (append_assoc (near_at x) (nears_of xs) (nears_of ys))
+
+first_is : (t u : Task) (ts us : List Task) → ◌≡◌ {A = List Task} (t ∷ ts) (u ∷ us) → t ≡ u
+first_is t u ts us e = cc
+
+others_are : (t u : Task) (ts us : List Task) → ◌≡◌ {A = List Task} (t ∷ ts) (u ∷ us) → ts ≡ us
+others_are t u ts us e = cc
+
+-- each task stands where it is said
+placed_so : (nears : List Near) (tasks earlier others : List Task) (task : Task) → map (placed nears) tasks ≡ earlier ++ task ∷ others → task.near ≡ near_of task.command.target nears
+placed_so nears [] [] others task e = cc
+placed_so nears [] (t ∷ ts) others task e = cc
+placed_so nears (t ∷ tasks) [] others task e =
+    let same = first_is (placed nears t) task (map (placed nears) tasks) others e in
+    ap (λ (u : Task). u.near) (sym same) ∙ ap (λ (u : Task). near_of u.command.target nears) same
+placed_so nears (t ∷ tasks) (u ∷ earlier) others task e =
+    placed_so nears tasks earlier others task (others_are (placed nears t) u (map (placed nears) tasks) (earlier ++ task ∷ others) e)
+
+pub places_hold : PlacesHoldForAll
+places_hold text deadline chained tasks names nears is front later near at earlier others task among same =
+    let follow : MayFollow [] [] (front ++ says.Standing near ∷ later) = subst (λ said. MayFollow [] [] said) at is.lines.follow in
+    let all : nears ≡ nears_of front ++ near ∷ nears_of later = is.nears_are ∙ ap nears_of at ∙ nears_both front (says.Standing near ∷ later) in
+    placed_so nears (tasks_of (opening deadline chained) is.said) earlier others task (sym is.tasks_are ∙ among)
+    ∙ ap (λ t. near_of t nears) same ∙ ap (near_of near.target) all ∙ found_near (nears_of front) (nears_of later) near (unsaid [] [] front later near follow)
+
+double_not : (b : Bool) → not b ≡ false → b ≡ true
+double_not true e = refl
+double_not false e = cc
+
+-- an answer that isn't elsewhere, and has a direction, is near
+pub near_unless_elsewhere : (near : Near) (answer : Answer) (d : Direction) → is_elsewhere (Some near) answer ≡ false → direction_of answer ≡ Some d → IsNear d near.place near.tolerance
+unfolding is_elsewhere
+near_unless_elsewhere near answer d isnt has =
+    (near_is_within d near.place near.tolerance).0 (double_not (is_near d near.place near.tolerance) (ap (is_away near) (sym has) ∙ isnt))
+
+-- the tasks before place i stand where it is said, and those behind it don't yet
+abbrev halfway : List Near → ℕ → List Task → List Task
+halfway nears i tasks = map (placed nears) (take i tasks) ++ drop i tasks
+
+placed_at : (nears : List Near) (tasks : List Task) (i : ℕ) (d : Task) → i < length tasks
+    → slice_set (halfway nears i tasks) i (placed nears (get_or (halfway nears i tasks) i d)) ≡ halfway nears (suc i) tasks
+placed_at nears [] zero d below = absurd (omega (arith, below))
+placed_at nears [] (suc i) d below = absurd (omega (arith, below))
+placed_at nears (x ∷ tasks) zero d below = refl
+placed_at nears (x ∷ tasks) (suc i) d below = let low : i < length tasks = omega (arith, below) in ap (λ ts. placed nears x ∷ ts) (placed_at nears tasks i d low)
+
+pub placed_next : (nears : List Near) (tasks now : List Task) (i : ℕ) (d new : Task) → now ≡ halfway nears i tasks → i < length tasks → new ≡ placed nears (get_or now i d)
+    → slice_set now i new ≡ map (placed nears) (take (i + 1) tasks) ++ drop (i + 1) tasks
+placed_next nears tasks now i d new is below e =
+    let one : suc i ≡ i + 1 = omega arith in
+    ap (slice_set now i) e ∙ ap (λ ts. slice_set ts i (placed nears (get_or ts i d))) is ∙ placed_at nears tasks i d below ∙ ap (λ n. halfway nears n tasks) one
+
+-- one that is elsewhere has a direction, which isn't near
+pub elsewhere_is : (place : Option Near) (answer : Answer) → is_elsewhere place answer ≡ true
+    → (near : Near) × (d : Direction) × (place ≡ Some near) × (direction_of answer ≡ Some d) × (IsNear d near.place near.tolerance → ⊥)
+unfolding is_elsewhere
+elsewhere_is None answer away = cc
+elsewhere_is (Some near) answer away = by_direction (direction_of answer) refl where
+  by_direction : (o : Option Direction) → direction_of answer ≡ o
+      → (n : Near) × (d : Direction) × (Some near ≡ Some n) × (direction_of answer ≡ Some d) × (IsNear d n.place n.tolerance → ⊥)
+  by_direction None has = let bad : false ≡ true = ap (is_away near) (sym has) ∙ away in cc
+  by_direction (Some d) has =
+      let isnt : is_near d near.place near.tolerance ≡ false = not_true (is_near d near.place near.tolerance) (ap (is_away near) (sym has) ∙ away) in
+      (near, d, refl, has, λ is. let bad : true ≡ false = sym ((near_is_within d near.place near.tolerance).1 is) ∙ isnt in cc)

@@ -1,0 +1,74 @@
+-- Where a target stands, and whether an answer was measured there: this project's own. When a direction is near another is the rule of
+-- gc_values' `Directions`.
+use Rattle.std.specs.Prelude.{◌≡◌, ℕ, ◌==◌, Bool, true, false, not, if◌then◌else◌, List, [], ◌∷◌, Option, None, Some, is_some}
+use Rattle.std.specs.List.{list_any}
+use Rattle.gc_catalogue.specs.Answers.{IsAnswerOf}
+use Rattle.gc_catalogue.specs.Calls.{call_fields}
+use Rattle.gc_catalogue.specs.declared.answer.Answer.{Answer}
+use Rattle.gc_catalogue.specs.declared.answer.Answer.TheVariants.{Angles, Measured, MeasuredMode}
+use Rattle.gc_catalogue.specs.declared.call.Call.{Call}
+use Rattle.gc_catalogue.specs.declared.call.Call.TheVariants.{GetAngle, SimpleMea, QuickDist, MeasDistance}
+use Rattle.gc_values.specs.Directions.{is_near, is_place, is_tolerance}
+use Rattle.gc_values.specs.Spelling.{Spells}
+use Rattle.gc_values.specs.declared.decimal.Decimal.{Decimal}
+use Rattle.gc_values.specs.declared.direction.Direction.{Direction}
+use Rattle.gc_texts.specs.Cuts.{before, behind}
+use Rattle.gc_texts.specs.Procedures.{IsNumber}
+use Rattle.gc_texts.specs.declared.near.Near.{Near}
+
+-- a number with a point or without one, as a parameter has it
+abbrev pub IsDouble : List ℕ → Decimal → Type 0
+IsDouble text d = Spells text d.digits d.scale
+
+-- these words say a target, where it stands, and how far from there a measurement may be: HZ is from 0 to a turn, and V and TOLERANCE
+-- are from 0 to half a turn
+pub record AreWords (target hz v tolerance : List ℕ) (near : Near) : Type 0 where
+  pub target_is : IsNumber target near.target 4294967295
+  pub hz_is : IsDouble hz near.place.hz
+  pub v_is : IsDouble v near.place.v
+  pub tolerance_is : IsDouble tolerance near.tolerance
+  pub place_is : is_place near.place ≡ true
+  pub tolerance_in : is_tolerance near.tolerance ≡ true
+
+-- `T HZ V TOLERANCE`, with one space between two words
+abbrev pub IsNearText : List ℕ → Near → Type 0
+IsNearText text near = AreWords (before 32 text) (before 32 (behind 32 text)) (before 32 (behind 32 (behind 32 text))) (behind 32 (behind 32 (behind 32 text))) near
+
+-- whether it is said among these where a target stands
+abbrev pub is_said : ℕ → List Near → Bool
+is_said target nears = list_any (λ near. near.target == target) nears
+
+-- where a target stands, if it is said among these
+abbrev pub near_of : ℕ → List Near → Option Near
+near_of target [] = None
+near_of target (near ∷ nears) = if near.target == target then Some near else near_of target nears
+
+-- the direction that an answer has
+abbrev pub direction_of : Answer → Option Direction
+direction_of (Angles hz v) = Some (record { hz = hz; v = v })
+direction_of (Measured hz v distance) = Some (record { hz = hz; v = v })
+direction_of (MeasuredMode hz v distance mode) = Some (record { hz = hz; v = v })
+direction_of _ = None
+
+-- whether the answers of a call have a direction
+abbrev pub asks_direction : Call → Bool
+asks_direction (GetAngle mode) = true
+asks_direction (SimpleMea wait mode) = true
+asks_direction QuickDist = true
+asks_direction (MeasDistance mode) = true
+asks_direction _ = false
+
+-- whether a direction, where there is one, isn't near where a target stands
+abbrev pub is_away : Near → Option Direction → Bool
+is_away near None = false
+is_away near (Some d) = not (is_near d near.place near.tolerance)
+
+-- whether an answer was measured elsewhere than its target stands, where that was said
+unfoldable pub is_elsewhere : Option Near → Answer → Bool
+is_elsewhere None answer = false
+is_elsewhere (Some near) answer = is_away near (direction_of answer)
+
+-- the answers that have a direction are those of procedures 2107, 2108, 2117 and 17017
+pub record DirectionsAreAskedFor : Type 0 where
+  pub answers : (call : Call) (answer : Answer) → IsAnswerOf call answer → is_some (direction_of answer) ≡ asks_direction call
+  pub procedures : (call : Call) → asks_direction call ≡ list_any (λ n. n == (call_fields call).number) (2107 ∷ 2108 ∷ 2117 ∷ 17017 ∷ [])

@@ -1,0 +1,127 @@
+//! Where a target stands, and whether an answer was measured there.
+
+ghost use Rattle.std.specs.Prelude.{◌≡◌, MatchOption};
+ghost use Rattle.gc_texts.specs.Nears.{IsDouble, AreWords, IsNearText, is_said, near_of, direction_of, asks_direction, is_elsewhere};
+ghost use Rattle.gc_texts.specs.declared.near.Near.{Near};
+ghost use Rattle.gc_values.specs.declared.decimal.Decimal.{Decimal};
+
+use crate::cuts::{before, behind};
+use crate::procedure::{TARGET_MAX, number_of};
+use gc_catalogue::{Answer, Call};
+use gc_values::{Decimal, Direction, is_tolerance};
+
+/// Where a target stands, as a text says it. Angles are in radians.
+#[derive(Clone, Copy, Debug, PartialEq, Eq)]
+pub struct Near {
+    /// Which target.
+    pub target: u32,
+    /// Its direction in face I: the horizontal one within a turn, the vertical one within half a turn.
+    pub place: Direction,
+    /// How far from there each angle of a measurement may be: within half a turn.
+    pub tolerance: Decimal,
+}
+
+// A number with a point or without one.
+fn read_double(text: &[u8]) -> Option<Decimal>
+    ensures { MatchOption result ((d : Decimal) → IsDouble text.now d → ⊥) (λ d. IsDouble text.now d) }
+{
+    match Decimal::read(text) {
+        Ok(d) => Some(d),
+        Err(_) => None,
+    }
+}
+
+// Reads the words that say where a target stands; none where one has no form, or a number lies outside its range.
+fn read_words(target: &[u8], hz: &[u8], v: &[u8], tolerance: &[u8]) -> Option<Near>
+    ensures { MatchOption result ((near : Near) → AreWords target.now hz.now v.now tolerance.now near → ⊥) (λ near. AreWords target.now hz.now v.now tolerance.now near) }
+{
+    let Some(target) = number_of(target, TARGET_MAX) else {
+        return None
+    };
+    let Some(hz) = read_double(hz) else {
+        return None
+    };
+    let Some(v) = read_double(v) else { return None };
+    let Some(tolerance) = read_double(tolerance) else {
+        return None
+    };
+    let place = Direction { hz, v };
+    if !place.is_place() {
+        return None;
+    }
+    if !is_tolerance(&tolerance) {
+        return None;
+    }
+    Some(Near {
+        target: target as u32,
+        place,
+        tolerance,
+    })
+}
+
+/// Reads `T HZ V TOLERANCE`; none where it has no such form, or a number lies outside its range.
+pub(crate) fn read_near(text: &[u8]) -> Option<Near>
+    ensures { MatchOption result ((near : Near) → IsNearText text.now near → ⊥) (λ near. IsNearText text.now near) }
+{
+    let angles = behind(b' ', text);
+    let others = behind(b' ', angles);
+    read_words(
+        before(b' ', text),
+        before(b' ', angles),
+        before(b' ', others),
+        behind(b' ', others),
+    )
+}
+
+/// Whether it is said among these where a target stands.
+pub(crate) fn is_said(target: u32, nears: &[Near]) -> bool
+    ensures { result ≡ is_said target nears.now }
+{
+    nears.iter().any(|near| near.target == target)
+}
+
+/// Where a target stands, if it is said among these.
+pub(crate) fn near_of(target: u32, nears: &[Near]) -> Option<Near>
+    ensures { result ≡ near_of target nears.now }
+{
+    for near in nears {
+        if near.target == target {
+            return Some(*near);
+        }
+    }
+    None
+}
+
+/// The direction that an answer has.
+fn direction_of(answer: &Answer) -> Option<Direction>
+    ensures { result ≡ direction_of answer.now }
+{
+    match *answer {
+        Answer::Angles { hz, v }
+        | Answer::Measured { hz, v, .. }
+        | Answer::MeasuredMode { hz, v, .. } => Some(Direction { hz, v }),
+        _ => None,
+    }
+}
+
+/// Whether the answers of a call have a direction.
+pub(crate) fn asks_direction(call: &Call) -> bool
+    ensures { result ≡ asks_direction call.now }
+{
+    matches!(
+        call,
+        Call::GetAngle { .. } | Call::SimpleMea { .. } | Call::QuickDist | Call::MeasDistance { .. }
+    )
+}
+
+/// Whether an answer was measured elsewhere than its target stands, where that was said. One without a direction never was.
+#[tactic(auto, unfolding(crate::specs::Nears::is_elsewhere))]
+pub fn is_elsewhere(near: Option<Near>, answer: &Answer) -> bool
+    ensures { result ≡ is_elsewhere near answer.now }
+{
+    let Some(near) = near else { return false };
+    let Some(direction) = direction_of(answer) else {
+        return false
+    };
+    !direction.is_near(&near.place, &near.tolerance)
+}
