@@ -99,10 +99,29 @@ class Followed:
         except FileNotFoundError:
             raise Unread(f"{self.path} was taken away") from None
         if (there.st_dev, there.st_ino) != (here.st_dev, here.st_ino):
-            raise Refused(f"{self.path} was replaced by another file")
+            self.go_over()
+            here = os.fstat(self.file.fileno())
         if here.st_size < self.place.bytes:
             raise Refused(f"{self.path} is shorter than the {self.place.bytes} bytes that were taken of it: it was cut")
         return here.st_size
+
+    def go_over(self):
+        """Goes on in the file that took this one's place, where that begins with all its whole rows: a station that starts behind a kill or
+        a failed sync puts such a copy there."""
+        try:
+            other = Followed(self.path, self.place)
+        except Refused:
+            raise Refused(f"{self.path} was replaced by another file") from None
+        begin, data = self.place.bytes, b"\n" * PIECE
+        while len(data) == PIECE:
+            data = os.pread(self.file.fileno(), PIECE, begin)
+            whole = data[: data.rfind(b"\n") + 1]
+            if os.pread(other.file.fileno(), len(whole), begin) != whole:
+                other.close()
+                raise Refused(f"{self.path} was replaced by another file, which lacks rows of this one")
+            begin += len(whole)
+        self.close()
+        self.file, self.form = other.file, other.form
 
     def next(self):
         """The next rows, at most a batch, and the place behind them. A line without its line feed is left for later."""

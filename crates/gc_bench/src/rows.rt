@@ -1,6 +1,6 @@
 //! Rows of a station, appended to a file of the system.
 
-use gc_files::{RowsFile, SystemFile, open_at};
+use gc_files::{RowsFile, SystemFile, end_at, open_at};
 use gc_lines::{Durable, write_whole};
 
 const HEAD: &[u8] =
@@ -11,8 +11,12 @@ const ROW: &[u8] =
 
 /// Appends `count` rows to the file of this path, makes each of them last, and returns how many did.
 pub fn append(rt: &HostRuntime, path: &str, count: u32, sync: bool) -> u64 {
-    match open_at(rt, path, HEAD, HEAD, sync) {
-        Ok(mut rows) => append_to(&mut rows, count),
+    match open_at(rt, rt.alloc(), path, HEAD, HEAD, sync) {
+        Ok((mut rows, _)) => {
+            let sum = append_to(&mut rows, count);
+            end_at(rt, rt.alloc(), path, rows);
+            sum
+        }
         Err(_) => 0,
     }
 }

@@ -236,7 +236,7 @@ abbrev pub Lasts : List ℕ → List ℕ → List Run → Life → Type 0
 Lasts head before runs life = (left : List ℕ) → MayLeave life.start life.steps left → HasRows head before runs left
 
 module _ (head before : List ℕ) (heads : IsHead head) where
-  one_more : (runs : List Run) (life : Life) (run : Run) → Lasts head before runs life → IsRun head (content life) run → Lasts head before (runs ++ run ∷ []) (later_by run.steps life)
+  pub one_more : (runs : List Run) (life : Life) (run : Run) → Lasts head before runs life → IsRun head (content life) run → Lasts head before (runs ++ run ∷ []) (later_by run.steps life)
   one_more runs life run lasts one left may = elim (leaves_two life.start life.steps run.steps left may) [
     | inl old ↦
         let nothing = no_sync run.steps old.0 in

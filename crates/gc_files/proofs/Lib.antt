@@ -5,4 +5,7 @@ pub mod Adding
 pub mod Looking
 pub mod Remembering
 pub mod Killing
+pub mod Failing
+pub mod Needing
+pub mod Feeds
 mod Walks

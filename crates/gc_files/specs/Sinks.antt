@@ -2,6 +2,7 @@
 use Rattle.std.specs.Prelude.{◌≡◌, ◌⊎◌, ℕ, List, [], ◌∷◌, Bool, true, not, if◌then◌else◌, Option, Some, None}
 use Rattle.gc_files.specs.declared.appending.Appending.{Ghosts}
 use Rattle.gc_files.specs.declared.rows_file.RowsFile.{RowsFile}
+use Rattle.gc_files.specs.declared.system.SystemFile.{SystemFile}
 use Rattle.gc_files.specs.Files.{Step, Life, Sync, content, Adds}
 use Rattle.gc_files.specs.Rows.{appended}
 
@@ -54,3 +55,7 @@ pub record IsOpenedAs {F : Type 0} {D : Ghosts F} (head sign : List ℕ) (sync :
 -- whether what the sink took is on the disk, or needn't be
 abbrev pub is_durable : {F : Type 0} {D : Ghosts F} → RowsFile F D → Bool
 is_durable sink = if sink.sync then not sink.unkept else true
+
+-- a file of the system is in doubt
+abbrev pub is_in_doubt : SystemFile → Bool
+is_in_doubt file = file.doubted

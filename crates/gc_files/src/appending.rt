@@ -1,6 +1,6 @@
 //! A file that is only appended to and cut at its end: what its calls do to it, and what a crash may leave of it.
 
-ghost use Rattle.std.specs.Prelude.{◌≡◌, ◌<◌, ◌≤◌, Option, Some, length, take, IfOk, OnOk};
+ghost use Rattle.std.specs.Prelude.{◌≡◌, ◌<◌, ◌≤◌, Bool, true, false, Option, Some, length, take, IfOk, OnOk, OnErr};
 ghost use Rattle.gc_files.specs.Files.{Life, Append, Cut, Sync, content, IsKept, Makes, ReadsAt};
 
 use gc_lines::PortFailed;
@@ -9,9 +9,19 @@ use gc_lines::PortFailed;
 ///
 /// An implementor says with `life` what it held and what was done to it, or `None` where that isn't known, as of a file of the
 /// system. A call that fails has changed nothing.
+///
+/// But a sync that failed leaves the file in doubt: the system may have dropped bytes that it couldn't write, still return them, and
+/// count them as written. No later sync of that file says that they are on the disk.
 pub trait Appending {
     /// What it held when the machine started, and the calls since then.
     ghost life: { Self → Option Life };
+
+    /// It is in doubt.
+    ghost doubted: { Self → Bool };
+
+    /// Whether it is in doubt: a sync of it failed, or may have.
+    fn is_doubted(&self) -> bool
+        ensures { result ≡ doubted self.now };
 
     /// How many bytes it holds.
     fn len(&self) -> Result<u64, PortFailed>
@@ -35,8 +45,9 @@ pub trait Appending {
         ensures count { IfOk result (λ n. (0 < n) × (n ≤ length bytes.now)) }
         ensures step { Makes (life self.old) (life self.new) result (λ n. Append (take n bytes.now)) };
 
-    /// Syncs all that it holds: after `Ok` a crash leaves it.
+    /// Syncs all that it holds: after `Ok` a crash leaves it, where the file wasn't in doubt. After an `Err` it is.
     fn sync(&mut self) -> Result<(), PortFailed>
-        ensures durable { OnOk result ((known : Life) → life self.new ≡ Some known → IsKept known) }
+        ensures durable { OnOk result (doubted self.old ≡ false → (known : Life) → life self.new ≡ Some known → IsKept known) }
+        ensures doubt { OnErr result (doubted self.new ≡ true) }
         ensures step { Makes (life self.old) (life self.new) result (λ _. Sync) };
 }

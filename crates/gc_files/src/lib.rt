@@ -14,20 +14,27 @@
 //! - Where only programs end, by themselves or by a kill, each row that went out whole is there, synced or not
 //!   ([`laws::kills_lose_nothing`]).
 //! - An opening, and what is written and synced behind it, is such a run ([`laws::calls_are_runs`]).
+//! - A file in which a sync failed is in doubt, and no row goes into it any more: what it holds is copied ([`copy_lines`]), and the
+//!   copy takes its place. Then the table stays over failed syncs, too ([`laws::tables_outlast_failures`]), and without copies it
+//!   doesn't ([`laws::copies_are_needed`]).
 //!
 //! Trusted, of a file of the system:
 //!
 //! - A call that fails has changed nothing. A crash leaves a front of what was appended since the last sync. A sync is kept.
 //! - What the file held before the first run is on the disk.
+//! - A sync that failed leaves no less than the last good one kept, to a read and on the disk, and in place of what is lost no line
+//!   feed.
 //!
-//! Outside of that are: a sync that failed, behind which the system may count bytes as written that aren't; a cut whose sync
-//! failed, which a later crash may take back; an append that failed and wrote a part, and a cut that failed and was made; and a
-//! crash that leaves bytes without those before them, since the system wrote pages back in another order. A sink appends nothing
-//! behind a failed call, and the next opening cuts off half a row. No clause says when a file can be opened, which path is refused,
-//! and whether a path leads to a file.
+//! Outside of that are: an append that failed and wrote a part, and a cut that failed and was made; and a crash that leaves bytes
+//! without those before them, since the system wrote pages back in another order. A sink appends nothing behind a failed call, and
+//! the next opening cuts off half a row. No clause says when a file can be opened, which path is refused, and whether a path leads
+//! to a file; nor that the mark by which [`open_at`] knows a file in doubt is there, and that a copy takes a file's place in one
+//! step.
 #![tactic(auto)]
 
 mod appending;
+mod beside;
+mod copying;
 pub mod laws;
 mod memory_file;
 mod opening;
@@ -36,8 +43,10 @@ mod rows_file;
 mod system;
 
 pub use appending::Appending;
+pub use beside::{end_at, open_at};
+pub use copying::copy_lines;
 pub use memory_file::{Call, MemoryFile};
 pub use opening::{Refused, open_rows};
 pub use past::{Done, Past};
 pub use rows_file::RowsFile;
-pub use system::{SystemFile, Unfit, open_at, open_file};
+pub use system::{SystemFile, Unfit, open_file};

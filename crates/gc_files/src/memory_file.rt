@@ -21,7 +21,7 @@ pub enum Call {
 }
 
 /// A file in memory: what it held at first, each call since, and what it holds. It takes so many bytes and no more, as a disk
-/// does that is full then.
+/// does that is full then. Its syncs can be made to fail.
 #[derive(Drop)]
 pub struct MemoryFile {
     alloc: Global,
@@ -29,6 +29,9 @@ pub struct MemoryFile {
     calls: Vec<Call>,
     bytes: Vec<u8>,
     room: usize,
+    // Whether its syncs fail, and whether one did.
+    fails: bool,
+    doubted: bool,
     // What it holds is what the calls made of what it held.
     ghost same: { bytes.items ≡ content (life_by start.items calls.items) },
 }
@@ -45,7 +48,14 @@ impl MemoryFile {
             calls: Vec::new(alloc),
             bytes,
             room,
+            fails: false,
+            doubted: false,
         })
+    }
+
+    /// Its syncs fail from now on.
+    pub fn fail_syncs(&mut self) {
+        self.fails = true;
     }
 
     /// What it holds.
@@ -76,6 +86,12 @@ fn note(
 
 impl Appending for MemoryFile {
     ghost life = { λ m. Some (life_by m.start.items m.calls.items) };
+
+    ghost doubted = { λ m. m.doubted };
+
+    fn is_doubted(&self) -> bool {
+        self.doubted
+    }
 
     fn len(&self) -> Result<u64, PortFailed> {
         Ok(self.bytes.len() as u64)
@@ -119,9 +135,17 @@ impl Appending for MemoryFile {
     }
 
     fn sync(&mut self) -> Result<(), PortFailed> {
-        let Ok(next) = self.bytes.to_vec(self.alloc) else {
+        let next = self.bytes.to_vec(self.alloc);
+        let (false, Ok(next)) = (self.fails, next) else {
+            self.doubted = true;
             return Err(PortFailed);
         };
-        note(&mut self.calls, &mut self.bytes, Call::Sync, next)
+        match note(&mut self.calls, &mut self.bytes, Call::Sync, next) {
+            Ok(()) => Ok(()),
+            Err(failed) => {
+                self.doubted = true;
+                Err(failed)
+            }
+        }
     }
 }

@@ -13,14 +13,14 @@ use gc_lines::PortFailed;
 use memchr::memrchr;
 
 // How many bytes are read at once.
-const BLOCK: usize = 4096;
+pub(crate) const BLOCK: usize = 4096;
 
 /// Why a file isn't opened as a file of rows.
 #[derive(Clone, Copy, Debug, PartialEq, Eq)]
 pub enum Refused {
     /// It is no file of such rows: it neither begins with the sign nor is a front of it. It was not touched.
     Foreign,
-    /// A call of the file failed. The whole rows that it held stand. What stood behind them may be cut off. In an empty file a
+    /// A call of the file failed, or the file is in doubt. The whole rows that it held stand. What stood behind them may be cut off. In an empty file a
     /// front of the head may be written. The next opening repairs both.
     Failed,
 }
@@ -43,7 +43,7 @@ fn is_front(text: &[u8], piece: &[u8]) -> bool
 }
 
 // Fills the buffer with what stands behind the first `at` bytes.
-fn read_all<F: Appending>(file: &F, at: u64, buf: &mut [u8]) -> Result<(), PortFailed>
+pub(crate) fn read_all<F: Appending>(file: &F, at: u64, buf: &mut [u8]) -> Result<(), PortFailed>
     requires room { at + length buf.old < 2 ^ 64 }
     requires known { (known : Life) → F.life file.now ≡ Some known → at + length buf.old ≤ length (content known) }
     ensures { OnOk result ((known : Life) → F.life file.now ≡ Some known → buf.new ≡ take (length buf.new) (drop at (content known))) }
@@ -64,7 +64,7 @@ fn read_all<F: Appending>(file: &F, at: u64, buf: &mut [u8]) -> Result<(), PortF
 }
 
 // Whether a file of `len` bytes begins with the sign, or is a front of it.
-fn has_sign<F: Appending>(file: &F, len: u64, sign: &[u8]) -> Result<bool, PortFailed>
+pub(crate) fn has_sign<F: Appending>(file: &F, len: u64, sign: &[u8]) -> Result<bool, PortFailed>
     requires { (known : Life) → F.life file.now ≡ Some known → len ≡ length (content known) }
     ensures { IfOk result (λ b. (known : Life) → F.life file.now ≡ Some known → b ≡ fits sign.now (content known)) }
 {
@@ -99,7 +99,7 @@ fn whole_len(block: &[u8]) -> usize
 }
 
 // Where the last whole row of the first `len` bytes ends: behind their last line feed. The blocks are read from the end.
-fn end_of_rows<F: Appending>(file: &F, len: u64) -> Result<u64, PortFailed>
+pub(crate) fn end_of_rows<F: Appending>(file: &F, len: u64) -> Result<u64, PortFailed>
     requires { (known : Life) → F.life file.now ≡ Some known → len ≡ length (content known) }
     ensures within { IfOk result (λ end. end ≤ len) }
     ensures end { IfOk result (λ end. (known : Life) → F.life file.now ≡ Some known → end ≡ length (whole (content known))) }
@@ -139,7 +139,7 @@ fn repair<F: Appending>(file: &mut F, len: u64, end: u64) -> Result<(), PortFail
 }
 
 // Appends all of these bytes. Where an append fails, a front of them has been appended.
-fn append_all<F: Appending>(file: &mut F, bytes: &[u8]) -> Result<(), PortFailed>
+pub(crate) fn append_all<F: Appending>(file: &mut F, bytes: &[u8]) -> Result<(), PortFailed>
     ensures ok { OnOk result (PutsAll (F.life file.old) (F.life file.new) bytes.now) }
     ensures err { OnErr result ((front : List ℕ) × IsFront front bytes.now × PutsAll (F.life file.old) (F.life file.new) front) }
 {
@@ -207,6 +207,8 @@ fn prepare<F: Appending>(file: &mut F, head: &[u8], sign: &[u8]) -> Result<u64, 
 ///
 /// For a table, `head` and `sign` are its header. For rows without a header, `head` is empty, and `sign` is what each row
 /// begins with. With `sync` what is appended is on the disk after each [`RowsFile::keep`].
+///
+/// A file that is in doubt is refused, and not touched: [`copy_lines`](crate::copy_lines) makes one of it that isn't.
 pub fn open_rows<F: Appending>(
     mut file: F,
     head: &'static [u8],
@@ -219,6 +221,7 @@ pub fn open_rows<F: Appending>(
     ensures torn { IfOk result (λ rows. (known : Life) → F.life file ≡ Some known → length (content known) ≡ length (whole (content known)) + torn_in rows) }
     ensures sound { IfOk result (λ rows. has_failed rows ≡ false) }
     ensures asked { IfOk result (λ rows. IsOpenedAs head.now sign.now sync rows) }
+    ensures trusted { OnOk result (F.doubted file ≡ false) }
     ensures fresh { IfOk result (λ rows. steps_in rows ≡ []) }
 
     // What hasn't the sign is refused, and only that; it was not touched.
@@ -229,6 +232,9 @@ pub fn open_rows<F: Appending>(
     ensures failed { IfErr result (λ why. OpensInPart head.now (F.life file) (F.life why.1)) }
     ensures untouched { IfErr result (λ why. (known : Life) → F.life file ≡ Some known → fits sign.now (content known) ≡ false → F.life why.1 ≡ F.life file) }
 {
+    if file.is_doubted() {
+        return Err((Refused::Failed, file));
+    }
     match prepare(&mut file, head, sign) {
         Ok(torn) => Ok(RowsFile::new(file, head, sign, sync, torn)),
         Err(why) => Err((why, file)),

@@ -94,6 +94,30 @@ impl<F: Appending> RowsFile<F> {
         self.torn
     }
 
+    // Its file, and whether all that this holds is on the disk, also behind a failed write: what may not be is synced.
+    pub(crate) fn settle(self) -> (F, bool)
+        ensures { IsTrue result.1 → (known : Life) → F.life result.0 ≡ Some known → IsKept known }
+    {
+        let RowsFile {
+            mut file,
+            head: _,
+            sign: _,
+            sync: _,
+            torn: _,
+            unkept,
+            broken: _,
+            past: _,
+        } = self;
+        if !unkept {
+            return (file, true);
+        }
+        if file.is_doubted() {
+            return (file, false);
+        }
+        let is_kept = file.sync().is_ok();
+        (file, is_kept)
+    }
+
     /// What was done to the file since it was opened.
     pub fn past(&self) -> &Past
         ensures is { result.now.steps ≡ steps_in self.now }
@@ -158,7 +182,7 @@ impl<F: Appending> Durable for RowsFile<F> {
     /// Syncs what was appended, where the file was opened with `sync`: after `Ok` a crash leaves all that was taken. It does
     /// nothing where nothing was appended since the last time, or where the file was opened without `sync`.
     ///
-    /// It fails where the file failed in this call or has failed before.
+    /// It fails where the file failed in this call or has failed before, or is in doubt.
     fn sync(&mut self) -> Result<(), PortFailed>
         ensures is_durable { OnOk result (is_durable self.new ≡ true) }
         ensures same { Keeps (Some (taken_in self.old)) (Some (taken_in self.new)) }
@@ -176,6 +200,11 @@ impl<F: Appending> Durable for RowsFile<F> {
         }
         if !self.sync || !self.unkept {
             return Ok(());
+        }
+        // What is in doubt no sync makes to last.
+        if self.file.is_doubted() {
+            self.broken = true;
+            return Err(PortFailed);
         }
         match self.file.sync() {
             Ok(()) => {

@@ -1,16 +1,14 @@
 //! The files of the system: opened so that nothing is lost by it, and held against other programs.
 
-ghost use Rattle.std.specs.Prelude.{◌≡◌, [], None, false, IfOk};
-ghost use Rattle.gc_files.specs.Sinks.{has_failed, steps_in, IsOpenedAs};
+ghost use Rattle.std.specs.Prelude.{◌≡◌, None, true, false, IfOk};
+ghost use Rattle.gc_files.specs.Sinks.{is_in_doubt};
 
 use crate::appending::Appending;
-use crate::opening::{Refused, open_rows};
-use crate::rows_file::RowsFile;
+use crate::opening::Refused;
 use gc_lines::PortFailed;
 use std::fs::{self, File, OpenFile, OpenOptions, TryLockError};
 use std::io::{self, ErrorKind, Write};
 use std::os::unix::fs::{FileExt, MetadataExt};
-use std::path::Path;
 use std::rt::Files;
 
 /// Why a path can't be had as a file of rows. In each case what stood in the file stays.
@@ -42,6 +40,8 @@ impl From<Refused> for Unfit {
 #[derive(Drop)]
 pub struct SystemFile {
     file: File,
+    // Whether a sync of it failed, or may have.
+    doubted: bool,
 }
 
 impl SystemFile {
@@ -52,6 +52,40 @@ impl SystemFile {
             Ok(()) => Ok(()),
             Err(TryLockError::WouldBlock) => Err(Unfit::Held),
             Err(TryLockError::Error(_)) => Err(Unfit::Failed),
+        }
+    }
+
+    // The same file, in doubt.
+    pub(crate) fn doubt(self) -> SystemFile
+        ensures { is_in_doubt result ≡ true }
+    {
+        SystemFile {
+            file: self.file,
+            doubted: true,
+        }
+    }
+
+    // A new file at a path, for a copy of this one: with its mode and, where the system allows it, its owner.
+    pub(crate) fn fresh<R: Files<File = File>>(
+        &self,
+        rt: &R,
+        path: &str,
+    ) -> Result<SystemFile, Unfit> {
+        let opened = OpenOptions::new()
+            .read(true)
+            .append(true)
+            .create_new(true)
+            .open(rt, path);
+        let (Ok(own), Ok(file)) = (self.file.metadata(), opened) else {
+            return Err(Unfit::Failed);
+        };
+        let _ = rt.chown(path, Some(own.uid()), Some(own.gid()));
+        match file.set_permissions(own.permissions()) {
+            Ok(()) => Ok(SystemFile {
+                file,
+                doubted: false,
+            }),
+            Err(_) => Err(Unfit::Failed),
         }
     }
 
@@ -72,6 +106,12 @@ fn failed<T>(answer: io::Result<T>) -> Result<T, PortFailed> {
 // Each call is one of the system. An interruption is a failure, too.
 impl Appending for SystemFile {
     ghost life = { λ _. None };
+
+    ghost doubted = { λ f. f.doubted };
+
+    fn is_doubted(&self) -> bool {
+        self.doubted
+    }
 
     fn len(&self) -> Result<u64, PortFailed> {
         Ok(failed(self.file.metadata())?.len())
@@ -96,7 +136,11 @@ impl Appending for SystemFile {
     }
 
     fn sync(&mut self) -> Result<(), PortFailed> {
-        failed(self.file.sync_data())
+        let synced = failed(self.file.sync_data());
+        if synced.is_err() {
+            self.doubted = true;
+        }
+        synced
     }
 }
 
@@ -122,50 +166,11 @@ pub fn open_file<R: Files<File = File>>(rt: &R, path: &str) -> Result<SystemFile
         return Err(Unfit::Unopened);
     };
     match file.metadata() {
-        Ok(found) if found.is_file() => Ok(SystemFile { file }),
+        Ok(found) if found.is_file() => Ok(SystemFile {
+            file,
+            doubted: false,
+        }),
         Ok(_) => Err(Unfit::Unopened),
         Err(_) => Err(Unfit::Failed),
-    }
-}
-
-// Syncs the folder of a path, so that the file's name is on the disk.
-fn sync_folder<R: Files<File = File>>(rt: &R, path: &str) -> Result<(), Unfit> {
-    let folder = match Path::new(path).parent() {
-        Some(parent) if !parent.as_os_str().is_empty() => parent,
-        _ => Path::new("."),
-    };
-    let Ok(folder) = File::open(rt, folder) else {
-        return Err(Unfit::Failed);
-    };
-    match folder.sync_all() {
-        Ok(()) => Ok(()),
-        Err(_) => Err(Unfit::Failed),
-    }
-}
-
-/// Opens a file of rows by its path, as [`open_rows`] does, and locks it against other programs of this kind until it is dropped.
-/// Where the path is free, it makes the file.
-///
-/// With `sync` the file's name is on the disk, too, before anything is written into it. That holds also for a file that stood
-/// there, since who made it may not have synced its name.
-pub fn open_at<R: Files<File = File>>(
-    rt: &R,
-    path: &str,
-    head: &'static [u8],
-    sign: &'static [u8],
-    sync: bool,
-) -> Result<RowsFile<SystemFile>, Unfit>
-    ensures asked { IfOk result (λ rows. IsOpenedAs head.now sign.now sync rows) }
-    ensures sound { IfOk result (λ rows. has_failed rows ≡ false) }
-    ensures fresh { IfOk result (λ rows. steps_in rows ≡ []) }
-{
-    let file = open_file(rt, path)?;
-    file.hold()?;
-    if sync {
-        sync_folder(rt, path)?;
-    }
-    match open_rows(file, head, sign, sync) {
-        Ok(rows) => Ok(rows),
-        Err((why, _)) => Err(why.into()),
     }
 }

@@ -1,8 +1,8 @@
 //! Rows of a file of rows, in memory: what its opening makes of what it held, and what it holds of what is written.
 
 use gc_cases::{Rows, bytes_of, cut_word, push_bytes};
-use gc_files::{MemoryFile, RowsFile, open_rows};
-use gc_lines::{Durable, Sink};
+use gc_files::{MemoryFile, RowsFile, copy_lines, open_rows};
+use gc_lines::{Durable, PortFailed, Sink};
 use gc_values::read_whole;
 use std::alloc::{AllocError, Global};
 
@@ -20,15 +20,14 @@ impl Files {
         Files { rows: None }
     }
 
-    // Opens a file that takes as many bytes as the first word says, and holds these.
+    // Opens a file.
     fn open(
         &mut self,
-        alloc: Global,
+        file: MemoryFile,
         is_synced: bool,
-        words: &str,
         came: &mut String,
     ) -> Result<(), AllocError> {
-        match open_rows(file_of(alloc, words)?, HEAD, HEAD, is_synced) {
+        match open_rows(file, HEAD, HEAD, is_synced) {
             Ok(rows) => {
                 tell_rows(&rows, came)?;
                 self.rows = Some(rows);
@@ -39,6 +38,22 @@ impl Files {
                 push_bytes(came, file.bytes())
             }
         }
+    }
+
+    // Opens one whose syncs fail.
+    fn open_failing(&mut self, mut file: MemoryFile, came: &mut String) -> Result<(), AllocError> {
+        file.fail_syncs();
+        self.open(file, true, came)
+    }
+
+    // Goes on in a copy of the file that is open.
+    fn copy(&mut self, alloc: Global, came: &mut String) -> Result<(), AllocError> {
+        let mut fresh = MemoryFile::new(alloc, b"", 1000).ok_or(AllocError)?;
+        match &self.rows {
+            Some(rows) => tell_copy(copy_lines(rows.file(), &mut fresh), came)?,
+            None => came.push_str("no file is open")?,
+        }
+        self.open(fresh, true, came)
     }
 
     fn use_open(&mut self, word: &str, bytes: &[u8], came: &mut String) -> Result<(), AllocError> {
@@ -59,8 +74,10 @@ impl Rows for Files {
         came: &mut String,
     ) -> Result<(), AllocError> {
         match word {
-            "open" => self.open(alloc, false, what, came),
-            "open_synced" => self.open(alloc, true, what, came),
+            "open" => self.open(file_of(alloc, what)?, false, came),
+            "open_synced" => self.open(file_of(alloc, what)?, true, came),
+            "open_failing" => self.open_failing(file_of(alloc, what)?, came),
+            "copy" => self.copy(alloc, came),
             _ => self.use_open(word, bytes, came),
         }
     }
@@ -72,6 +89,13 @@ fn file_of(alloc: Global, words: &str) -> Result<MemoryFile, AllocError> {
     let held = bytes_of(alloc, held)?;
     let room = usize::try_from(read_whole(room.as_bytes(), 1000).unwrap_or(0)).unwrap_or(0);
     MemoryFile::new(alloc, held.as_slice(), room).ok_or(AllocError)
+}
+
+fn tell_copy(copied: Result<u64, PortFailed>, came: &mut String) -> Result<(), AllocError> {
+    match copied {
+        Ok(lines) => write!(came, "{lines} lines copied, "),
+        Err(_) => came.push_str("failed, "),
+    }
 }
 
 fn tell_rows(rows: &RowsFile<MemoryFile>, came: &mut String) -> Result<(), AllocError> {

@@ -29,3 +29,12 @@ unfit_text why = fault_line (run_fault_text (fault_of_unfit why)) ++ rotation_li
 -- what is told of a torn row that was cut off, by its number of bytes: nothing where there were none
 abbrev pub torn_line : ℕ → List ℕ
 torn_line torn = if torn == 0 then [] else codes "geocom: " ++ decimal torn ++ codes " bytes of a torn row were cut off\n"
+
+-- what is told of rows that were copied, by their number, since an earlier run had no good end: nothing where there were none
+abbrev pub copied_line : ℕ → List ℕ
+copied_line copied =
+    if copied == 0 then [] else codes "geocom: the last run was killed, or a sync failed: " ++ decimal copied ++ codes " rows were copied to a new file and synced\n"
+
+-- what is told of a file that was opened, by how many rows were copied and how many bytes cut off
+abbrev pub opened_lines : ℕ → ℕ → List ℕ
+opened_lines copied torn = copied_line copied ++ torn_line torn

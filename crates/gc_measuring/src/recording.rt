@@ -1,20 +1,22 @@
 //! Records in a file that outlasts the program: a station that appends to it.
 
-ghost use Rattle.std.specs.Prelude.{◌≡◌, ◌≤◌, ◌⊎◌, Ok, IfOk, OnOk, OnErr};
+ghost use Rattle.std.specs.Prelude.{◌≡◌, ◌≤◌, ◌⊎◌, ℕ, [], Ok, IfOk, OnOk, OnErr};
 ghost use Rattle.std.specs.Io.KnownBytes.{Appends};
 ghost use Rattle.std.specs.Option.{is_some};
 ghost use Rattle.std.specs.Process.{exit_status};
 ghost use Rattle.gc_words.specs.Stations.{form_of_rows};
-ghost use Rattle.gc_measuring.specs.Recording.{fault_of_unfit, rotation_line, unfit_text, torn_line};
+ghost use Rattle.gc_measuring.specs.Recording.{copied_line, fault_of_unfit, opened_lines, rotation_line, unfit_text, torn_line};
+ghost use Rattle.gc_measuring.specs.Appending.{file_of, acts_in};
 ghost use Rattle.gc_measuring.specs.Telling.{RefusesFile, TellsAppended, AppendsAll};
 ghost use Rattle.gc_rows.specs.Records.{head_text, sign_text};
-ghost use Rattle.gc_files.specs.Sinks.{torn_in, IsOpenedAs};
+ghost use Rattle.gc_files.specs.Sinks.{torn_in, steps_in, IsOpenedAs};
 
 use crate::counts::tell_counts;
 use crate::station::measure_at;
 use crate::stop::Stop;
 use gc_files::{RowsFile, SystemFile, Unfit, open_at};
-use gc_lines::{Durable, Source};
+use gc_lines::{Durable, Sink, Source};
+use gc_links::{PlacedLink, Telling};
 use gc_messages::{Followed, Spot, Streams};
 use gc_rows::{head, sign};
 use gc_texts::RunFault;
@@ -50,6 +52,28 @@ fn tell_torn<E: Write>(torn: u64, messages: &mut E) -> io::Result<()>
     writeln!(messages, "geocom: {torn} bytes of a torn row were cut off")
 }
 
+// Tells how many rows were copied, since an earlier run had no good end, where there were some.
+fn tell_copied<E: Write>(copied: u64, messages: &mut E) -> io::Result<()>
+    ensures { OnOk result (Appends (E.contents messages.old) (E.contents messages.new) (copied_line copied)) }
+{
+    if copied == 0 {
+        // The clause wants it shown that nothing is written: an empty text is.
+        return write!(messages, "");
+    }
+    writeln!(
+        messages,
+        "geocom: the last run was killed, or a sync failed: {copied} rows were copied to a new file and synced"
+    )
+}
+
+// Tells what the opening of a file made of it.
+fn tell_opened<E: Write>(copied: u64, torn: u64, messages: &mut E) -> io::Result<()>
+    ensures { OnOk result (Appends (E.contents messages.old) (E.contents messages.new) (opened_lines copied torn)) }
+{
+    tell_copied(copied, messages)?;
+    tell_torn(torn, messages)
+}
+
 // Adds to the fault's line, for a file that doesn't begin as this station's rows do, what may have happened and how to rotate it. The
 // status is passed on.
 fn tell_rotation<E: Write>(
@@ -78,71 +102,106 @@ fn write_rotation<E: Write>(why: Unfit, messages: &mut E) -> io::Result<()>
     }
 }
 
-// Opens the file of records of a station, in the form of its rows, which then syncs as it was asked to, and tells how many bytes of a
-// torn row were cut off, where there were some. Whether that could be told stands beside the file.
+// Opens the file of records of a station, in the form of its rows, which then syncs as it was asked to, and tells how many rows were copied
+// and how many bytes of a torn row cut off, where there were some. Whether that could be told stands beside the file.
 fn open_records<R: Files<File = File>, E: Write>(
     rt: &R,
+    alloc: Global,
     recording: Recording<'_>,
     station: Station,
     messages: &mut E,
 ) -> Result<(RowsFile<SystemFile>, io::Result<()>), Unfit>
+    ensures fresh { IfOk result (λ opened. steps_in opened.0 ≡ []) }
     ensures asked { IfOk result (λ opened. IsOpenedAs (head_text (form_of_rows station.layout.form)) (sign_text (form_of_rows station.layout.form)) recording.entry.sync opened.0) }
-    ensures told { IfOk result (λ opened. OnOk opened.1 (Appends (E.contents messages.old) (E.contents messages.new) (torn_line (torn_in opened.0)))) }
+    ensures told { IfOk result (λ opened. (copied : ℕ) × OnOk opened.1 (Appends (E.contents messages.old) (E.contents messages.new) (opened_lines copied (torn_in opened.0)))) }
     ensures untold { OnErr result (E.contents messages.new ≡ E.contents messages.old) }
 {
     let form = station.form_of_rows();
-    match open_at(rt, recording.path, head(form), sign(form), recording.sync) {
-        Ok(rows) => {
-            let told = tell_torn(rows.torn(), messages);
+    let opened = open_at(
+        rt,
+        alloc,
+        recording.path,
+        head(form),
+        sign(form),
+        recording.sync,
+    );
+    match opened {
+        Ok((rows, copied)) => {
+            let told = tell_opened(copied, rows.torn(), messages);
             Ok((rows, told))
         }
         Err(why) => Err(why),
     }
 }
 
+/// What a run leaves that appended to a file: the file, and the link, where there was one.
+#[derive(Drop)]
+pub struct Appended<'a, R> {
+    pub file: Followed<'a, R>,
+    pub link: Option<Telling<PlacedLink<'a, R>>>,
+}
+
+impl<'a, R: Files<File = File>> Appended<'a, R> {
+    /// Ends the appending. Where all that was written is on the disk the next start finds nothing in doubt.
+    pub fn end(self) {
+        let Appended { file, link } = self;
+        drop(link);
+        file.end();
+    }
+}
+
 /// Measures at a site, and appends the records as rows to a file, which is opened before anything else is done. Where it can't be had,
 /// nothing is read, and nothing is sent: `RecordsUnopened`, `RecordsHeld`, `RecordsForeign`, and `Output` where a call of the system
 /// failed. Of `RecordsForeign` it is told, too, how a file is rotated. What stood in it stays, but for half a row at its end, which is
-/// cut off and told. Where the path no longer leads to the file, rows go on in a new one there, if it can be had. The streams are handed
-/// back.
+/// cut off and told. Where an earlier run was killed, or a sync of it failed, the rows are copied to a new file, which is told too. Where
+/// the path no longer leads to the file, rows go on in a new one there, if it can be had. The streams are handed back, and the file and the
+/// link, where there was a file; [`Appended::end`] is left to the caller.
 pub fn append_at<
+    'a,
     R: Net<Listener = TcpListener, Stream = TcpStream> + Clock + Files<File = File>,
     S: Source,
     K: Durable,
     E: Write,
 >(
-    rt: &R,
+    rt: &'a R,
     alloc: Global,
-    spot: Spot<'_>,
+    spot: Spot<'a>,
     log: Option<LogPlace<'_>>,
     station: Station,
-    recording: Recording<'_>,
+    recording: Recording<'a>,
     mut streams: Streams<S, K, E>,
-) -> (Streams<S, K, E>, io::Result<ExitCode>)
+) -> (
+    Streams<S, K, E>,
+    io::Result<ExitCode>,
+    Option<Appended<'a, R>>,
+)
     // Either the file can't be had, which is told with status 1, and nothing was read; or the status and the messages tell how it ended, as
-    // where the rows go elsewhere, but for what was told of half a row.
+    // where the rows go elsewhere, but for what was told of half a row, and the file that is handed back has the rows of the run, which are
+    // those of the acts that the link told.
     ensures told { IfOk result.1 (λ status. RefusesFile E.contents streams result.0 (exit_status status)
-        ⊎ TellsAppended S.Source E.contents (is_some log.entry) station streams result.0 (exit_status status)) }
+        ⊎ TellsAppended S.Source ⟦<Followed<'a, R> as Sink>⟧ ⟦<Followed<'a, R> as Durable>⟧.is_durable E.contents (is_some log.entry) station
+        streams result.0 (file_of result.2) (acts_in result.2) (exit_status status)) }
 
     // Status 0 only where the source gave a text to its end, and the run over its commands is done.
-    ensures done { IfOk result.1 (λ status. exit_status status ≡ 0 → AppendsAll S.Source E.contents station streams result.0) }
+    ensures done { IfOk result.1 (λ status. exit_status status ≡ 0
+        → AppendsAll S.Source ⟦<Followed<'a, R> as Sink>⟧ E.contents station streams result.0 (file_of result.2) (acts_in result.2)) }
 
     // Nothing is written on the output.
     ensures output { result.0.output ≡ streams.output }
     ensures bound { IfOk result.1 (λ status. exit_status status ≤ 1) }
 {
-    match open_records(rt, recording, station, &mut streams.messages) {
-        // Where a torn row couldn't be told the station measures all the same.
+    match open_records(rt, alloc, recording, station, &mut streams.messages) {
+        // Where that couldn't be told the station measures all the same.
         Ok((rows, _)) => {
-            let followed = Followed::new(rt, recording.path, rows, spot.noticed);
+            let followed = Followed::new(rt, alloc, recording.path, rows, spot.noticed);
             let (filed, output) = streams.with_output(followed);
-            let (filed, ended) = measure_at(rt, alloc, spot, log, station.appended(), filed);
-            let (streams, _) = filed.with_output(output);
-            (streams, ended)
+            let (filed, ended, link) = measure_at(rt, alloc, spot, log, station.appended(), filed);
+            let (streams, file) = filed.with_output(output);
+            (streams, ended, Some(Appended { file, link }))
         }
         Err(why) => {
             let ended = refuse_file(why, &mut streams.messages);
-            (streams, ended)
+            (streams, ended, None)
         }
     }
 }

@@ -26,7 +26,9 @@ pub struct FilesSeen {
     pub log_torn: u64,
     /// How many times the rows went on in a new file, since the path no longer led to the one before.
     pub moves: u64,
-    /// How many bytes of a torn row the last of these new files had.
+    /// How many rows of the last of these new files were copied, since an earlier run had no good end.
+    pub copied: u64,
+    /// How many bytes of a torn row it had.
     pub torn: u64,
     /// The path doesn't lead to the rows' file, and no new one can be had there.
     pub is_astray: bool,
@@ -39,6 +41,7 @@ impl FilesSeen {
             log: LogSeen::Whole,
             log_torn: 0,
             moves: 0,
+            copied: 0,
             torn: 0,
             is_astray: false,
         }
@@ -155,10 +158,23 @@ impl FilesNews {
             messages,
             "geocom: the file of rows was moved or deleted: rows go on in a new one at its path"
         )?;
+        self.tell_copied(messages)?;
         let torn = self.now.torn;
         if torn == 0 {
             return Ok(());
         }
         writeln!(messages, "geocom: {torn} bytes of a torn row were cut off")
+    }
+
+    // That rows of the new file were copied.
+    fn tell_copied<E: Write>(self, messages: &mut E) -> io::Result<()> {
+        let copied = self.now.copied;
+        if copied == 0 {
+            return Ok(());
+        }
+        writeln!(
+            messages,
+            "geocom: the last run was killed, or a sync failed: {copied} rows were copied to a new file and synced"
+        )
     }
 }

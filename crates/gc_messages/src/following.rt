@@ -5,8 +5,9 @@ ghost use Rattle.gc_files.specs.Sinks.{has_failed, is_durable};
 
 use crate::files::FilesSeen;
 use crate::oddity::Noticed;
-use gc_files::{RowsFile, SystemFile, open_at};
+use gc_files::{RowsFile, SystemFile, end_at, open_at};
 use gc_lines::{Durable, PortFailed, Sink};
+use std::alloc::Global;
 use std::cell::Cell;
 use std::fs::File;
 use std::rt::Files;
@@ -17,6 +18,7 @@ use std::rt::Files;
 #[derive(Drop)]
 pub struct Followed<'a, R> {
     rt: &'a R,
+    alloc: Global,
     path: &'a str,
     /// The file that takes the rows.
     pub rows: RowsFile<SystemFile>,
@@ -27,6 +29,7 @@ impl<'a, R: Files<File = File>> Followed<'a, R> {
     /// A file of rows that was opened at this path.
     pub fn new(
         rt: &'a R,
+        alloc: Global,
         path: &'a str,
         rows: RowsFile<SystemFile>,
         noticed: &'a Cell<Noticed>,
@@ -35,10 +38,23 @@ impl<'a, R: Files<File = File>> Followed<'a, R> {
     {
         Followed {
             rt,
+            alloc,
             path,
             rows,
             noticed,
         }
+    }
+
+    /// Ends the appending. Where all that was written is on the disk the next start finds nothing in doubt.
+    pub fn end(self) {
+        let Followed {
+            rt,
+            alloc,
+            path,
+            rows,
+            noticed: _,
+        } = self;
+        end_at(rt, alloc, path, rows);
     }
 
     // Notes what became of the file.
@@ -86,15 +102,17 @@ impl<'a, R: Files<File = File>> Durable for Followed<'a, R> {
         }
         let opened = open_at(
             self.rt,
+            self.alloc,
             self.path,
             self.rows.head(),
             self.rows.sign(),
             self.rows.is_synced(),
         );
         match opened {
-            Ok(rows) => {
+            Ok((rows, copied)) => {
                 self.note(FilesSeen {
                     moves: files.moves.saturating_add(1),
+                    copied,
                     torn: rows.torn(),
                     is_astray: false,
                     ..files

@@ -9,6 +9,7 @@ use std::cell::Cell;
 use std::fs::{Files, Metadata, OpenOptions};
 use std::io::{self, Write};
 use std::net::{Net, SocketAddr};
+use std::path::PathBuf;
 use std::process::ExitCode;
 use std::time::{Clock, Duration};
 
@@ -192,5 +193,13 @@ impl<'a, R: Files> Files for Noting<'a, R> {
 
     fn remove_dir_all<B: Allocator>(&self, alloc: B, path: &str) -> io::Result<()> {
         self.rt.remove_dir_all(alloc, path)
+    }
+
+    fn canonicalize<B: Allocator>(&self, alloc: B, path: &str) -> io::Result<PathBuf<B>> {
+        self.rt.canonicalize(alloc, path)
+    }
+
+    fn chown(&self, path: &str, uid: Option<u32>, gid: Option<u32>) -> io::Result<()> {
+        self.rt.chown(path, uid, gid)
     }
 }

@@ -9,6 +9,7 @@ from contextlib import closing
 
 import pytest
 
+from followed import Followed, Place, Refused
 from growing import first_rows
 from programs import Run, until
 from records import HEAD
@@ -71,6 +72,40 @@ def messages_of_a_change(follower, path, change, is_running):
         change(path)
         assert run.status(20) == 1, run.messages()
         return run.messages()
+
+
+def test_goes_on_in_a_copy(servers, folder):
+    """A file in whose place a station put a copy of its whole rows is followed on, behind a torn row too; a copy that lacks a row that
+    wasn't taken yet is refused."""
+    for name in NAMES:
+        path = folder / f"copied-{name}.csv"
+        path.write_bytes(WHOLE)
+        follower = followers(servers, path.with_suffix(".db"), "copied")[NAMES.index(name)]
+        with Run(follower.command(path, "--rest", "0.02")) as run:
+            until(lambda: follower.taken(path) == 40, f"{name} doesn't take the rows", 20)
+            append(path, ROWS[1][:30])
+            time.sleep(0.1)
+            replace(path, WHOLE)
+            append(path, ROWS[2])
+            until(lambda: follower.taken(path) == 41, f"{name} doesn't go on in the copy", 20)
+            assert run.messages() == "", name
+
+
+def test_misses_no_row_in_a_copy(folder):
+    """A file that begins with what was taken, and lacks a whole row behind it, is no copy."""
+    path = folder / "rows.csv"
+    for behind, is_copy in (ROWS[1] + ROWS[2], True), (ROWS[1], True), (ROWS[2], False), (b"", False):
+        path.write_bytes(WHOLE)
+        file = Followed(path, Place())
+        file.took(file.next()[1])
+        append(path, ROWS[1] + ROWS[2][:30])
+        replace(path, WHOLE + behind)
+        if is_copy:
+            assert file.next()[1][0].bytes == len(WHOLE + behind)
+        else:
+            with pytest.raises(Refused, match="lacks rows"):
+                file.next()
+        file.close()
 
 
 @pytest.mark.title("tells_what_was_changed_in_a_folder")

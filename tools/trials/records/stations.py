@@ -21,6 +21,16 @@ def torn_line(torn):
     return f"geocom: {torn} bytes of a torn row were cut off\n" if torn else ""
 
 
+def copied_line(copied):
+    """What a station says of so many rows that it copied, since the run before had no good end."""
+    return f"geocom: the last run was killed, or a sync failed: {copied} rows were copied to a new file and synced\n" if copied else ""
+
+
+def mark_of(path):
+    """The mark beside a file, from before the first row that a sync is to keep to a good end."""
+    return path.with_name(path.name + ".open")
+
+
 class Counting(FarEnd):
     """An instrument whose number grows with each command. It knows which answers went out, and behind which the next command came."""
 

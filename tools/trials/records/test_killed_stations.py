@@ -4,7 +4,7 @@ import random
 import time
 
 from records import HEAD
-from stations import appending, instrument, numbers, split, torn_line
+from stations import appending, copied_line, instrument, mark_of, numbers, split, torn_line
 
 
 def test_kills(program, folder, note, pytestconfig):
@@ -14,16 +14,18 @@ def test_kills(program, folder, note, pytestconfig):
     random.seed(kills)
     path = folder / "killed.csv"
     with instrument() as far:
-        torn, reported = b"", 0
+        rows, torn, reported, copied = [], b"", 0, 0
         for kill in range(kills):
+            copy = copied_line(len(rows) if mark_of(path).exists() else 0)
             with appending(program, far, path, "--sync") as run:
                 # Eight null procedures are answered before the first row.
                 time.sleep(random.choice([random.uniform(0, 0.1), random.uniform(0.05, 0.3)]))
                 run.kill()
                 messages = run.messages()
-            line = torn_line(len(torn))
-            assert line.startswith(messages), f"kill {kill}, of {len(torn)} torn bytes"
-            reported += bool(line and messages == line)
+            line = copy + torn_line(len(torn))
+            assert line.startswith(messages), f"kill {kill}, of {len(rows)} rows and {len(torn)} torn bytes: {messages!r}"
+            reported += bool(torn and messages == line)
+            copied += bool(copy and messages.startswith(copy))
             data = path.read_bytes() if path.exists() else b""
             rows, torn = split(data)
             found = numbers(rows)
@@ -36,5 +38,5 @@ def test_kills(program, folder, note, pytestconfig):
                 with path.open("ab") as file:
                     file.write(torn)
         note(f"{kills} kills: {len(found)} rows, none double, none of {len(far.followed)} lost behind which the next command came; "
-             f"{reported} torn rows cut off")
-        assert found and far.followed and reported, "nothing was tried"
+             f"{reported} torn rows cut off, {copied} copies")
+        assert found and far.followed and reported and copied, "nothing was tried"

@@ -4,11 +4,11 @@ use Rattle.gc_files.specs.Runs.{synced}
 use Rattle.gc_files.proofs.Adding.{content_same, cuts_two, appended_sync, synced_all}
 use Rattle.gc_files.proofs.rows_file.RowsFileDurable.sync.Goals as goal
 
-pub invariant_of-self : goal.invariant_of-self
-invariant_of-self g c = record {
+pub invariant_of-self-in-Ok : goal.invariant_of-self-in-Ok
+invariant_of-self-in-Ok g c = record {
   only_appends = ap cuts_none c.then-self.ensures ∙ cuts_two c.args.self.now.past.steps _ c.args.self.now.only_appends refl;
   kept = λ _. ap synced c.then-self.ensures ∙ synced_all c.args.self.now.past.steps ∙ sym (ap appended c.then-self.ensures ∙ appended_sync c.args.self.now.past.steps);
-  durable = λ _. c.in-Ok.ensures.durable;
+  durable = λ _. c.in-Ok.ensures.durable (sym c.if-is_doubted.ensures);
 }
 
 pub returns-in-Ok-clause-same : goal.returns-in-Ok-clause-same

@@ -1,0 +1,106 @@
+-- Over failed syncs a table stays, where a copy takes the file's place before a run goes on.
+use Rattle.std.proofs.Common.{◌≡◌, inl, inr, ℕ, Bool, true, false, List, [], ◌∷◌, ◌++◌, refl, sym, ◌∙◌, ap, subst, append_assoc, if◌then◌else◌}
+use Rattle.std.proofs.lemmas.List.{append-nil}
+use Rattle.gc_files.specs.Files.{Step, Append, Sync, Life, content, later_by, MayLeave}
+use Rattle.gc_files.specs.Rows.{has_feed, table, line, is_none}
+use Rattle.gc_files.specs.Runs.{Run, IsHead, IsRun, HasRows}
+use Rattle.gc_files.specs.Failing.{Sides, settled, one, done_by, Loses, Event, Ran, Failed, Copied, Crashed, sides_after, Occur, runs_of, is_trusted, IsFound}
+use Rattle.gc_files.proofs.Whole.{whole_front}
+use Rattle.gc_files.proofs.Moments.{may_stay}
+use Rattle.gc_files.proofs.Lasting.{Lasts, one_more}
+
+-- both sides have the rows, and are one where the file isn't in doubt
+record Good (head before : List ℕ) (runs : List Run) (sides : Sides) (doubted : Bool) : Type 0 where
+  read : HasRows head before runs (content sides.read)
+  disk : Lasts head before runs sides.disk
+  same : doubted ≡ false → sides.read ≡ sides.disk
+
+-- bytes at the end that end no row are no part of the table
+hole_is_none : (head front hole : List ℕ) → has_feed hole ≡ false → table head (front ++ hole) ≡ table head front
+hole_is_none head front hole none = ap (λ (l : List ℕ). l ++ (if is_none l then head else [])) (whole_front front hole none)
+
+same_rows : (head before : List ℕ) (runs : List Run) (held left : List ℕ) → HasRows head before runs held → table head left ≡ table head held → HasRows head before runs left
+same_rows head before runs held left has same = (has.0, has.1, same ∙ has.2)
+
+-- what a file holds that is on the disk is all that a crash leaves
+settled_lasts : (head before : List ℕ) (runs : List Run) (held : List ℕ) → HasRows head before runs held → Lasts head before runs (settled held)
+settled_lasts head before runs held has left may = subst (HasRows head before runs) (sym may) has
+
+-- what a failed sync leaves of a side has the rows
+lost_has : (head before : List ℕ) (runs : List Run) (life : Life) (now : List ℕ) → Lasts head before runs life → Loses life now → HasRows head before runs now
+lost_has head before runs life now lasts lost =
+    same_rows head before runs lost.front now (lasts lost.front lost.may) (ap (table head) lost.is ∙ hole_is_none head lost.front lost.hole lost.none)
+
+module _ (head before : List ℕ) (heads : IsHead head) where
+  -- a run in a file that isn't in doubt
+  run_lasts : (runs : List Run) (sides : Sides) (run : Run) → Lasts head before runs sides.disk → sides.read ≡ sides.disk → IsRun head (content sides.read) run
+      → Lasts head before (runs ++ run ∷ []) (later_by run.steps sides.disk)
+  run_lasts runs sides run lasts same is = one_more head before heads runs sides.disk run lasts (subst (λ (life : Life). IsRun head (content life) run) same is)
+
+  -- behind it both sides are one
+  ran : (runs : List Run) (sides : Sides) (run : Run) → Lasts head before runs sides.disk → sides.read ≡ sides.disk → IsRun head (content sides.read) run
+      → Good head before (runs ++ run ∷ []) (done_by run.steps sides) false
+  ran runs sides run lasts same is =
+      let more = run_lasts runs sides run lasts same is in
+      let both : later_by run.steps sides.read ≡ later_by run.steps sides.disk = ap (later_by run.steps) same in
+      record {
+        read = subst (λ (life : Life). HasRows head before (runs ++ run ∷ []) (content life)) (sym both)
+            (more (content (later_by run.steps sides.disk)) (may_stay sides.disk.start (later_by run.steps sides.disk).steps));
+        disk = more;
+        same = λ _. both;
+      }
+
+  failed : (runs : List Run) (sides : Sides) (run : Run) (read disk : List ℕ) → Lasts head before runs sides.disk → sides.read ≡ sides.disk → IsRun head (content sides.read) run
+      → Loses (later_by run.steps sides.read) read → Loses (later_by run.steps sides.disk) disk
+      → Good head before (runs ++ run ∷ []) (record { read = settled read; disk = settled disk }) true
+  failed runs sides run read disk lasts same is loses_read loses_disk =
+      let all = runs ++ run ∷ [] in
+      let more = run_lasts runs sides run lasts same is in
+      let there = subst (λ (life : Life). Loses life read) (ap (later_by run.steps) same) loses_read in
+      record {
+        read = lost_has head before all (later_by run.steps sides.disk) read more there;
+        disk = settled_lasts head before all disk (lost_has head before all (later_by run.steps sides.disk) disk more loses_disk);
+        same = λ wrong. let clash : true ≡ false = wrong in cc;
+      }
+
+  lasts_on : (done : List Run) (sides : Sides) (doubted : Bool) (events : List Event) → Good head before done sides doubted → Occur is_trusted head sides doubted events
+      → (left : List ℕ) → IsFound (sides_after sides events) left → HasRows head before (done ++ runs_of events) left
+  lasts_on done sides doubted [] good occur left found =
+      subst (λ (rs : List Run). HasRows head before rs left) (sym (append-nil done)) (elim found [
+        | inl is ↦ subst (HasRows head before done) (sym is) good.read
+        | inr may ↦ good.disk left may
+      ])
+  lasts_on done sides doubted (Ran run ∷ events) good occur left found =
+      let next = subst (Good head before (done ++ run ∷ []) (done_by run.steps sides)) (sym occur.0) (ran done sides run good.disk (good.same occur.0) occur.1) in
+      subst (λ (rs : List Run). HasRows head before rs left) (append_assoc done (run ∷ []) (runs_of events))
+      (lasts_on (done ++ run ∷ []) (done_by run.steps sides) doubted events next occur.2 left found)
+  lasts_on done sides doubted (Failed run read disk ∷ events) good occur left found =
+      let next = failed done sides run read disk good.disk (good.same occur.0) occur.1 occur.2 occur.3 in
+      subst (λ (rs : List Run). HasRows head before rs left) (append_assoc done (run ∷ []) (runs_of events))
+      (lasts_on (done ++ run ∷ []) (record { read = settled read; disk = settled disk }) true events next occur.4 left found)
+  lasts_on done sides doubted (Copied true ∷ events) good occur left found =
+      let next : Good head before done (one (settled (content sides.read))) false = record {
+        read = good.read;
+        disk = settled_lasts head before done (content sides.read) good.read;
+        same = λ _. refl;
+      } in
+      lasts_on done (one (settled (content sides.read))) false events next occur left found
+  lasts_on done sides doubted (Copied false ∷ events) good occur left found =
+      let next : Good head before done (record { read = settled (content sides.read); disk = sides.disk }) true = record {
+        read = good.read;
+        disk = good.disk;
+        same = λ wrong. let clash : true ≡ false = wrong in cc;
+      } in
+      lasts_on done (record { read = settled (content sides.read); disk = sides.disk }) true events next occur left found
+  lasts_on done sides doubted (Crashed there ∷ events) good occur left found =
+      let has = good.disk there occur.0 in
+      let next : Good head before done (one (settled there)) false = record { read = has; disk = settled_lasts head before done there has; same = λ _. refl } in
+      lasts_on done (one (settled there)) false events next occur.1 left found
+
+-- the law
+pub tables_outlast_failures : (head held : List ℕ) → IsHead head → (events : List Event) → Occur is_trusted head (one (settled held)) false events
+    → (left : List ℕ) → IsFound (sides_after (one (settled held)) events) left → HasRows head (table head held) (runs_of events) left
+tables_outlast_failures head held heads events occur left found =
+    let has : HasRows head (table head held) [] held = ([], tt, sym (append-nil (table head held))) in
+    lasts_on head (table head held) heads [] (one (settled held)) false events
+    (record { read = has; disk = settled_lasts head (table head held) [] held has; same = λ _. refl }) occur left found

@@ -1,0 +1,82 @@
+-- A file that is copied: how many lines it has, and what is appended in pieces.
+use Rattle.std.proofs.Common.{◌≡◌, inl, inr, ℕ, zero, suc, ◌+◌, ◌≤◌, ◌<◌, ◌==◌, true, false, List, [], ◌∷◌, ◌++◌, length, take, drop, slice_index, refl, sym, ◌∙◌, ap, subst, arith, if◌then◌else◌, Option, Some}
+use Rattle.std.proofs.Math.Seq.{take-add}
+use Rattle.std.proofs.lemmas.Bool.{cases_Bool}
+use Rattle.std.proofs.lemmas.List.{append-nil, take_all}
+use Rattle.gc_files.specs.Failing.{feed_of, feeds}
+use Rattle.gc_files.specs.Files.{Step, Sync, Life, later_by, Adds}
+use Rattle.gc_files.specs.Rows.{appended, PutsAll}
+use Rattle.gc_files.proofs.Adding.{adds_two, cuts_two, appended_two, later_two, later_none}
+
+feeds_suc : (xs : List ℕ) (n : ℕ) → n < length xs → feeds (take (suc n) xs) ≡ feeds (take n xs) + feed_of (slice_index xs n)
+feeds_suc [] n less = absurd (omega (arith, less))
+feeds_suc (b ∷ xs) zero less = omega arith
+feeds_suc (b ∷ xs) (suc n) less = omega (arith, feeds_suc xs n (omega (arith, less)))
+
+one_feed : (b : ℕ) → feed_of b ≤ 1
+one_feed b = elim (cases_Bool (b == 10)) [
+  | inl is ↦ rw (is) (omega arith)
+  | inr isnt ↦ rw (isnt) (omega arith)
+]
+
+-- so many line feeds are among the first bytes
+pub record Counted (xs : List ℕ) (count at : ℕ) : Type 0 where
+  pub within : at ≤ length xs
+  pub few : count ≤ at
+  pub is : count ≡ feeds (take at xs)
+
+-- one byte more
+pub counted_next : (xs : List ℕ) (count at more : ℕ) → at < length xs → count ≤ at → count ≡ feeds (take at xs) → more ≡ feed_of (slice_index xs at) → Counted xs (count + more) (at + 1)
+counted_next xs count at more less few is feed =
+    let next : at + 1 ≡ suc at = omega arith in
+    record {
+      within = omega (arith, less);
+      few = omega (arith, few, feed, one_feed (slice_index xs at));
+      is = omega (arith, is, feed, feeds_suc xs at less, ap (λ n. feeds (take n xs)) next);
+    }
+
+pub feeds_two : (xs ys : List ℕ) → feeds (xs ++ ys) ≡ feeds xs + feeds ys
+feeds_two [] ys = omega arith
+feeds_two (b ∷ xs) ys = omega (arith, feeds_two xs ys)
+
+-- nothing was appended
+pub puts_none : (old : Option Life) → PutsAll old old []
+puts_none old life is = ([], is ∙ ap (λ (l : Life). Some l) (later_none life), record { none_cut = refl; all = refl })
+
+-- bytes, and more behind them
+pub puts_two : (old mid new : Option Life) (xs ys : List ℕ) → PutsAll old mid xs → PutsAll mid new ys → PutsAll old new (xs ++ ys)
+puts_two old mid new xs ys first second life is =
+    let one = first life is in
+    let two = second (later_by one.0 life) one.1 in (
+      one.0 ++ two.0,
+      two.1 ∙ ap (λ (l : Life). Some l) (later_two one.0 two.0 life),
+      record {
+        none_cut = cuts_two one.0 two.0 one.2.none_cut two.2.none_cut;
+        all = appended_two one.0 two.0 ∙ ap (λ (l : List ℕ). l ++ appended two.0) one.2.all ∙ ap (λ (l : List ℕ). xs ++ l) two.2.all;
+      },
+    )
+
+-- and a sync behind them
+pub puts_synced : (old mid new : Option Life) (xs : List ℕ) → PutsAll old mid xs → Adds mid new (Sync ∷ []) → PutsAll old new xs
+puts_synced old mid new xs puts sync =
+    subst (PutsAll old new) (append-nil xs) (puts_two old mid new xs [] puts (λ life is. (Sync ∷ [], sync life is, record { none_cut = refl; all = refl })))
+
+-- a block is copied behind the first so many bytes
+pub puts_block : (old mid new : Option Life) (held block : List ℕ) (at size : ℕ) → block ≡ take (length block) (drop at held) → length block ≡ size
+    → PutsAll old mid (take at held) → PutsAll mid new block → PutsAll old new (take (at + size) held)
+puts_block old mid new held block at size is long first second =
+    subst (PutsAll old new) (ap (λ (l : List ℕ). take at held ++ l) (is ∙ ap (λ n. take n (drop at held)) long) ∙ sym (take-add at size held))
+    (puts_two old mid new (take at held) block first second)
+
+pub counts_block : (held block : List ℕ) (at size lines more : ℕ) → block ≡ take (length block) (drop at held) → length block ≡ size
+    → lines ≡ feeds (take at held) → more ≡ feeds block → lines + more ≡ feeds (take (at + size) held)
+counts_block held block at size lines more is long first second =
+    let whole : take (at + size) held ≡ take at held ++ block = take-add at size held ∙ ap (λ (l : List ℕ). take at held ++ l) (sym (is ∙ ap (λ n. take n (drop at held)) long)) in
+    omega (arith, first, second, ap feeds whole, feeds_two (take at held) block)
+
+-- all of it is copied
+pub puts_all : (old mid new : Option Life) (held : List ℕ) (at : ℕ) → length held ≤ at → PutsAll old mid (take at held) → Adds mid new (Sync ∷ []) → PutsAll old new held
+puts_all old mid new held at all puts sync = subst (PutsAll old new) (take_all at held all) (puts_synced old mid new (take at held) puts sync)
+
+pub counts_all : (held : List ℕ) (at lines : ℕ) → length held ≤ at → lines ≡ feeds (take at held) → lines ≡ feeds held
+counts_all held at lines all is = is ∙ ap feeds (take_all at held all)

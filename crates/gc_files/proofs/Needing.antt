@@ -1,0 +1,52 @@
+-- Where a run goes on in a file in which a sync failed, and no copy took its place, a table doesn't last: such runs, computed.
+use Rattle.std.proofs.Common.{◌≡◌, inl, inr, ℕ, false, List, [], ◌∷◌, ◌++◌, refl, arith, None}
+use Rattle.gc_files.specs.Files.{Append, Sync}
+use Rattle.gc_files.specs.Runs.{Run, IsHead, IsRun, rows_of}
+use Rattle.gc_files.specs.Failing.{settled, one, Event, Ran, Failed, Occur, runs_of, TablesLastWhere}
+
+-- a head that is a line feed
+abbrev head : List ℕ
+head = 10 ∷ []
+
+-- a run that writes the head, and no row
+abbrev first : Run
+first = record { rows = []; steps = Append (10 ∷ []) ∷ []; kept = 0; left = None }
+
+-- one behind it that writes a row, which it is told that is kept
+abbrev second : Run
+second = record { rows = (65 ∷ []) ∷ []; steps = Append (65 ∷ 10 ∷ []) ∷ Sync ∷ []; kept = 1; left = None }
+
+-- the first one's sync fails: a read still returns the head, and on the disk there is a zero in its place
+abbrev events : List Event
+events = Failed first (10 ∷ []) (0 ∷ []) ∷ Ran second ∷ []
+
+first_is : IsRun head [] first
+first_is = record {
+  rows = tt;
+  steps = inr (10 ∷ [], record { later = Append (10 ∷ []) ∷ []; split = refl; puts = record { none_cut = refl; all = refl } }, record { rest = []; split = refl });
+  few = omega arith;
+  kept = inl refl;
+}
+
+second_is : IsRun head (10 ∷ []) second
+second_is = record {
+  rows = (refl, tt);
+  steps = inr (65 ∷ 10 ∷ [], record { later = Append (65 ∷ 10 ∷ []) ∷ Sync ∷ []; split = refl; puts = record { none_cut = refl; all = refl } }, record { rest = []; split = refl });
+  few = omega arith;
+  kept = inr (record { rest = []; split = refl });
+}
+
+they_occur : Occur (λ doubted. Unit {0}) head (one (settled [])) false events
+they_occur = (
+  tt,
+  first_is,
+  record { front = 10 ∷ []; may = inr refl; hole = []; none = refl; is = refl },
+  record { front = []; may = inl (refl, (0, refl)); hole = 0 ∷ []; none = refl; is = refl },
+  (tt, second_is, tt),
+)
+
+pub copies_are_needed : TablesLastWhere (λ doubted. Unit {0}) → ⊥
+copies_are_needed lasts =
+    let has = lasts head [] (inr ([], refl, refl)) events they_occur (0 ∷ 65 ∷ 10 ∷ []) (inr (inr (inr refl))) in
+    let wrong : 0 ∷ 65 ∷ 10 ∷ [] ≡ 10 ∷ rows_of (runs_of events) has.0 = has.2 in
+    cc

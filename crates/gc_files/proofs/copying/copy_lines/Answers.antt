@@ -1,0 +1,22 @@
+use Rattle.std.proofs.Common.{rules, ◌≡◌, ◌≤◌, ◌+◌, ◌-◌, length, arith}
+use Rattle.gc_files.specs.Files.{content}
+use Rattle.gc_files.proofs.Feeds.{puts_block, counts_block, puts_all, counts_all}
+use Rattle.gc_files.proofs.Looking.{size_of}
+use Rattle.gc_files.proofs.copying.copy_lines.Goals as goal
+
+pub loop-at-preserved : goal.loop-at-preserved
+loop-at-preserved g c =
+    let size = size_of c.min-size.result c.loop-at.buf c.read_all.new.buf (search rules) c.read_all.auto.buf in
+    let room : c.loop-at.at + c.min-size.result ≤ c.in_ok-len.len = search rules in
+    record {
+      within = room;
+      few = omega (arith, c.loop-at.invariant.few, c.feeds_in-lines.ensures.within, size);
+      puts = λ known is. puts_block _ _ _ (content known) c.read_all.new.buf c.loop-at.at c.min-size.result (c.in-Ok.ensures known is) size
+          (c.loop-at.invariant.puts known is) c.in-Ok-append_all.ensures.ok;
+      count = λ known is. counts_block (content known) c.read_all.new.buf c.loop-at.at c.min-size.result c.loop-at.lines c.feeds_in-lines.result (c.in-Ok.ensures known is) size
+          (c.loop-at.invariant.count known is) c.feeds_in-lines.ensures.is;
+    }
+
+pub returns-in-Ok-sync-clause-copied : goal.returns-in-Ok-sync-clause-copied
+returns-in-Ok-sync-clause-copied g c known is =
+    puts_all _ _ _ (content known) c.loop-at.at (omega (arith, c.in_ok-len.ensures known is, c.loop-at-test.false, c.loop-at.invariant.within)) (c.loop-at.invariant.puts known is) c.in-Ok-sync.ensures.step

@@ -1,0 +1,98 @@
+-- Files in which a sync failed: what the system may have lost of them, and what becomes of their rows. This project's own.
+use Rattle.std.specs.Prelude.{◌≡◌, ◌⊎◌, ℕ, Bool, true, false, List, [], ◌∷◌, ◌++◌, ◌+◌, ◌==◌, if◌then◌else◌}
+use Rattle.gc_files.specs.Files.{Step, Life, content, later_by, MayLeave}
+use Rattle.gc_files.specs.Rows.{has_feed, table}
+use Rattle.gc_files.specs.Runs.{Run, IsHead, IsRun, HasRows}
+
+-- how many line feeds are among them
+abbrev pub feed_of : ℕ → ℕ
+feed_of b = if b == 10 then 1 else 0
+
+abbrev pub feeds : List ℕ → ℕ
+feeds [] = 0
+feeds (b ∷ bs) = feed_of b + feeds bs
+
+-- The two sides of a file. What a read returns comes of one life, and what a crash may leave of the other. They are one until a sync fails:
+-- the system may have dropped bytes that it couldn't write, still return them, and count them as written.
+pub record Sides : Type 0 where
+  pub read : Life
+  pub disk : Life
+
+-- what a file is that holds this, all of it on the disk
+abbrev pub settled : List ℕ → Life
+settled held = record { start = held; steps = [] }
+
+abbrev pub one : Life → Sides
+one life = record { read = life; disk = life }
+
+-- each step is done on both sides: a later sync keeps what is on the disk, whatever a read returns
+abbrev pub done_by : List Step → Sides → Sides
+done_by steps sides = record { read = later_by steps sides.read; disk = later_by steps sides.disk }
+
+-- what a failed sync may make of a side: what a crash might have left, and in place of what is lost bytes that end no row, as zeros
+pub record Loses (life : Life) (now : List ℕ) : Type 0 where
+  pub front : List ℕ
+  pub may : MayLeave life.start life.steps front
+  pub hole : List ℕ
+  pub none : has_feed hole ≡ false
+  pub is : now ≡ front ++ hole
+
+-- What becomes of the file at a path.
+pub data Event : Type 0 where
+  -- a run appended rows, as far as it came, and ended by itself or by a kill
+  Ran : (run : Run) → Event
+  -- so did one whose last call was a sync that failed: what a read returns then, and what the disk has
+  Failed : (run : Run) → (read disk : List ℕ) → Event
+  -- what a read returns was copied to a new file and synced there, and that took the old one's place; the new name is on the disk, or a crash may
+  -- bring the old file back
+  Copied : (named : Bool) → Event
+  -- the machine crashed, which left this
+  Crashed : (left : List ℕ) → Event
+
+-- the file behind these events
+abbrev pub sides_after : Sides → List Event → Sides
+sides_after sides [] = sides
+sides_after sides (Ran run ∷ events) = sides_after (done_by run.steps sides) events
+sides_after sides (Failed run read disk ∷ events) = sides_after (record { read = settled read; disk = settled disk }) events
+sides_after sides (Copied true ∷ events) = sides_after (one (settled (content sides.read))) events
+sides_after sides (Copied false ∷ events) = sides_after (record { read = settled (content sides.read); disk = sides.disk }) events
+sides_after sides (Crashed left ∷ events) = sides_after (one (settled left)) events
+
+-- these events happen, and a run goes on only where it may, by whether the file is in doubt: a sync of it failed, and no copy took its place since
+abbrev pub Occur : (Bool → Type 0) → List ℕ → Sides → Bool → List Event → Type 0
+Occur goes head sides doubted [] = Unit {0}
+Occur goes head sides doubted (Ran run ∷ events) = goes doubted × IsRun head (content sides.read) run × Occur goes head (done_by run.steps sides) doubted events
+Occur goes head sides doubted (Failed run read disk ∷ events) =
+    goes doubted × IsRun head (content sides.read) run × Loses (later_by run.steps sides.read) read × Loses (later_by run.steps sides.disk) disk
+    × Occur goes head (record { read = settled read; disk = settled disk }) true events
+Occur goes head sides doubted (Copied true ∷ events) = Occur goes head (one (settled (content sides.read))) false events
+Occur goes head sides doubted (Copied false ∷ events) = Occur goes head (record { read = settled (content sides.read); disk = sides.disk }) true events
+Occur goes head sides doubted (Crashed left ∷ events) = MayLeave sides.disk.start sides.disk.steps left × Occur goes head (one (settled left)) false events
+
+-- the runs among them
+abbrev pub runs_of : List Event → List Run
+runs_of [] = []
+runs_of (Ran run ∷ events) = run ∷ runs_of events
+runs_of (Failed run read disk ∷ events) = run ∷ runs_of events
+runs_of (Copied named ∷ events) = runs_of events
+runs_of (Crashed left ∷ events) = runs_of events
+
+-- what a read returns, or a crash leaves
+abbrev pub IsFound : Sides → List ℕ → Type 0
+IsFound sides left = (left ≡ content sides.read) ⊎ MayLeave sides.disk.start sides.disk.steps left
+
+-- whatever is found behind such events, the next opening makes of it the table that was there before, and the rows of the runs
+abbrev pub TablesLastWhere : (Bool → Type 0) → Type 0
+TablesLastWhere goes = (head held : List ℕ) → IsHead head → (events : List Event) → Occur goes head (one (settled held)) false events
+    → (left : List ℕ) → IsFound (sides_after (one (settled held)) events) left → HasRows head (table head held) (runs_of events) left
+
+-- a run goes on only in a file that isn't in doubt
+abbrev pub is_trusted : Bool → Type 0
+is_trusted doubted = doubted ≡ false
+
+abbrev pub TablesOutlastFailures : Type 0
+TablesOutlastFailures = TablesLastWhere is_trusted
+
+-- where runs go on in any file, tables don't last
+abbrev pub CopiesAreNeeded : Type 0
+CopiesAreNeeded = TablesLastWhere (λ doubted. Unit {0}) → ⊥

@@ -1,0 +1,243 @@
+//! What stands beside a file of rows: the mark `FILE.open`, from before the first row that a sync is to keep to a good end, and for a
+//! moment the copy `FILE.copy`. A start that finds the mark copies the file, since behind a failed sync no later one of it keeps anything.
+
+ghost use Rattle.std.specs.Prelude.{◌≡◌, [], true, false, Some, IfOk, OnOk, IsErrOf};
+ghost use Rattle.gc_files.specs.Files.{Life, content};
+ghost use Rattle.gc_files.specs.Rows.{fits};
+ghost use Rattle.gc_files.specs.Sinks.{has_failed, is_in_doubt, steps_in, IsOpenedAs};
+
+use crate::appending::Appending;
+use crate::copying::copy_lines;
+use crate::opening::{Refused, end_of_rows, has_sign, open_rows};
+use crate::rows_file::RowsFile;
+use crate::system::{SystemFile, Unfit, open_file};
+use std::alloc::Global;
+use std::fs::{self, File, OpenFile, OpenOptions};
+use std::io::ErrorKind;
+use std::path::Path;
+use std::rt::Files;
+
+// The paths of a file, as its links lead to it, of its mark, and of its copy.
+#[derive(Drop)]
+struct Beside {
+    file: String,
+    mark: String,
+    copy: String,
+}
+
+impl Beside {
+    fn of<R: Files<File = File>>(rt: &R, alloc: Global, path: &str) -> Result<Beside, Unfit> {
+        let Ok(file) = rt.canonicalize(alloc, path) else {
+            return Err(Unfit::Failed);
+        };
+        let file = file.into_string();
+        let Ok(mark) = format!(in alloc; "{file}.open") else {
+            return Err(Unfit::Failed);
+        };
+        match format!(in alloc; "{file}.copy") {
+            Ok(copy) => Ok(Beside { file, mark, copy }),
+            Err(_) => Err(Unfit::Failed),
+        }
+    }
+
+    fn is_marked<R: Files<File = File>>(&self, rt: &R) -> Result<bool, Unfit> {
+        match fs::metadata(rt, self.mark.as_str()) {
+            Ok(_) => Ok(true),
+            Err(error) if error.kind() == ErrorKind::NotFound => Ok(false),
+            Err(_) => Err(Unfit::Failed),
+        }
+    }
+
+    // Makes the mark, which is on the disk then with all names of its folder.
+    fn mark<R: Files<File = File>>(&self, rt: &R) -> Result<(), Unfit> {
+        let opened = OpenOptions::new()
+            .write(true)
+            .create(true)
+            .open(rt, self.mark.as_str());
+        let Ok(mark) = opened else {
+            return Err(Unfit::Failed);
+        };
+        match mark.sync_all() {
+            Ok(()) => sync_folder(rt, self.file.as_str()),
+            Err(_) => Err(Unfit::Failed),
+        }
+    }
+
+    // Takes the mark away. Where it stays or comes back, the next start copies what needs no copy.
+    fn clear<R: Files<File = File>>(&self, rt: &R) {
+        let _ = fs::remove_file(rt, self.mark.as_str());
+    }
+
+    // A file that was opened, which is in doubt where it is marked.
+    fn look<R: Files<File = File>>(&self, rt: &R, file: SystemFile) -> Result<SystemFile, Unfit> {
+        if self.is_marked(rt)? {
+            return Ok(file.doubt());
+        }
+        Ok(file)
+    }
+
+    // The file that rows go on in, and how many lines were copied into it: of a file in doubt a copy, which has taken its place. Its name
+    // may not be on the disk yet.
+    fn trusted<R: Files<File = File>>(
+        &self,
+        rt: &R,
+        file: SystemFile,
+    ) -> Result<(SystemFile, u64), Unfit>
+        ensures { IfOk result (λ found. is_in_doubt found.0 ≡ false) }
+    {
+        if !file.is_doubted() {
+            return Ok((file, 0));
+        }
+        // One that a start before this one didn't finish.
+        let _ = fs::remove_file(rt, self.copy.as_str());
+        let fresh = file.fresh(rt, self.copy.as_str())?;
+        match self.replace(rt, file, fresh) {
+            Ok(renewed) => Ok(renewed),
+            Err(why) => {
+                let _ = fs::remove_file(rt, self.copy.as_str());
+                Err(why)
+            }
+        }
+    }
+
+    // Copies a file into a fresh one, which then takes its place. Both are held, so that no other program gets in between.
+    fn replace<R: Files<File = File>>(
+        &self,
+        rt: &R,
+        old: SystemFile,
+        mut fresh: SystemFile,
+    ) -> Result<(SystemFile, u64), Unfit>
+        ensures { IfOk result (λ found. is_in_doubt found.0 ≡ false) }
+    {
+        fresh.hold()?;
+        let Ok(lines) = copy_lines(&old, &mut fresh) else {
+            return Err(Unfit::Failed);
+        };
+        // What was moved here meanwhile isn't replaced.
+        if !old.is_at(rt, self.file.as_str()) {
+            return Err(Unfit::Failed);
+        }
+        match fs::rename(rt, self.copy.as_str(), self.file.as_str()) {
+            Ok(()) if !fresh.is_doubted() => Ok((fresh, lines)),
+            Ok(()) | Err(_) => Err(Unfit::Failed),
+        }
+    }
+}
+
+// Syncs the folder of a path, so that the file's name is on the disk.
+fn sync_folder<R: Files<File = File>>(rt: &R, path: &str) -> Result<(), Unfit> {
+    let folder = match Path::new(path).parent() {
+        Some(parent) if !parent.as_os_str().is_empty() => parent,
+        _ => Path::new("."),
+    };
+    let Ok(folder) = File::open(rt, folder) else {
+        return Err(Unfit::Failed);
+    };
+    match folder.sync_all() {
+        Ok(()) => Ok(()),
+        Err(_) => Err(Unfit::Failed),
+    }
+}
+
+// Of a link, syncs the folder that the link stands in.
+fn sync_link<R: Files<File = File>>(rt: &R, path: &str) -> Result<(), Unfit> {
+    match fs::symlink_metadata(rt, path) {
+        Ok(found) if found.is_symlink() => sync_folder(rt, path),
+        Ok(_) => Ok(()),
+        Err(_) => Err(Unfit::Failed),
+    }
+}
+
+// Whether the last row of a file is torn. What hasn't the sign is refused.
+fn look<F: Appending>(file: &F, sign: &[u8]) -> Result<bool, Refused>
+    ensures taken { OnOk result ((known : Life) → F.life file.now ≡ Some known → fits sign.now (content known) ≡ true) }
+    ensures why { IsErrOf result Refused.Foreign → (known : Life) → F.life file.now ≡ Some known → fits sign.now (content known) ≡ false }
+{
+    let Ok(len) = file.len() else {
+        return Err(Refused::Failed);
+    };
+    let Ok(is_one) = has_sign(file, len, sign) else {
+        return Err(Refused::Failed);
+    };
+    if !is_one {
+        return Err(Refused::Foreign);
+    }
+    match end_of_rows(file, len) {
+        Ok(end) => Ok(end < len),
+        Err(_) => Err(Refused::Failed),
+    }
+}
+
+// How many rows stand among the lines of a file that begins with this head.
+fn rows_of(lines: u64, head: &[u8]) -> u64 {
+    match head {
+        [] => lines,
+        _ => lines.saturating_sub(1),
+    }
+}
+
+/// Opens a file of rows by its path, as [`open_rows`] does, and locks it against other programs of this kind until it is dropped.
+/// Where the path is free, it makes the file.
+///
+/// With `sync` the file's name is on the disk, too, before anything is written into it. That holds also for a file that stood
+/// there, since who made it may not have synced its name. So is a mark beside the file, `FILE.open`, which [`end_at`] takes away.
+///
+/// Where a mark is found, an earlier run was killed, or a sync of it failed. Then what the file holds is copied to a new one, which
+/// is synced and takes its place; how many rows these were stands beside the file. A copy wants as much room as the file has.
+pub fn open_at<R: Files<File = File>>(
+    rt: &R,
+    alloc: Global,
+    path: &str,
+    head: &'static [u8],
+    sign: &'static [u8],
+    sync: bool,
+) -> Result<(RowsFile<SystemFile>, u64), Unfit>
+    ensures asked { IfOk result (λ opened. IsOpenedAs head.now sign.now sync opened.0) }
+    ensures sound { IfOk result (λ opened. has_failed opened.0 ≡ false) }
+    ensures fresh { IfOk result (λ opened. steps_in opened.0 ≡ []) }
+{
+    let file = open_file(rt, path)?;
+    file.hold()?;
+    // Who held it before may have put a copy in its place.
+    if !file.is_at(rt, path) {
+        return Err(Unfit::Held);
+    }
+    let is_torn = look(&file, sign)?;
+    let beside = Beside::of(rt, alloc, path)?;
+    let file = beside.look(rt, file)?;
+    // Where a row is torn the opening syncs a cut.
+    let is_marked = sync || is_torn || file.is_doubted();
+    let (file, lines) = beside.trusted(rt, file)?;
+    if is_marked {
+        sync_link(rt, path)?;
+        beside.mark(rt)?;
+    }
+    let rows = match open_rows(file, head, sign, sync) {
+        Ok(rows) => rows,
+        Err((why, _)) => return Err(why.into()),
+    };
+    if is_marked && !sync {
+        beside.clear(rt);
+    }
+    Ok((rows, rows_of(lines, head)))
+}
+
+/// Ends the appending to a file that [`open_at`] opened at this path. Where all that it holds is on the disk, the mark beside it is
+/// taken away. Where the path leads elsewhere it stays, since it may be another program's.
+pub fn end_at<R: Files<File = File>>(
+    rt: &R,
+    alloc: Global,
+    path: &str,
+    rows: RowsFile<SystemFile>,
+) {
+    if !rows.is_synced() {
+        return;
+    }
+    let (file, is_kept) = rows.settle();
+    if !is_kept || !file.is_at(rt, path) {
+        return;
+    }
+    if let Ok(beside) = Beside::of(rt, alloc, path) {
+        beside.clear(rt);
+    }
+}

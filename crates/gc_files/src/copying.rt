@@ -1,0 +1,68 @@
+//! A copy of a file of rows, which is synced: behind a sync of a file that failed, the rows go on in a copy of it.
+
+ghost use Rattle.std.specs.Prelude.{◌≡◌, ◌≤◌, length, Some, IfOk, OnOk};
+ghost use Rattle.gc_files.specs.Failing.{feed_of, feeds};
+ghost use Rattle.gc_files.specs.Files.{Life, content, IsKept};
+ghost use Rattle.gc_files.specs.Rows.{PutsAll};
+
+use crate::appending::Appending;
+use crate::opening::{BLOCK, append_all, read_all};
+use gc_lines::PortFailed;
+
+// How many line feeds a byte is.
+fn feed_of(byte: u8) -> u64
+    ensures { result ≡ feed_of byte }
+{
+    match byte {
+        b'\n' => 1,
+        _ => 0,
+    }
+}
+
+// How many line feeds are among these bytes.
+fn feeds_in(block: &[u8]) -> u64
+    ensures is { result ≡ feeds block.now }
+    ensures within { result ≤ length block.now }
+{
+    let mut count = 0u64;
+    let mut at = 0usize;
+    while at < block.len() {
+        count += feed_of(block[at]);
+        at += 1;
+    }
+    count
+}
+
+/// Appends all that a file holds to another one, syncs that, and returns how many lines it copied, each ended by a line feed. It
+/// fails where a call of a file failed, or where the file that takes the copy is in doubt; the first one is as it was.
+pub fn copy_lines<F: Appending, G: Appending>(old: &F, fresh: &mut G) -> Result<u64, PortFailed>
+    ensures copied { OnOk result ((known : Life) → F.life old.now ≡ Some known → PutsAll (G.life fresh.old) (G.life fresh.new) (content known)) }
+    ensures kept { OnOk result ((made : Life) → G.life fresh.new ≡ Some made → IsKept made) }
+    ensures lines { IfOk result (λ lines. (known : Life) → F.life old.now ≡ Some known → lines ≡ feeds (content known)) }
+{
+    let len = old.len()?;
+    let mut buf = [0u8; BLOCK];
+    let mut at = 0u64;
+    let mut lines = 0u64;
+    while at < len {
+        let size = (len - at).min(BLOCK as u64) as usize;
+        let block = &mut buf[..size];
+        match read_all(old, at, block) {
+            Ok(()) => {}
+            Err(failed) => return Err(failed),
+        }
+        match append_all(fresh, block) {
+            Ok(()) => {}
+            Err(failed) => return Err(failed),
+        }
+        lines += feeds_in(block);
+        at += size as u64;
+    }
+    if fresh.is_doubted() {
+        return Err(PortFailed);
+    }
+    match fresh.sync() {
+        Ok(()) => Ok(lines),
+        Err(failed) => Err(failed),
+    }
+}
