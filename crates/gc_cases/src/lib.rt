@@ -10,6 +10,7 @@ mod input;
 mod playing;
 mod rows;
 mod telling;
+pub mod told;
 
 pub use case::{Case, cut_case};
 pub use escapes::{bytes_of, push_all, push_text, text_of};

@@ -69,7 +69,7 @@ fn play_file<P: Player>(
     Ok(wrong == 0)
 }
 
-fn text_of_file(rt: &HostRuntime, folder: &str, name: &str) -> io::Result<String> {
+pub(crate) fn text_of_file(rt: &HostRuntime, folder: &str, name: &str) -> io::Result<String> {
     let path = format!(in rt.alloc(); "{folder}/{name}")?;
     fs::read_to_string(rt, path.as_str())
 }

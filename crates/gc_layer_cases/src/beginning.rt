@@ -1,8 +1,8 @@
 //! Rows of a beginning, one null procedure after the other.
 
-use gc_cases::{Rows, push_bytes};
+use gc_cases::told::{Rows, Told};
 use gc_client::Beginning;
-use std::alloc::{AllocError, Global};
+use std::alloc::Global;
 
 /// A beginning under way.
 #[derive(Drop)]
@@ -17,44 +17,32 @@ impl Beginnings {
         }
     }
 
-    fn ask(&self, came: &mut String) -> Result<(), AllocError> {
+    fn ask(&self, came: &mut Told) {
         match self.beginning.ask() {
-            Some(line) => push_bytes(came, line.as_slice()),
-            None => came.push_str("nothing"),
+            Some(line) => came.bytes(line.as_slice()),
+            None => came.text("nothing"),
         }
     }
 
     // How many null procedures are answered, and whether it has begun.
-    fn tell_answered(&self, came: &mut String) -> Result<(), AllocError> {
-        write!(came, "{}, begun ", self.beginning.answered())?;
-        tell(self.beginning.has_begun(), came)
+    fn tell_answered(&self, came: &mut Told) {
+        came.counted(&self.beginning.answered(), ", begun ");
+        came.display(&self.beginning.has_begun());
     }
 
-    fn resume(&mut self) -> Result<(), AllocError> {
+    fn resume(&mut self) {
         self.beginning = Beginning::resume(self.beginning.answered());
-        Ok(())
     }
 }
 
 impl Rows for Beginnings {
-    fn play(
-        &mut self,
-        _alloc: Global,
-        word: &str,
-        _what: &str,
-        bytes: &[u8],
-        came: &mut String,
-    ) -> Result<(), AllocError> {
+    fn play(&mut self, _alloc: Global, word: &str, _what: &str, bytes: &[u8], came: &mut Told) {
         match word {
             "ask" => self.ask(came),
-            "hear" => tell(self.beginning.hear(bytes), came),
+            "hear" => came.display(&self.beginning.hear(bytes)),
             "answered" => self.tell_answered(came),
             "resume" => self.resume(),
-            _ => came.push_str("an unknown word"),
+            _ => came.text("an unknown word"),
         }
     }
-}
-
-fn tell(fact: bool, came: &mut String) -> Result<(), AllocError> {
-    came.push_str(if fact { "true" } else { "false" })
 }

@@ -1,30 +1,24 @@
 //! Rows of calls and answers on the line.
 
-use gc_cases::{Rows, cut_word, push_bytes};
+use gc_cases::cut_word;
+use gc_cases::told::{Rows, Told};
 use gc_catalogue::{
     Answer, Call, CallFault, Reading, decode_answer, decode_call, encode_answer, encode_call,
 };
 use gc_lines::{read_reply, read_request};
-use std::alloc::{AllocError, Global};
+use std::alloc::Global;
 
 /// Nothing is kept from row to row.
 #[derive(Drop)]
 pub struct Calls;
 
 impl Rows for Calls {
-    fn play(
-        &mut self,
-        _alloc: Global,
-        word: &str,
-        what: &str,
-        bytes: &[u8],
-        came: &mut String,
-    ) -> Result<(), AllocError> {
+    fn play(&mut self, _alloc: Global, word: &str, what: &str, bytes: &[u8], came: &mut Told) {
         match word {
             "call" => call_again(bytes, came),
             "reading" => tell_reading(what, came),
             "answer" => answer_again(what, came),
-            _ => came.push_str("an unknown word"),
+            _ => came.text("an unknown word"),
         }
     }
 }
@@ -37,19 +31,22 @@ pub fn call_of(line: &[u8]) -> Option<Call> {
     }
 }
 
-fn tell_fault(fault: CallFault, came: &mut String) -> Result<(), AllocError> {
-    write!(came, "fault {} {fault:?}", fault.number())
+fn tell_fault(fault: CallFault, came: &mut Told) {
+    came.titled("fault ", &fault.number());
+    came.text(" ");
+    came.debug(&fault);
 }
 
 // A call, and its line.
-fn call_again(line: &[u8], came: &mut String) -> Result<(), AllocError> {
+fn call_again(line: &[u8], came: &mut Told) {
     let Ok(request) = read_request(line) else {
-        return came.push_str("no request");
+        return came.text("no request");
     };
     match decode_call(&request) {
         Ok(call) => {
-            write!(came, "{call:?} ")?;
-            push_bytes(came, encode_call(request.id, &call).as_slice())
+            came.debug(&call);
+            came.text(" ");
+            came.bytes(encode_call(request.id, &call).as_slice())
         }
         Err(fault) => tell_fault(fault, came),
     }
@@ -65,23 +62,23 @@ fn reading_of(words: &str) -> Option<Reading> {
     }
 }
 
-fn tell_reading(words: &str, came: &mut String) -> Result<(), AllocError> {
+fn tell_reading(words: &str, came: &mut Told) {
     match reading_of(words) {
-        Some(reading) => write!(came, "{reading:?}"),
-        None => came.push_str("no request and reply"),
+        Some(reading) => came.debug(&reading),
+        None => came.text("no request and reply"),
     }
 }
 
 // What a reply says, as an instrument with a precision of 3 would send it behind the id 4.
-fn answer_again(words: &str, came: &mut String) -> Result<(), AllocError> {
+fn answer_again(words: &str, came: &mut Told) {
     match reading_of(words) {
-        Some(Reading::Value(answer)) => {
-            push_bytes(came, encode_answer(4, 0, &answer, 3).as_slice())
-        }
-        Some(Reading::Refused(code)) => push_bytes(
-            came,
-            encode_answer(4, code, &Answer::Nothing, 3).as_slice(),
-        ),
-        _ => came.push_str("no answer"),
+        Some(Reading::Value(answer)) => { came.bytes(encode_answer(4, 0, &answer, 3).as_slice()) }
+        Some(Reading::Refused(code)) => came.bytes(encode_answer(
+            4,
+            code,
+            &Answer::Nothing,
+            3,
+        ).as_slice()),
+        _ => came.text("no answer"),
     }
 }

@@ -1,257 +1,131 @@
-//! Rows of a client: what happens to it, and what it gives, over both windows.
+//! Rows of a client: what happens to it, and what it gives. A case is played over each window.
+
+ghost use Rattle.std.specs.Prelude.{◌≤◌};
+ghost use Rattle.gc_client.specs.declared.window.TheConstants.{WINDOW};
 
 use crate::calls::call_of;
 use arrayvec::ArrayVec;
-use gc_cases::{Rows, cut_word, push_bytes};
-use gc_catalogue::Call;
-use gc_client::{Client, Heard, Hearing, Outcome, Ring, Settlement, Slots, WINDOW, Window};
-use gc_lines::{Line, LineFault};
-use gc_values::read_whole;
-use std::alloc::{AllocError, Global};
+use gc_cases::told::{Rows, Told, number_or, play_rows};
+use gc_cases::{Case, cut_word};
+use gc_catalogue::{Call, Reading};
+use gc_client::{Client, Hearing, Outcome, Ring, Settlement, Slots, WINDOW, Window};
+use gc_lines::Line;
+use std::alloc::Global;
 
-// A client, and what is used again from row to row.
+// A client, the call that it sends, and what is used again from row to row.
 #[derive(Drop)]
 struct Played<W: Window> {
     client: Client<W>,
+    call: Call,
     line: Line,
     settled: ArrayVec<Settlement, WINDOW>,
 }
 
-/// The same client over either window, and the call that it sends.
-#[derive(Drop)]
-pub struct Clients {
-    call: Call,
-    ring: Played<Ring>,
-    slots: Played<Slots>,
-}
-
-impl Clients {
-    pub fn new(alloc: Global) -> Result<Clients, AllocError> {
-        Ok(Clients {
-            call: Call::NullProc,
-            ring: Played::over(Ring::new(alloc)?),
-            slots: Played::over(Slots::new()),
-        })
-    }
-
-    // The call that is sent from now on.
-    fn take_call(&mut self, line: &[u8], came: &mut String) -> Result<(), AllocError> {
-        match call_of(line) {
-            Some(call) => {
-                self.call = call;
-                Ok(())
-            }
-            None => came.push_str("no call"),
-        }
-    }
-
-    // Plays a row over both windows.
-    fn play_both(
-        &mut self,
-        alloc: Global,
-        word: &str,
-        what: &str,
-        line: &[u8],
-        came: &mut String,
-    ) -> Result<(), AllocError> {
-        let mut other = String::new(alloc);
-        self.ring.play(self.call, word, what, line, &mut other)?;
-        self.slots.play(self.call, word, what, line, came)?;
-        tell_other(other.as_str(), came)
-    }
-
-    // The client begins with this width.
-    fn widen(&mut self, alloc: Global, what: &str, came: &mut String) -> Result<(), AllocError> {
-        let width = u8::try_from(number(what)).unwrap_or(0);
-        if width < 1 || usize::from(width) > WINDOW {
-            return came.push_str("no width");
-        }
-        self.ring.client = Client::with_width(Ring::new(alloc)?, width);
-        self.slots.client = Client::with_width(Slots::new(), width);
-        Ok(())
+/// Plays a case over places, and over a ring.
+pub fn play_clients(alloc: Global, case: &Case<'_>, wrong: &mut Told) {
+    play_over(alloc, case, Slots::new(), wrong);
+    match Ring::new(alloc) {
+        Ok(ring) => play_over(alloc, case, ring, wrong),
+        Err(_) => wrong.lack(),
     }
 }
 
-impl Rows for Clients {
-    fn play(
-        &mut self,
-        alloc: Global,
-        word: &str,
-        what: &str,
-        bytes: &[u8],
-        came: &mut String,
-    ) -> Result<(), AllocError> {
-        match word {
-            "call" => self.take_call(bytes, came),
-            "width" => self.widen(alloc, what, came),
-            _ => self.play_both(alloc, word, what, bytes, came),
-        }
-    }
+fn play_over<W: Window>(alloc: Global, case: &Case<'_>, window: W, wrong: &mut Told) {
+    let mut played = Played {
+        client: Client::with_width(window, width_of(case)),
+        call: Call::NullProc,
+        line: Line::new(),
+        settled: ArrayVec::new(),
+    };
+    play_rows(alloc, case, &mut played, wrong);
 }
 
-// What came over a ring, where it is something else.
-fn tell_other(other: &str, came: &mut String) -> Result<(), AllocError> {
-    if other != came.as_str() {
-        came.push_str(", and over a ring ")?;
-        came.push_str(other)?;
-    }
-    Ok(())
+// How many requests may wait: two, or as many as there can be.
+fn width_of(case: &Case<'_>) -> u8
+    ensures least { 1 ≤ result }
+    ensures most { result ≤ WINDOW }
+{
+    if case.has("width", "2") { 2 } else { 7 }
 }
 
-// A number of at most 64 bits.
-fn number(word: &str) -> u64 {
-    read_whole(word.as_bytes(), u64::MAX).unwrap_or(u64::MAX)
+impl<W: Window> Rows for Played<W> {
+    // What a row gives is told, and then how many wait and the next id.
+    fn play(&mut self, _alloc: Global, word: &str, what: &str, bytes: &[u8], came: &mut Told) {
+        self.play_word(word, what, bytes, came);
+        came.titled("; ", &self.client.waiting());
+        came.titled(" wait, next ", &self.client.next_id());
+    }
 }
 
 impl<W: Window> Played<W> {
-    fn over(window: W) -> Played<W> {
-        Played {
-            client: Client::new(window),
-            line: Line::new(),
-            settled: ArrayVec::new(),
-        }
-    }
-
-    // Plays a row, and tells what it gives, and then how many wait and the next id.
-    fn play(
-        &mut self,
-        call: Call,
-        word: &str,
-        what: &str,
-        line: &[u8],
-        came: &mut String,
-    ) -> Result<(), AllocError> {
-        self.play_word(call, word, what, line, came)?;
-        let (waiting, next) = (self.client.waiting(), self.client.next_id());
-        write!(came, "; {waiting} wait, next {next}")
-    }
-
-    fn play_word(
-        &mut self,
-        call: Call,
-        word: &str,
-        what: &str,
-        line: &[u8],
-        came: &mut String,
-    ) -> Result<(), AllocError> {
+    fn play_word(&mut self, word: &str, what: &str, bytes: &[u8], came: &mut Told) {
         match word {
-            "send" => self.send(call, what, came),
-            "send_into" => self.send_into(call, what, came),
-            "hear" => self.hear(line, came),
-            "hear_into" => self.hear_into(line, came),
-            "each_byte" => self.hear_each_byte(came),
-            "expire" => self.expire(what, came),
+            "call" => self.take_call(bytes, came),
+            "send" => self.send(what, came),
+            "hear" => self.hear(bytes, came),
+            "expire" => self.expire(number_or(what, 0), came),
             "restart" => tell_all(self.client.restart().as_slice(), came),
-            "deadline" => self.tell_deadline(came),
-            _ => came.push_str("an unknown word"),
+            "deadline" => came.debug(&self.client.next_deadline()),
+            _ => came.text("an unknown word"),
         }
     }
 
-    fn send(&mut self, call: Call, what: &str, came: &mut String) -> Result<(), AllocError> {
-        let (target, deadline) = cut_word(what);
-        match self.client.send(target_of(target), call, number(deadline)) {
-            Ok(line) => push_bytes(came, line.as_slice()),
-            Err(full) => write!(came, "refused {}, {full}", full.number()),
+    // The call that is sent from now on.
+    fn take_call(&mut self, line: &[u8], came: &mut Told) {
+        match call_of(line) {
+            Some(call) => self.call = call,
+            None => came.text("no call"),
         }
     }
 
-    // Sends into the line that was used before.
-    fn send_into(&mut self, call: Call, what: &str, came: &mut String) -> Result<(), AllocError> {
-        let (target, deadline) = cut_word(what);
-        let (target, deadline) = (target_of(target), number(deadline));
-        match self
-            .client
-            .send_into(target, &call, deadline, &mut self.line)
-        {
-            Ok(()) => push_bytes(came, self.line.as_slice()),
-            Err(full) => write!(came, "refused {}, {full}", full.number()),
+    // Sends to the target of the first word, to be answered before the moment of the second one.
+    fn send(&mut self, words: &str, came: &mut Told) {
+        let (target, deadline) = cut_word(words);
+        let target = u32::try_from(number_or(target, 0)).unwrap_or(0);
+        let (deadline, line) = (number_or(deadline, 0), &mut self.line);
+        match self.client.send_into(target, &self.call, deadline, line) {
+            Ok(()) => came.bytes(self.line.as_slice()),
+            Err(full) => came.titled("refused: ", &full),
         }
     }
 
-    fn hear(&mut self, bytes: &[u8], came: &mut String) -> Result<(), AllocError> {
-        let mut line = Line::new();
-        if line.try_extend_from_slice(bytes).is_err() {
-            return came.push_str("more bytes than a line has");
-        }
-        match self.client.on_line(&line) {
-            Heard::Settled(settled) => tell_all(settled.as_slice(), came),
-            Heard::Stray => came.push_str("stray"),
-            Heard::Unread(fault) => write!(came, "unread {}", fault.number()),
-        }
-    }
-
-    // Hears into the list that was used before, and tells it in each case.
-    fn hear_into(&mut self, line: &[u8], came: &mut String) -> Result<(), AllocError> {
+    // Hears a line, and tells the list that was used before in each case.
+    fn hear(&mut self, line: &[u8], came: &mut Told) {
         match self.client.hear(line, &mut self.settled) {
             Hearing::Settled => {}
-            Hearing::Stray => came.push_str("stray")?,
-            Hearing::Unread(fault) => write!(came, "unread {}", fault.number())?,
+            Hearing::Stray => came.text("stray"),
+            Hearing::Unread(fault) => came.titled("unread ", &fault.number()),
         }
         tell_all(self.settled.as_slice(), came)
     }
 
-    // Hears each byte as a line: how many were unread by their signature, and left all as it was.
-    fn hear_each_byte(&mut self, came: &mut String) -> Result<(), AllocError> {
-        let mut count = 0u32;
-        for byte in 0..=255 {
-            if self.leaves(byte) {
-                count = count.saturating_add(1);
-            }
-        }
-        write!(came, "{count} unread 1")
-    }
-
-    // Whether a line of one byte is unread by its signature, and leaves all as it was.
-    fn leaves(&mut self, byte: u8) -> bool {
-        let (waiting, next) = (self.client.waiting(), self.client.next_id());
-        self.is_unread(byte) && self.client.waiting() == waiting && self.client.next_id() == next
-    }
-
-    fn is_unread(&mut self, byte: u8) -> bool {
-        let mut line = Line::new();
-        line.push(byte);
-        matches!(
-            self.client.on_line(&line),
-            Heard::Unread(LineFault::Signature)
-        )
-    }
-
-    fn expire(&mut self, what: &str, came: &mut String) -> Result<(), AllocError> {
-        for target in self.client.expire(number(what)).as_slice() {
-            write!(came, "{target}, ")?;
-        }
-        Ok(())
-    }
-
-    fn tell_deadline(&self, came: &mut String) -> Result<(), AllocError> {
-        match self.client.next_deadline() {
-            Some(deadline) => write!(came, "{deadline}"),
-            None => came.push_str("none"),
+    fn expire(&mut self, now: u64, came: &mut Told) {
+        for target in self.client.expire(now).as_slice() {
+            came.counted(target, ", ");
         }
     }
 }
 
-fn target_of(word: &str) -> u32 {
-    u32::try_from(number(word)).unwrap_or(u32::MAX)
-}
-
-/// Tells settlements: each with its target, and an answer with its reading and its line.
-pub fn tell_all(settled: &[Settlement], came: &mut String) -> Result<(), AllocError> {
+// Tells settlements: each with its target, and an answer with its reading and its line.
+fn tell_all(settled: &[Settlement], came: &mut Told) {
     for settlement in settled {
-        write!(came, "{} ", settlement.target)?;
-        tell_outcome(&settlement.outcome, came)?;
-        came.push_str(", ")?;
+        came.display(&settlement.target);
+        tell_outcome(&settlement.outcome, came);
     }
-    Ok(())
 }
 
-fn tell_outcome(outcome: &Outcome, came: &mut String) -> Result<(), AllocError> {
+fn tell_outcome(outcome: &Outcome, came: &mut Told) {
     match outcome {
-        Outcome::Answered(reading, line) => {
-            write!(came, "{reading:?} ")?;
-            push_bytes(came, line.as_slice())
-        }
-        Outcome::Late => came.push_str("late"),
-        Outcome::Lost => came.push_str("lost"),
+        Outcome::Answered(reading, line) => tell_answer(reading, line, came),
+        Outcome::Late => came.text(" late, "),
+        Outcome::Lost => came.text(" lost, "),
     }
+}
+
+fn tell_answer(reading: &Reading, line: &Line, came: &mut Told) {
+    came.text(" ");
+    came.debug(reading);
+    came.text(" ");
+    came.bytes(line.as_slice());
+    came.text(", ");
 }

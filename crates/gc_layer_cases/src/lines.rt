@@ -1,12 +1,12 @@
 //! Rows of lines: requests and replies read and written again, headers, and what an assembler makes of a piece.
 
-use gc_cases::{Rows, cut_word, push_bytes};
+use gc_cases::cut_word;
+use gc_cases::told::{Rows, Told, number_or};
 use gc_lines::{
     Assembler, Lent, Line, LineFault, is_plain, push_reply, push_request, read_reply, read_request,
     write_reply, write_request,
 };
-use gc_values::read_whole;
-use std::alloc::{AllocError, Global};
+use std::alloc::Global;
 
 /// The assembler that the pieces of a case go through, one after the other.
 #[derive(Drop)]
@@ -23,61 +23,51 @@ impl Lines {
 }
 
 impl Rows for Lines {
-    fn play(
-        &mut self,
-        _alloc: Global,
-        word: &str,
-        what: &str,
-        bytes: &[u8],
-        came: &mut String,
-    ) -> Result<(), AllocError> {
+    fn play(&mut self, _alloc: Global, word: &str, what: &str, bytes: &[u8], came: &mut Told) {
         match word {
             "request" => request_again(bytes, came),
             "reply" => reply_again(bytes, came),
             "header" => header(what, came),
             "piece" => piece(&mut self.assembler, bytes, came),
-            "start" => write!(came, "{}", self.assembler.at_start()),
-            _ => came.push_str("an unknown word"),
+            "start" => came.display(&self.assembler.at_start()),
+            _ => came.text("an unknown word"),
         }
     }
 }
 
-fn tell_written(written: Result<Line, LineFault>, came: &mut String) -> Result<(), AllocError> {
+fn tell_written(written: Result<Line, LineFault>, came: &mut Told) {
     match written {
-        Ok(line) => push_bytes(came, line.as_slice()),
-        Err(fault) => write!(came, "fault {} written", fault.number()),
+        Ok(line) => came.bytes(line.as_slice()),
+        Err(fault) => came.titled("fault written ", &fault.number()),
     }
 }
 
-fn request_again(line: &[u8], came: &mut String) -> Result<(), AllocError> {
+fn request_again(line: &[u8], came: &mut Told) {
     match read_request(line) {
         Ok(request) if is_plain(request.params) => tell_written(write_request(&request), came),
-        Ok(_) => came.push_str("not plain"),
-        Err(fault) => write!(came, "fault {}", fault.number()),
+        Ok(_) => came.text("not plain"),
+        Err(fault) => came.titled("fault ", &fault.number()),
     }
 }
 
-fn reply_again(line: &[u8], came: &mut String) -> Result<(), AllocError> {
+fn reply_again(line: &[u8], came: &mut Told) {
     match read_reply(line) {
         Ok(reply) if is_plain(reply.params) => tell_written(write_reply(&reply), came),
-        Ok(_) => came.push_str("not plain"),
-        Err(fault) => write!(came, "fault {}", fault.number()),
+        Ok(_) => came.text("not plain"),
+        Err(fault) => came.titled("fault ", &fault.number()),
     }
 }
 
 // A number of 16 bits.
 fn number(word: &str) -> Option<u16> {
-    match read_whole(word.as_bytes(), 65_535) {
-        Ok(number) => u16::try_from(number).ok(),
-        Err(_) => None,
-    }
+    u16::try_from(number_or(word, u64::MAX)).ok()
 }
 
 // The header of a request, from its number, or of a reply, from its communication code, its id and its return code.
-fn header(words: &str, came: &mut String) -> Result<(), AllocError> {
+fn header(words: &str, came: &mut Told) {
     match header_of(words) {
-        Some(line) => push_bytes(came, line.as_slice()),
-        None => came.push_str("no header"),
+        Some(line) => came.bytes(line.as_slice()),
+        None => came.text("no header"),
     }
 }
 
@@ -99,17 +89,17 @@ fn header_of(words: &str) -> Option<Line> {
 }
 
 // How many bytes of a piece the assembler used, and what came of them.
-fn piece(assembler: &mut Assembler, piece: &[u8], came: &mut String) -> Result<(), AllocError> {
+fn piece(assembler: &mut Assembler, piece: &[u8], came: &mut Told) {
     let mut cut = Line::new();
     let (used, lent) = assembler.next(piece, &mut cut);
-    write!(came, "{used} ")?;
+    came.counted(&used, " ");
     match lent {
         Lent::Line(line) => {
-            came.push_str("line ")?;
-            push_bytes(came, line)
+            came.text("line ");
+            came.bytes(line)
         }
-        Lent::Cleared => came.push_str("cleared"),
-        Lent::Overlong => came.push_str("overlong"),
-        Lent::More => came.push_str("more"),
+        Lent::Cleared => came.text("cleared"),
+        Lent::Overlong => came.text("overlong"),
+        Lent::More => came.text("more"),
     }
 }

@@ -4,85 +4,71 @@
 mod beginning;
 mod calls;
 mod client;
+mod embedded;
 mod files;
 mod instrument;
 mod lines;
+mod measuring;
+mod ports;
 mod twice;
 mod values;
 
 use beginning::Beginnings;
 use calls::Calls;
-use client::Clients;
+use client::play_clients;
 use files::Files;
-use gc_cases::{Case, Player, play_folder, play_rows};
+use gc_cases::Case;
+use gc_cases::told::{Player, Told, play_folder, play_rows};
 use instrument::Instruments;
 use lines::Lines;
-use std::alloc::{AllocError, Global};
+use measuring::Stations;
+use ports::Ports;
+use std::alloc::Global;
 use std::io;
 use std::process::ExitCode;
 use values::Values;
 
-// What the rows of a file are of.
-#[derive(Clone, Copy)]
-enum Layer {
-    Lines,
-    Values,
-    Calls,
-    Client,
-    Beginning,
-    Instrument,
-    Files,
+// What the rows of a file are of, as its name ends.
+#[derive(Drop)]
+struct Layer {
+    name: &'static str,
 }
 
 impl Player for Layer {
-    fn ending(&self) -> &'static str {
-        match self {
-            Layer::Lines => ".lines",
-            Layer::Values => ".values",
-            Layer::Calls => ".calls",
-            Layer::Client => ".client",
-            Layer::Beginning => ".beginning",
-            Layer::Instrument => ".instrument",
-            Layer::Files => ".files",
-        }
-    }
-
-    fn play(&self, rt: &HostRuntime, case: &Case<'_>, wrong: &mut String) -> io::Result<()> {
-        Ok(self.play_case(rt.alloc(), case, wrong)?)
+    fn play(&self, rt: &HostRuntime, case: &Case<'_>, wrong: &mut Told) -> io::Result<()> {
+        play_case(self.name, rt.alloc(), case, wrong);
+        Ok(())
     }
 }
 
-impl Layer {
-    fn play_case(
-        &self,
-        alloc: Global,
-        case: &Case<'_>,
-        wrong: &mut String,
-    ) -> Result<(), AllocError> {
-        match self {
-            Layer::Lines => play_rows(alloc, case, &mut Lines::new(), wrong),
-            Layer::Values => play_rows(alloc, case, &mut Values, wrong),
-            Layer::Calls => play_rows(alloc, case, &mut Calls, wrong),
-            Layer::Client => play_rows(alloc, case, &mut Clients::new(alloc)?, wrong),
-            Layer::Beginning => play_rows(alloc, case, &mut Beginnings::new(), wrong),
-            Layer::Instrument => play_rows(alloc, case, &mut Instruments::new(alloc), wrong),
-            Layer::Files => play_rows(alloc, case, &mut Files::new(), wrong),
-        }
+fn play_case(layer: &str, alloc: Global, case: &Case<'_>, wrong: &mut Told) {
+    match layer {
+        "lines" => play_rows(alloc, case, &mut Lines::new(), wrong),
+        "ports" => play_rows(alloc, case, &mut Ports, wrong),
+        "values" => play_rows(alloc, case, &mut Values, wrong),
+        "calls" => play_rows(alloc, case, &mut Calls, wrong),
+        "client" => play_clients(alloc, case, wrong),
+        "beginning" => play_rows(alloc, case, &mut Beginnings::new(), wrong),
+        "stations" => play_rows(alloc, case, &mut Stations::new(alloc), wrong),
+        "instrument" => play_rows(alloc, case, &mut Instruments::new(alloc), wrong),
+        _ => play_rows(alloc, case, &mut Files::new(), wrong),
     }
 }
 
 fn main(rt: HostRuntime) -> io::Result<ExitCode> {
     let mut are_right = true;
-    for layer in [
-        Layer::Lines,
-        Layer::Values,
-        Layer::Calls,
-        Layer::Client,
-        Layer::Beginning,
-        Layer::Instrument,
-        Layer::Files,
+    for name in [
+        "lines",
+        "ports",
+        "values",
+        "calls",
+        "client",
+        "beginning",
+        "stations",
+        "instrument",
+        "files",
     ] {
-        are_right &= play_folder(&rt, ".", &layer)?;
+        are_right &= play_folder(&rt, ".", name, &Layer { name })?;
     }
     Ok(ExitCode::from(u8::from(!are_right)))
 }

@@ -2,8 +2,8 @@
 
 use crate::calls::call_of;
 use crate::instrument::hand_in;
+use gc_cases::told::Told;
 use gc_instrument::Instrument;
-use std::alloc::{AllocError, Global};
 
 // Requests whose calls are carried out between a request and its repeat, without a line: whatever can be set is set to something
 // else, then the face is changed, and the second target measured.
@@ -30,36 +30,20 @@ fn execute(instrument: &mut Instrument, line: &[u8]) {
     }
 }
 
-/// Hands a request to a new simulator, sets all, and hands it in again: the replies with the ids that are kept, and the distance
-/// where all stayed as it was set.
-pub fn ask_twice(
-    alloc: Global,
-    instrument: &mut Instrument,
-    request: &[u8],
-    came: &mut String,
-) -> Result<(), AllocError> {
-    *instrument = Instrument::simulator();
-    hand_in(instrument, request, came)?;
-    set_all(instrument);
-    let set = format!(in alloc; "{instrument:?}")?;
-    came.push_str("; again ")?;
-    hand_in(instrument, request, came)?;
-    tell_left(alloc, instrument, set.as_str(), came)
+/// Hands a request to a new simulator, sets all, and hands it in again: the replies with the ids that are kept, and the distance,
+/// which is as it was set.
+pub fn ask_twice(request: &[u8], came: &mut Told) {
+    let mut instrument = Instrument::simulator();
+    hand_in(&mut instrument, request, came);
+    set_all(&mut instrument);
+    came.text("; again ");
+    hand_in(&mut instrument, request, came);
+    tell_distance(&instrument, came)
 }
 
-// The distance, where the instrument is as it was set.
-fn tell_left(
-    alloc: Global,
-    instrument: &Instrument,
-    set: &str,
-    came: &mut String,
-) -> Result<(), AllocError> {
-    let left = format!(in alloc; "{instrument:?}")?;
-    if left.as_str() != set {
-        return came.push_str("; something was set");
-    }
+fn tell_distance(instrument: &Instrument, came: &mut Told) {
     match instrument.distance() {
-        Some(distance) => write!(came, "; {distance} as set"),
-        None => came.push_str("; no distance"),
+        Some(distance) => came.titled("; as set ", &distance),
+        None => came.text("; no distance"),
     }
 }

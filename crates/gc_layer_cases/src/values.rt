@@ -1,79 +1,70 @@
 //! Rows of values: lists of parameters, decimals, and items by their kinds.
 
-use gc_cases::{Rows, cut_word, push_bytes};
+ghost use Rattle.std.specs.Prelude.{◌≤◌};
+
+use gc_cases::cut_word;
+use gc_cases::told::{Rows, Told, number_or};
 use gc_values::{
-    Decimal, Kind, Text, Value, ValueFault, read_bool, read_byte, read_long, read_text, read_whole,
-    split,
+    Decimal, Items, Kind, Text, Value, ValueFault, read_bool, read_byte, read_long, read_text,
+    read_whole, split,
 };
-use std::alloc::{AllocError, Global};
+use std::alloc::Global;
+use std::fmt;
 
 /// Nothing is kept from row to row.
 #[derive(Drop)]
 pub struct Values;
 
 impl Rows for Values {
-    fn play(
-        &mut self,
-        _alloc: Global,
-        word: &str,
-        what: &str,
-        item: &[u8],
-        came: &mut String,
-    ) -> Result<(), AllocError> {
+    fn play(&mut self, _alloc: Global, word: &str, what: &str, item: &[u8], came: &mut Told) {
         match word {
             "split" => split_list(item, came),
-            "decimal" => tell_decimal(Decimal::read(item), came),
+            "decimal" => tell_read(Decimal::read(item), came),
             "new" => new_decimal(what, came),
             "compare" => compare(what, came),
             "round" => round(what, came),
             "within" => within(what, came),
             "whole" => whole(what, came),
+            "long" => tell_read(read_long(item), came),
             _ => play_item(word, item, came),
         }
     }
 }
 
 // Reads an item.
-fn play_item(word: &str, item: &[u8], came: &mut String) -> Result<(), AllocError> {
+fn play_item(word: &str, item: &[u8], came: &mut Told) {
     match word {
-        "long" => tell_long(item, came),
-        "byte" => tell_byte(item, came),
-        "bool" => tell_bool(item, came),
+        "byte" => tell_read(read_byte(item), came),
+        "bool" => tell_read(read_bool(item), came),
         "text" => tell_text(read_text(item), came),
         "string" => tell_text(Text::new(item), came),
         _ => typed(word, item, came),
     }
 }
 
-fn tell_fault(fault: ValueFault, came: &mut String) -> Result<(), AllocError> {
-    write!(came, "{fault:?}")
+// What was read, or the fault.
+fn tell_read<T: fmt::Display + Drop>(read: Result<T, ValueFault>, came: &mut Told) {
+    match read {
+        Ok(value) => came.display(&value),
+        Err(fault) => came.debug(&fault),
+    }
 }
 
 // How many items a list has, and each in angle brackets.
-fn split_list(list: &[u8], came: &mut String) -> Result<(), AllocError> {
-    let items = match split(list) {
-        Ok(items) => items,
-        Err(fault) => return tell_fault(fault, came),
-    };
-    write!(came, "{} items", items.len())?;
+fn split_list(list: &[u8], came: &mut Told) {
+    match split(list) {
+        Ok(items) => tell_items(&items, came),
+        Err(fault) => came.debug(&fault),
+    }
+}
+
+fn tell_items(items: &Items<'_>, came: &mut Told) {
+    came.counted(&items.len(), " items");
     for k in 0..items.len() {
-        came.push_str(" <")?;
-        push_bytes(came, items.get(k))?;
-        came.push('>')?;
+        came.text(" <");
+        came.bytes(items.get(k));
+        came.text(">");
     }
-    Ok(())
-}
-
-fn tell_decimal(read: Result<Decimal, ValueFault>, came: &mut String) -> Result<(), AllocError> {
-    match read {
-        Ok(decimal) => push_bytes(came, decimal.write().as_slice()),
-        Err(fault) => tell_fault(fault, came),
-    }
-}
-
-// A number of at most 64 bits.
-fn number(word: &str) -> Option<u64> {
-    read_whole(word.as_bytes(), u64::MAX).ok()
 }
 
 // The decimals of two words.
@@ -89,101 +80,75 @@ fn two_decimals(words: &str) -> Option<(Decimal, Decimal)> {
 }
 
 // A decimal of its digits and its scale: both as it keeps them, and its text.
-fn new_decimal(words: &str, came: &mut String) -> Result<(), AllocError> {
+fn new_decimal(words: &str, came: &mut Told) {
     let (digits, scale) = cut_word(words);
-    let (Ok(digits), Some(scale)) = (read_long(digits.as_bytes()), number(scale)) else {
-        return came.push_str("no digits and scale");
-    };
-    let Ok(scale) = u8::try_from(scale) else {
-        return came.push_str("a wide scale");
-    };
-    match Decimal::new(i128::from(digits), scale) {
-        Ok(decimal) => write!(
-            came,
-            "digits {} scale {} text {decimal}",
-            decimal.digits(),
-            decimal.scale()
-        ),
-        Err(fault) => tell_fault(fault, came),
+    let digits = i128::from(read_long(digits.as_bytes()).unwrap_or(0));
+    match Decimal::new(digits, small_number(scale)) {
+        Ok(decimal) => tell_parts(&decimal, came),
+        Err(fault) => came.debug(&fault),
     }
 }
 
-fn compare(words: &str, came: &mut String) -> Result<(), AllocError> {
+fn tell_parts(decimal: &Decimal, came: &mut Told) {
+    came.titled("digits ", &decimal.digits());
+    came.titled(" scale ", &decimal.scale());
+    came.titled(" text ", decimal);
+}
+
+// A number of 8 bits.
+fn small_number(word: &str) -> u8 {
+    u8::try_from(number_or(word, 255)).unwrap_or(255)
+}
+
+fn compare(words: &str, came: &mut Told) {
     match two_decimals(words) {
-        Some((first, second)) => write!(came, "{:?}", first.cmp(&second)),
-        None => came.push_str("no two decimals"),
+        Some((first, second)) => came.debug(&first.cmp(&second)),
+        None => came.text("no two decimals"),
     }
 }
 
-// A decimal, rounded to as many places as the first word says.
-fn round(words: &str, came: &mut String) -> Result<(), AllocError> {
+// A decimal, rounded to as many places as the first word says, at most 24.
+fn round(words: &str, came: &mut Told) {
     let (places, text) = cut_word(words);
-    let Ok(decimal) = Decimal::read(text.as_bytes()) else {
-        return came.push_str("no decimal");
-    };
-    let Ok(places) = u8::try_from(number(places).unwrap_or(u64::MAX)) else {
-        return came.push_str("no places");
-    };
-    if places > 24 {
-        return came.push_str("more than 24 places");
+    match Decimal::read(text.as_bytes()) {
+        Ok(decimal) => round_to(&decimal, small_number(places).min(24), came),
+        Err(fault) => came.debug(&fault),
     }
-    push_bytes(came, decimal.round(places).write().as_slice())
+}
+
+fn round_to(decimal: &Decimal, places: u8, came: &mut Told)
+    requires { places ≤ 24 }
+{
+    came.bytes(decimal.round(places).write().as_slice());
 }
 
 // Whether a decimal is within an area, the last word, round another.
-fn within(words: &str, came: &mut String) -> Result<(), AllocError> {
+fn within(words: &str, came: &mut Told) {
     let (value, rest) = cut_word(words);
     match (Decimal::read(value.as_bytes()), two_decimals(rest)) {
-        (Ok(value), Some((other, area))) => write!(came, "{}", value.within(&other, &area)),
-        _ => came.push_str("no three decimals"),
-    }
-}
-
-fn tell_long(item: &[u8], came: &mut String) -> Result<(), AllocError> {
-    match read_long(item) {
-        Ok(value) => write!(came, "{value}"),
-        Err(fault) => tell_fault(fault, came),
-    }
-}
-
-fn tell_byte(item: &[u8], came: &mut String) -> Result<(), AllocError> {
-    match read_byte(item) {
-        Ok(value) => write!(came, "{value}"),
-        Err(fault) => tell_fault(fault, came),
-    }
-}
-
-fn tell_bool(item: &[u8], came: &mut String) -> Result<(), AllocError> {
-    match read_bool(item) {
-        Ok(value) => write!(came, "{value}"),
-        Err(fault) => tell_fault(fault, came),
+        (Ok(value), Some((other, area))) => came.display(&value.within(&other, &area)),
+        _ => came.text("no three decimals"),
     }
 }
 
 // A number up to the first word.
-fn whole(words: &str, came: &mut String) -> Result<(), AllocError> {
+fn whole(words: &str, came: &mut Told) {
     let (most, item) = cut_word(words);
-    let Some(most) = number(most) else {
-        return came.push_str("no bound");
-    };
-    match read_whole(item.as_bytes(), most) {
-        Ok(value) => write!(came, "{value}"),
-        Err(fault) => tell_fault(fault, came),
-    }
+    tell_read(read_whole(item.as_bytes(), number_or(most, 0)), came);
 }
 
 // How many bytes a string has, and these bytes.
-fn tell_text(read: Result<Text, ValueFault>, came: &mut String) -> Result<(), AllocError> {
-    let text = match read {
-        Ok(text) => text,
-        Err(fault) => return tell_fault(fault, came),
-    };
-    write!(came, "{} bytes ", text.as_bytes().len())?;
-    push_bytes(came, text.as_bytes())?;
-    if text == Text::empty() {
-        came.push_str("as the empty one")?;
+fn tell_text(read: Result<Text, ValueFault>, came: &mut Told) {
+    match read {
+        Ok(text) => tell_bytes(&text, came),
+        Err(fault) => came.debug(&fault),
     }
-    Ok(())
+}
+
+fn tell_bytes(text: &Text, came: &mut Told) {
+    came.counted(&text.as_bytes().len(), " bytes ");
+    came.bytes(text.as_bytes());
+    came.either(*text == Text::empty(), "as the empty one", "");
 }
 
 fn kind_of(word: &str) -> Option<Kind> {
@@ -199,13 +164,16 @@ fn kind_of(word: &str) -> Option<Kind> {
 }
 
 // An item, read as a value of the kind that the word says, and written.
-fn typed(word: &str, item: &[u8], came: &mut String) -> Result<(), AllocError> {
-    let Some(kind) = kind_of(word) else {
-        return came.push_str("an unknown word");
-    };
+fn typed(word: &str, item: &[u8], came: &mut Told) {
+    match kind_of(word) {
+        Some(kind) => read_as(kind, item, came),
+        None => came.text("an unknown word"),
+    }
+}
+
+fn read_as(kind: Kind, item: &[u8], came: &mut Told) {
     match Value::read(kind, item) {
-        Ok(value) if value.kind() == kind => push_bytes(came, value.write().as_slice()),
-        Ok(_) => came.push_str("of another kind"),
-        Err(fault) => tell_fault(fault, came),
+        Ok(value) => came.bytes(value.write().as_slice()),
+        Err(fault) => came.debug(&fault),
     }
 }

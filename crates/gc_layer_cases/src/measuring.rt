@@ -1,11 +1,13 @@
-//! A station of one page, as `docs/CLIENT.md` shows it: it sends calls to targets, and tells how each request ended.
+//! A station of one page, as `docs/CLIENT.md` shows it: it sends calls to targets, and tells how each request ended. Behind it are the rows
+//! of a case with one.
 
+use gc_cases::cut_word;
+use gc_cases::told::{Rows, Told, number_or};
 use gc_catalogue::{Answer, Call, Reading};
 use gc_client::{Client, Heard, Outcome, Settlement, Slots};
 use gc_lines::{Assembler, Frame};
-use std::alloc::AllocError;
+use std::alloc::{AllocError, Global};
 use std::io::{self, Write};
-use std::test::Fail;
 
 /// A station's end of a connection.
 #[derive(Drop)]
@@ -93,45 +95,78 @@ fn tell(settlement: &Settlement, told: &mut String) -> Result<(), AllocError> {
     Ok(())
 }
 
-#[test]
-fn measuring_over_a_slow_line(rt: HostRuntime) -> Result<(), Fail> {
-    let mut station = Station::new();
-    let mut connection = Vec::new(rt.alloc());
-    let mut told = String::new(rt.alloc());
-    let read = Call::SimpleMea {
-        wait: 5000,
-        mode: 1,
-    };
+/// A station, and what it sent.
+#[derive(Drop)]
+pub struct Stations {
+    station: Station,
+    connection: Vec<u8>,
+}
 
-    // Target 1 is given up at the moment 10, and its reply comes at 12, before that for target 2.
-    assert!(rt; station.ask(&mut connection, 1, read, 10)?);
-    assert!(rt; station.ask(&mut connection, 2, read, 20)?);
-    assert_eq!(rt; station.client.next_deadline(), Some(10));
-    station.hear(b"%R1P,0,0:0,0.5,1.5,2", 12, &mut told)?;
-    assert_eq!(rt; station.client.next_deadline(), Some(20));
-    station.hear(
-        b"5.125\r\n%R1P,0,1:0,2.25,1.625,110.0625\r\n",
-        14,
-        &mut told,
-    )?;
+impl Stations {
+    pub fn new(alloc: Global) -> Stations {
+        Stations {
+            station: Station::new(),
+            connection: Vec::new(alloc),
+        }
+    }
 
-    // The connection fails with two requests under way, and half a reply. That to the second one comes on the next.
-    assert!(rt; station.ask(&mut connection, 3, read, 30)?);
-    assert!(rt; station.ask(&mut connection, 4, read, 30)?);
-    station.hear(b"%R1P,0,2:0,", 16, &mut told)?;
-    station.go_on();
-    station.hear(b"%R1P,0,3:1285\r\n", 18, &mut told)?;
+    // Asks for a measurement of a target, to be answered before the deadline behind it.
+    fn ask(&mut self, words: &str, came: &mut Told) {
+        let (target, deadline) = cut_word(words);
+        let target = u32::try_from(number_or(target, 0)).unwrap_or(0);
+        let read = Call::SimpleMea {
+            wait: 5000,
+            mode: 1,
+        };
+        let connection = &mut self.connection;
+        match self
+            .station
+            .ask(connection, target, read, number_or(deadline, 0))
+        {
+            Ok(true) => {}
+            Ok(false) => came.text("seven wait"),
+            Err(_) => came.lack(),
+        }
+    }
 
-    // It begins anew with one under way.
-    assert!(rt; station.ask(&mut connection, 5, read, 40)?);
-    station.begin_anew(&mut told)?;
-    assert_eq!(rt;
-        told.as_str(),
-        "target 1: late\ntarget 2: 2.25 rad, 1.625 rad, 110.0625 m\ntarget 3: lost\ntarget 4: Refused(1285)\ntarget 5: lost\n"
-    );
-    assert_eq!(rt;
-        connection.as_slice(),
-        b"%R1Q,2108,0:5000,1\r\n%R1Q,2108,1:5000,1\r\n%R1Q,2108,2:5000,1\r\n%R1Q,2108,3:5000,1\r\n%R1Q,2108,4:5000,1\r\n".as_slice()
-    );
-    Ok(())
+    // Hears the bytes behind a moment.
+    fn hear(&mut self, now: &str, bytes: &[u8], told: &mut String) -> Result<(), AllocError> {
+        let read = bytes.get(now.len().saturating_add(1)..).unwrap_or(b"");
+        self.station.hear(read, number_or(now, 0), told)
+    }
+
+    fn tell(
+        &mut self,
+        word: &str,
+        what: &str,
+        bytes: &[u8],
+        told: &mut String,
+    ) -> Result<(), AllocError> {
+        match word {
+            "hear" => self.hear(cut_word(what).0, bytes, told),
+            "begin_anew" => self.station.begin_anew(told),
+            _ => told.push_str("an unknown word"),
+        }
+    }
+
+    // Tells what the station tells.
+    fn tell_all(&mut self, alloc: Global, word: &str, what: &str, bytes: &[u8], came: &mut Told) {
+        let mut told = String::new(alloc);
+        if self.tell(word, what, bytes, &mut told).is_err() {
+            came.lack();
+        }
+        came.text(told.as_str());
+    }
+}
+
+impl Rows for Stations {
+    fn play(&mut self, alloc: Global, word: &str, what: &str, bytes: &[u8], came: &mut Told) {
+        match word {
+            "ask" => self.ask(what, came),
+            "deadline" => came.debug(&self.station.client.next_deadline()),
+            "go_on" => self.station.go_on(),
+            "sent" => came.bytes(self.connection.as_slice()),
+            _ => self.tell_all(alloc, word, what, bytes, came),
+        }
+    }
 }

@@ -1,8 +1,10 @@
 //! An instrument behind any reader and writer, as `docs/INSTRUMENT.md` shows it.
 
+use gc_cases::told::Told;
 use gc_instrument::{Instrument, Served, Target, serve};
 use gc_lines::{FromReader, ToWriter};
 use gc_values::{Decimal, Text};
+use std::alloc::Global;
 use std::io::{Read, Write};
 
 // An instrument with a scene of its own behind any reader and writer.
@@ -19,13 +21,9 @@ fn serve_bench<R: Read + Drop, W: Write + Drop>(input: R, output: W) -> Option<S
     serve(&mut bench, &mut source, &mut sink, u32::MAX).ok()
 }
 
-#[test]
-fn embedded(rt: HostRuntime) {
-    let mut output = Vec::new(rt.alloc());
-    let served = serve_bench(b"%R1Q,5003:\r\n%R1Q,5004,1:\r\n".as_slice(), &mut output);
-    assert_eq!(rt; served, Some(Served { replies: 2 }));
-    assert_eq!(rt;
-        output.as_slice(),
-        b"%R1P,0,0:0,42\r\n%R1P,0,1:0,\"BENCH\"\r\n".as_slice()
-    );
+/// Serves these bytes, and tells how many replies were written, and the output.
+pub fn tell_embedded(alloc: Global, input: &[u8], came: &mut Told) {
+    let mut output = Vec::new(alloc);
+    came.debug(&serve_bench(input, &mut output));
+    came.bytes(output.as_slice());
 }

@@ -1,0 +1,65 @@
+//! Cases of rows: each line `do WORD WHAT -> CAME` is played, one after the other.
+
+use crate::case::Case;
+use crate::escapes::bytes_of;
+use crate::rows::cut_word;
+use crate::told::Told;
+use std::alloc::Global;
+
+/// The most rows of a case.
+const MOST_ROWS: usize = 10_000;
+
+/// What plays the rows of a case.
+pub trait Rows {
+    /// Plays a row, by its first word, what stands behind that, and the bytes for which this stands. It tells what came, and nothing
+    /// where the row has no arrow.
+    fn play(&mut self, alloc: Global, word: &str, what: &str, bytes: &[u8], came: &mut Told);
+}
+
+/// Plays the rows of a case. Where another thing came than stands behind a row's arrow, a line with it is told.
+pub fn play_rows<R: Rows>(alloc: Global, case: &Case<'_>, rows: &mut R, wrong: &mut Told) {
+    if case.value("do").is_empty() {
+        return case.tell_wrong("rows", b"none", wrong);
+    }
+    let mut came = Told::new(alloc);
+    for place in 0..MOST_ROWS {
+        let Some(row) = case.value_at("do", place) else {
+            break;
+        };
+        came.clear();
+        play_row(alloc, case, row, rows, &mut came, wrong);
+    }
+}
+
+fn play_row<R: Rows>(
+    alloc: Global,
+    case: &Case<'_>,
+    row: &str,
+    rows: &mut R,
+    came: &mut Told,
+    wrong: &mut Told,
+) {
+    let (given, expected) = row.split_once(" -> ").unwrap_or((row, ""));
+    play_given(alloc, given, rows, came);
+    if !came.is(expected) {
+        tell_row(case, given, came, wrong);
+    }
+}
+
+// Plays what stands before a row's arrow.
+fn play_given<R: Rows>(alloc: Global, given: &str, rows: &mut R, came: &mut Told) {
+    let (word, what) = cut_word(given);
+    match bytes_of(alloc, what) {
+        Ok(bytes) => rows.play(alloc, word, what, bytes.as_slice(), came),
+        Err(_) => came.lack(),
+    }
+}
+
+fn tell_row(case: &Case<'_>, given: &str, came: &Told, wrong: &mut Told) {
+    wrong.text(case.name);
+    wrong.text(": do is ");
+    wrong.text(given);
+    wrong.text(" -> ");
+    wrong.escaped(came.as_bytes());
+    wrong.text("\n");
+}

@@ -1,0 +1,36 @@
+//! What came of a case, beside what it expects.
+
+use crate::case::Case;
+use crate::escapes::spells;
+use crate::told::Told;
+
+impl<'a> Case<'a> {
+    /// Whether the value under a key is this one.
+    pub fn has(&self, key: &str, value: &str) -> bool {
+        self.value(key) == value
+    }
+
+    /// Tells what came for a key, where the case has something else there: a line with it.
+    pub fn tell(&self, key: &str, came: &[u8], wrong: &mut Told) {
+        if !spells(self.value(key), came) {
+            self.tell_wrong(key, came, wrong);
+        }
+    }
+
+    /// Tells what came for a key, where the case has something else there.
+    pub fn tell_told(&self, key: &str, came: &Told, wrong: &mut Told) {
+        if !came.is(self.value(key)) {
+            self.tell_wrong(key, came.as_bytes(), wrong);
+        }
+    }
+
+    /// A line with what came for a key.
+    pub fn tell_wrong(&self, key: &str, came: &[u8], wrong: &mut Told) {
+        wrong.text(self.name);
+        wrong.text(": ");
+        wrong.text(key);
+        wrong.text(" is ");
+        wrong.escaped(came);
+        wrong.text("\n");
+    }
+}

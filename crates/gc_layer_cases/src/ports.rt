@@ -1,0 +1,137 @@
+//! Rows of the ports over a reader and a writer of std: how often a reader is asked and for how much, and what fits into a writer.
+
+ghost use Rattle.std.specs.Prelude.{None};
+
+use gc_cases::cut_word;
+use gc_cases::told::{Rows, Told, number_or};
+use gc_lines::{FromReader, Line, ReadAhead, Sink, Source, ToWriter, begin_request, write_line};
+use std::alloc::Global;
+use std::cell::Cell;
+use std::io::{self, ErrorKind, Read};
+
+// How often a reader was asked, and for how much the last time.
+#[derive(Drop)]
+struct Asked {
+    calls: Cell<u64>,
+    room: Cell<usize>,
+}
+
+// A reader that gives at most so many bytes a read, and is interrupted at one of them.
+#[derive(Drop)]
+struct Slow<'a, 'b> {
+    left: &'a [u8],
+    most: usize,
+    fails_at: u64,
+    asked: &'b Asked,
+}
+
+impl Read for Slow<'_, '_> {
+    ghost remaining = { λ _. None };
+
+    fn read(&mut self, buf: &mut [u8]) -> io::Result<usize> {
+        let call = self.asked.calls.get();
+        self.asked.calls.set(call.saturating_add(1));
+        self.asked.room.set(buf.len());
+        if call == self.fails_at {
+            return Err(ErrorKind::Interrupted.into());
+        }
+        let left = self.left;
+        let count = left.len().min(buf.len()).min(self.most);
+        buf[..count].copy_from_slice(&left[..count]);
+        self.left = &left[count..];
+        Ok(count)
+    }
+}
+
+/// Nothing is kept from row to row.
+#[derive(Drop)]
+pub struct Ports;
+
+impl Rows for Ports {
+    fn play(&mut self, _alloc: Global, word: &str, what: &str, _bytes: &[u8], came: &mut Told) {
+        match word {
+            "source" => read_through(false, what, came),
+            "ahead" => read_through(true, what, came),
+            "sink" => write_through(what, came),
+            "lines" => write_lines(&mut [0; 16], came),
+            _ => came.text("an unknown word"),
+        }
+    }
+}
+
+// Reads the bytes of the third word through a port, read ahead or not. The first word says how many the reader gives at most, and the
+// second at which call it fails, counted from 0.
+fn read_through(is_ahead: bool, words: &str, came: &mut Told) {
+    let (most, rest) = cut_word(words);
+    let (fails_at, left) = cut_word(rest);
+    let asked = Asked {
+        calls: Cell::new(0),
+        room: Cell::new(0),
+    };
+    let reader = Slow {
+        left: left.as_bytes(),
+        most: usize::try_from(number_or(most, 1)).unwrap_or(1),
+        fails_at: number_or(fails_at, 9),
+        asked: &asked,
+    };
+    if is_ahead {
+        read_all(&mut FromReader::new(ReadAhead::new(reader)), &asked, came);
+    } else {
+        read_all(&mut FromReader::new(reader), &asked, came);
+    }
+}
+
+// Reads four times into four bytes, by the trait's bound alone.
+fn read_all<S: Source>(source: &mut S, asked: &Asked, came: &mut Told) {
+    for _ in 0..4 {
+        read_one(source, came);
+        came.titled(" asked ", &asked.calls.get());
+        came.titled(" for ", &asked.room.get());
+        came.text(", ");
+    }
+}
+
+fn read_one<S: Source>(source: &mut S, came: &mut Told) {
+    let mut buf = [0u8; 4];
+    match source.read(&mut buf) {
+        Ok(count) => came.bytes(buf.get(..count).unwrap_or(b"?")),
+        Err(_) => came.text("failed"),
+    }
+    if source.has_failed() {
+        came.text("!");
+    }
+}
+
+// Writes three bytes four times, into a writer with room for as many as the word says, up to 16.
+fn write_through(room: &str, came: &mut Told) {
+    let mut bytes = [0u8; 16];
+    let room = usize::try_from(number_or(room, 0)).unwrap_or(0).min(16);
+    write_all(&mut ToWriter::new(&mut bytes[..room]), came);
+}
+
+// Writes by the trait's bound alone.
+fn write_all<K: Sink>(sink: &mut K, came: &mut Told) {
+    for _ in 0..4 {
+        match sink.write(b"abc") {
+            Ok(count) => came.display(&count),
+            Err(_) => came.text("failed"),
+        }
+        came.either(sink.has_failed(), "! ", " ");
+    }
+}
+
+// Writes a line three times, and tells what was taken.
+fn write_lines(room: &mut [u8; 16], came: &mut Told) {
+    let line = begin_request(0, Some(1));
+    write_thrice(&mut ToWriter::new(&mut room[..]), &line, came);
+    came.bytes(room.as_slice());
+}
+
+fn write_thrice<K: Sink>(sink: &mut K, line: &Line, came: &mut Told) {
+    for _ in 0..3 {
+        match write_line(sink, line) {
+            Ok(()) => came.text("whole, "),
+            Err(count) => came.counted(&count, " bytes, "),
+        }
+    }
+}
