@@ -6,7 +6,7 @@ ghost use Rattle.gc_messages.specs.Streams.{are_open, TellsClosed};
 
 use gc_lines::{Durable, Source};
 use gc_links::Place;
-use gc_measuring::{append_at, measure_at};
+use gc_measuring::{Appended, append_at, measure_at};
 use gc_messages::{Lossy, Noticed, Noting, Spot, Standard, Streams};
 use gc_subcommands::Asking;
 use gc_subcommands::ask::ask_place;
@@ -174,8 +174,25 @@ fn measure_recorded<
     ensures { IfOk result.1 (λ status. exit_status status ≤ 1) }
 {
     match recording {
-        None => measure_at(rt, alloc, spot, log, station, streams),
-        Some(recording) => append_at(rt, alloc, spot, log, station, recording, streams),
+        None => {
+            let (streams, ended, _) = measure_at(rt, alloc, spot, log, station, streams);
+            (streams, ended)
+        }
+        Some(recording) => {
+            let (streams, ended, appended) = append_at(
+                rt, alloc, spot, log, station, recording, streams,
+            );
+            end_appending(appended);
+            (streams, ended)
+        }
+    }
+}
+
+// Ends the appending of a run that had a file.
+fn end_appending<R: Files<File = File>>(appended: Option<Appended<'_, R>>) {
+    match appended {
+        Some(appended) => appended.end(),
+        None => {}
     }
 }
 

@@ -8,7 +8,7 @@ pub use gc_ask::{ask_at, ask_tcp, loop_tcp, run_ask, run_loop, serve_tcp};
 pub use gc_engines::{read_schedule, run_check, run_drill, run_drill_width, run_exec};
 pub use gc_instrument::{ServeFault, Served};
 pub use gc_links::{Link, Place};
-pub use gc_measuring::{Stop, laws, run_station_text};
+pub use gc_measuring::{Stop, laws, plan_of, run_station_text};
 pub use gc_messages::{FilesSeen, LogSeen, Noticed, Oddities, Spot, Standard, Streams};
 pub use gc_rows::Form;
 pub use gc_station::Tally;

@@ -1,8 +1,8 @@
 -- Over failed syncs a table stays, where a copy takes the file's place before a run goes on.
 use Rattle.std.proofs.Common.{◌≡◌, inl, inr, ℕ, Bool, true, false, List, [], ◌∷◌, ◌++◌, refl, sym, ◌∙◌, ap, subst, append_assoc, if◌then◌else◌}
 use Rattle.std.proofs.lemmas.List.{append-nil}
-use Rattle.gc_files.specs.Files.{Step, Append, Sync, Life, content, later_by, MayLeave}
-use Rattle.gc_files.specs.Rows.{has_feed, table, line, is_none}
+use Rattle.gc_files.specs.Files.{Life, content, later_by}
+use Rattle.gc_files.specs.Rows.{has_feed, table, is_none}
 use Rattle.gc_files.specs.Runs.{Run, IsHead, IsRun, HasRows}
 use Rattle.gc_files.specs.Failing.{Sides, settled, one, done_by, Loses, Event, Ran, Failed, Copied, Crashed, sides_after, Occur, runs_of, is_trusted, IsFound}
 use Rattle.gc_files.proofs.Whole.{whole_front}

@@ -1,12 +1,12 @@
 -- A file that is copied: how many lines it has, and what is appended in pieces.
-use Rattle.std.proofs.Common.{◌≡◌, inl, inr, ℕ, zero, suc, ◌+◌, ◌≤◌, ◌<◌, ◌==◌, true, false, List, [], ◌∷◌, ◌++◌, length, take, drop, slice_index, refl, sym, ◌∙◌, ap, subst, arith, if◌then◌else◌, Option, Some}
+use Rattle.std.proofs.Common.{◌≡◌, inl, inr, ℕ, zero, suc, ◌+◌, ◌≤◌, ◌<◌, ◌==◌, List, [], ◌∷◌, ◌++◌, length, take, drop, slice_index, refl, sym, ◌∙◌, ap, subst, arith, Option, Some}
 use Rattle.std.proofs.Math.Seq.{take-add}
 use Rattle.std.proofs.lemmas.Bool.{cases_Bool}
 use Rattle.std.proofs.lemmas.List.{append-nil, take_all}
 use Rattle.gc_files.specs.Failing.{feed_of, feeds}
-use Rattle.gc_files.specs.Files.{Step, Sync, Life, later_by, Adds}
+use Rattle.gc_files.specs.Files.{Sync, Life, later_by, Adds}
 use Rattle.gc_files.specs.Rows.{appended, PutsAll}
-use Rattle.gc_files.proofs.Adding.{adds_two, cuts_two, appended_two, later_two, later_none}
+use Rattle.gc_files.proofs.Adding.{cuts_two, appended_two, later_two, later_none}
 
 feeds_suc : (xs : List ℕ) (n : ℕ) → n < length xs → feeds (take (suc n) xs) ≡ feeds (take n xs) + feed_of (slice_index xs n)
 feeds_suc [] n less = absurd (omega (arith, less))

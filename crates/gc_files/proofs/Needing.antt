@@ -1,7 +1,7 @@
 -- Where a run goes on in a file in which a sync failed, and no copy took its place, a table doesn't last: such runs, computed.
-use Rattle.std.proofs.Common.{◌≡◌, inl, inr, ℕ, false, List, [], ◌∷◌, ◌++◌, refl, arith, None}
+use Rattle.std.proofs.Common.{◌≡◌, inl, inr, ℕ, false, List, [], ◌∷◌, refl, arith, None}
 use Rattle.gc_files.specs.Files.{Append, Sync}
-use Rattle.gc_files.specs.Runs.{Run, IsHead, IsRun, rows_of}
+use Rattle.gc_files.specs.Runs.{Run, IsRun, rows_of}
 use Rattle.gc_files.specs.Failing.{settled, one, Event, Ran, Failed, Occur, runs_of, TablesLastWhere}
 
 -- a head that is a line feed

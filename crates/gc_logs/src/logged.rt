@@ -48,6 +48,16 @@ impl<L: Link, K: Sink> Logged<L, K> {
     }
 }
 
+impl<L, K: Drop> Logged<L, K> {
+    /// The link inside, without its log.
+    pub fn into_link(self) -> L
+        ensures { result ≡ self.link }
+    {
+        let Logged { link, log: _ } = self;
+        link
+    }
+}
+
 impl<L: Link, K: Sink> Link for Logged<L, K> {
     ghost acts = { λ l. L.acts l.link };
 

@@ -1,4 +1,3 @@
 mod Measured
 mod Unbegun
-mod Unseen
 mod Wants

@@ -1,3 +1,4 @@
+pub mod Appending
 pub mod Choices
 pub mod Logging
 pub mod Measuring

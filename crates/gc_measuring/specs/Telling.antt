@@ -2,7 +2,7 @@
 use Rattle.std.specs.Prelude.{◌≡◌, ℕ, Bool, true, ◌⊎◌, List, [], Option, Some, None, Result, Err}
 use Rattle.std.specs.Io.KnownBytes.{Appends}
 use Rattle.gc_measuring.specs.Logging.{TellsLoss}
-use Rattle.gc_measuring.specs.Measuring.{Places, MeasuresGiven, MeasuresBegun, IsMeasured, TellsCounts}
+use Rattle.gc_measuring.specs.Measuring.{Places, MeasuresGiven, MeasuresBegun, IsMeasured, AllLast, TellsCounts}
 use Rattle.gc_measuring.specs.Recording.{unfit_text}
 use Rattle.gc_measuring.specs.Stops.{IsWithoutLink, with_fault}
 use Rattle.gc_words.specs.Stations.{appended, begun_at}
@@ -14,6 +14,7 @@ use Rattle.gc_files.specs.declared.system.Unfit.{Unfit}
 use Rattle.gc_lines.specs.declared.ports.Source.{Ghosts as Source}
 use Rattle.gc_lines.specs.declared.ports.Sink.{Ghosts as Sink}
 use Rattle.gc_links.specs.Acts.{Act}
+use Rattle.gc_links.specs.declared.telling.Telling.{Telling}
 use Rattle.gc_station.specs.Runs.{FailsAtOutput}
 use Rattle.gc_station.specs.declared.tally.Tally.{Tally}
 use Rattle.gc_texts.specs.WholeTexts.{input_of}
@@ -25,17 +26,19 @@ abbrev pub places_of : {S K E : Type 0} → Source S → Sink K → (E → Optio
 places_of source sink shown streams acts =
     record { input = input_of source streams.input; acts = acts; taken = sink.taken streams.output; messages = shown streams.messages }
 
--- an output of which nothing is seen, not even whether it failed
-abbrev pub unseen : {K : Type 0} → Sink K
-unseen = record { taken = λ _. None; failed = λ _. true }
+-- the acts that a link told, where there is one
+abbrev pub acts_of : {L : Type 0} → Option (Telling L) → Option (List Act)
+acts_of None = None
+acts_of (Some link) = Some link.history.acts
 
 -- what the text was, and what of its commands was measured over a link that told these acts, and that the status and the messages tell how
 -- it ended
-pub record TellsMeasuring {S K E : Type 0} (source : Source S) (sink : Sink K) (shown : E → Option (List ℕ)) (station : Station)
+pub record TellsMeasuring {S K E : Type 0} (source : Source S) (sink : Sink K) (lasts : K → Bool) (shown : E → Option (List ℕ)) (station : Station)
     (acts acts' : Option (List Act)) (old new : Streams S K E) (status : ℕ) : Type 0 where
   pub end : Result Tally Stop
   pub between : E
   pub measured : MeasuresGiven station (places_of source sink shown old acts) (places_of source sink shown (record new { messages = between }) acts') end
+  pub all_last : AllLast (lasts new.output) end
   pub fails : FailsAtOutput (sink.failed old.output) (sink.failed new.output) (with_fault end)
   pub counts : TellsCounts end status (shown between) (shown new.messages)
 
@@ -48,32 +51,37 @@ pub record MeasuresAll {S K E : Type 0} (source : Source S) (sink : Sink K) (sho
 abbrev pub CannotBegin : Bool → RunFault → Type 0
 CannotBegin has_log fault = IsWithoutLink fault ⊎ ((has_log ≡ true) × (fault ≡ Log))
 
--- a run didn't begin, and then nothing was read or written
-abbrev pub IsUnbegun : {S K E : Type 0} → Bool → Streams S K E → Streams S K E → Result Tally Stop → Type 0
-IsUnbegun has_log old new end = (fault : RunFault) × (end ≡ Err (Run fault)) × CannotBegin has_log fault
-    × (new.input ≡ old.input) × (new.output ≡ old.output) × (new.messages ≡ old.messages)
+-- a run didn't begin, and then there was no link, and nothing was read or written
+abbrev pub IsUnbegun : {S K E : Type 0} → Bool → Streams S K E → Streams S K E → Option (List Act) → Result Tally Stop → Type 0
+IsUnbegun has_log old new acts end = (fault : RunFault) × (end ≡ Err (Run fault)) × CannotBegin has_log fault
+    × (new.input ≡ old.input) × (new.output ≡ old.output) × (new.messages ≡ old.messages) × (acts ≡ None)
 
--- what a run measured by acts that its link told from none on
-abbrev pub MeasuresFromNone : {S K E : Type 0} → Source S → Sink K → (E → Option (List ℕ)) → Station → Streams S K E → Streams S K E → Result Tally Stop → Type 0
-MeasuresFromNone source sink shown station old new end =
-    (acts : List Act) × MeasuresBegun station (places_of source sink shown old (Some [])) (places_of source sink shown new (Some acts)) end
+-- what a run measured by these acts, which its link told from none on; and all records last, but where the text was refused or the sink failed
+pub record MeasuresFromNone {S K E : Type 0} (source : Source S) (sink : Sink K) (lasts : K → Bool) (shown : E → Option (List ℕ)) (station : Station)
+    (old new : Streams S K E) (acts : Option (List Act)) (end : Result Tally Stop) : Type 0 where
+  pub told : List Act
+  pub is : acts ≡ Some told
+  pub measured : MeasuresBegun station (places_of source sink shown old (Some [])) (places_of source sink shown new (Some told)) end
+  pub all_last : AllLast (lasts new.output) end
 
--- what a run measured, or that it didn't begin; that the status and the messages tell how it ended; and behind that whether a log was lost
-pub record TellsRun {S K E : Type 0} (source : Source S) (sink : Sink K) (shown : E → Option (List ℕ)) (has_log : Bool) (station : Station) (old new : Streams S K E) (status : ℕ) : Type 0 where
+-- what a run measured, by these acts of its link, or that it didn't begin; that the status and the messages tell how it ended; and behind that
+-- whether a log was lost
+pub record TellsRun {S K E : Type 0} (source : Source S) (sink : Sink K) (lasts : K → Bool) (shown : E → Option (List ℕ)) (has_log : Bool) (station : Station)
+    (old new : Streams S K E) (acts : Option (List Act)) (status : ℕ) : Type 0 where
   pub end : Result Tally Stop
   pub between : E
   pub behind : E
   pub is_lost : Bool
   pub logged : is_lost ≡ true → has_log ≡ true
-  pub ran : MeasuresFromNone source sink shown station old (record new { messages = between }) end ⊎ IsUnbegun has_log old (record new { messages = between }) end
+  pub ran : MeasuresFromNone source sink lasts shown station old (record new { messages = between }) acts end ⊎ IsUnbegun has_log old (record new { messages = between }) acts end
   pub fails : FailsAtOutput (sink.failed old.output) (sink.failed new.output) (with_fault end)
   pub counts : TellsCounts end status (shown between) (shown behind)
   pub loss : TellsLoss is_lost (shown behind) (shown new.messages)
 
--- a source gave a text to its end, and the run over its commands is done, by acts that its link told from none on
-abbrev pub MeasuresAllFromNone : {S K E : Type 0} → Source S → Sink K → (E → Option (List ℕ)) → Station → Streams S K E → Streams S K E → Type 0
-MeasuresAllFromNone source sink shown station old new =
-    (acts : List Act) × (run : ℕ) × MeasuresAll source sink shown (begun_at run station) (Some []) (Some acts) old new
+-- a source gave a text to its end, and the run over its commands is done, by these acts, which its link told from none on
+abbrev pub MeasuresAllFromNone : {S K E : Type 0} → Source S → Sink K → (E → Option (List ℕ)) → Station → Streams S K E → Streams S K E → Option (List Act) → Type 0
+MeasuresAllFromNone source sink shown station old new acts =
+    (told : List Act) × (acts ≡ Some told) × ((run : ℕ) × MeasuresAll source sink shown (begun_at run station) (Some []) (Some told) old new)
 
 -- a file of records can't be had, which is told with status 1, and nothing was read
 pub record RefusesFile {S K E : Type 0} (shown : E → Option (List ℕ)) (old new : Streams S K E) (status : ℕ) : Type 0 where
@@ -82,12 +90,26 @@ pub record RefusesFile {S K E : Type 0} (shown : E → Option (List ℕ)) (old n
   pub tells : Appends (shown old.messages) (shown new.messages) (unfit_text why)
   pub unread : new.input ≡ old.input
 
--- what a run tells that appends to a file, behind what was told of the file, and what it measured
-pub record TellsAppended {S K E : Type 0} (source : Source S) (shown : E → Option (List ℕ)) (has_log : Bool) (station : Station) (old new : Streams S K E) (status : ℕ) : Type 0 where
-  pub begun : E
-  pub run : TellsRun source unseen shown has_log (appended station) (record old { messages = begun }) new status
+-- the output of a run is a file of rows that it opened, and that it left so; the other streams are these
+pub record IsFiled {S F K E : Type 0} (sink : Sink F) (old new : Streams S K E) (begun ended : Streams S F E) (file : Option F) : Type 0 where
+  pub fresh : sink.taken begun.output ≡ Some []
+  pub left : file ≡ Some ended.output
+  pub input : begun.input ≡ old.input
+  pub read : new.input ≡ ended.input
+  pub messages : new.messages ≡ ended.messages
+
+-- what a run tells that appends to a file, behind what was told of the file; and what it measured, of which the file has the rows
+pub record TellsAppended {S F K E : Type 0} (source : Source S) (sink : Sink F) (lasts : F → Bool) (shown : E → Option (List ℕ)) (has_log : Bool) (station : Station)
+    (old new : Streams S K E) (file : Option F) (acts : Option (List Act)) (status : ℕ) : Type 0 where
+  pub begun : Streams S F E
+  pub ended : Streams S F E
+  pub filed : IsFiled sink old new begun ended file
+  pub run : TellsRun source sink lasts shown has_log (appended station) begun ended acts status
 
 -- a source gave a text to its end, and the run over its commands, which appended to a file, is done
-pub record AppendsAll {S K E : Type 0} (source : Source S) (shown : E → Option (List ℕ)) (station : Station) (old new : Streams S K E) : Type 0 where
-  pub begun : E
-  pub all : MeasuresAllFromNone source unseen shown (appended station) (record old { messages = begun }) new
+pub record AppendsAll {S F K E : Type 0} (source : Source S) (sink : Sink F) (shown : E → Option (List ℕ)) (station : Station)
+    (old new : Streams S K E) (file : Option F) (acts : Option (List Act)) : Type 0 where
+  pub begun : Streams S F E
+  pub ended : Streams S F E
+  pub filed : IsFiled sink old new begun ended file
+  pub all : MeasuresAllFromNone source sink shown (appended station) begun ended acts

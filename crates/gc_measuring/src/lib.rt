@@ -15,6 +15,7 @@ mod telling;
 mod wanted;
 
 pub use measure::run_station_text;
-pub use recording::append_at;
+pub use plan::plan_of;
+pub use recording::{Appended, append_at};
 pub use station::measure_at;
 pub use stop::Stop;

@@ -161,7 +161,7 @@ pub(crate) fn measure_logged<L: Link, G: Sink, S: Source, K: Durable, E: Write>(
 ) -> (Streams<S, K, E>, io::Result<ExitCode>)
     // As without a log; and the log was lost exactly where that is told.
     ensures told { IfOk result.1 (λ status. (behind : E)
-        × TellsMeasuring S.Source K.Sink E.contents station (L.acts logged.old.link) (L.acts logged.new.link) streams (record result.0 { messages = behind }) (exit_status status)
+        × TellsMeasuring S.Source K.Sink K.is_durable E.contents station (L.acts logged.old.link) (L.acts logged.new.link) streams (record result.0 { messages = behind }) (exit_status status)
         × TellsLoss (G.failed (sink_of logged.new)) (E.contents behind) (E.contents result.0.messages)) }
 
     // Status 0 only where the source gave a text to its end, and the run over its commands is done.

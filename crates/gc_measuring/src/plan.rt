@@ -8,7 +8,7 @@ use gc_texts::Task;
 use gc_words::Choice;
 
 /// The plan of a choice for these tasks. Its deadline is the longest in use.
-pub(crate) fn plan_of(choice: Choice, tasks: &[Task]) -> Plan
+pub fn plan_of(choice: Choice, tasks: &[Task]) -> Plan
     ensures { result ≡ plan_of choice tasks.now }
 {
     Plan {

@@ -4,7 +4,7 @@ ghost use Rattle.std.specs.Prelude.{◌≡◌, ◌≤◌, IfOk, IfErr};
 ghost use Rattle.std.specs.Option.{is_some};
 ghost use Rattle.std.specs.Process.{exit_status};
 ghost use Rattle.gc_measuring.specs.Stops.{fault_without_link, IsWithoutLink};
-ghost use Rattle.gc_measuring.specs.Telling.{TellsMeasuring, MeasuresAll, TellsRun, MeasuresAllFromNone, CannotBegin};
+ghost use Rattle.gc_measuring.specs.Telling.{TellsMeasuring, MeasuresAll, TellsRun, MeasuresAllFromNone, CannotBegin, acts_of};
 
 use crate::counts::tell_counts;
 use crate::logging::{Noted, log_at, measure_logged};
@@ -30,44 +30,53 @@ use std::time::Clock;
 /// Measures at a place, and tells how it ended: the counts, or the fault's line. Where a log is asked for, its file is opened first, and
 /// what was on the link is appended to it: where it can't be had that is `Log`. `Clock` comes where the clock can't be read, and the
 /// faults of a device where one is there and can't be used. That a log couldn't be written to its end is told behind the counts, or
-/// the fault, and changes no status. The streams are handed back.
+/// the fault, and changes no status. The streams are handed back, and the link, where there was one.
 pub fn measure_at<
+    'a,
     R: Net<Listener = TcpListener, Stream = TcpStream> + Clock + Files<File = File>,
     S: Source,
     K: Durable,
     E: Write,
 >(
-    rt: &R,
+    rt: &'a R,
     alloc: Global,
-    spot: Spot<'_>,
+    spot: Spot<'a>,
     log: Option<LogPlace<'_>>,
     station: Station,
     mut streams: Streams<S, K, E>,
-) -> (Streams<S, K, E>, io::Result<ExitCode>)
-    // The status and the messages tell how it ended, and behind that whether a log was lost: what was measured, by acts that the link
-    // told from none on, as the sink has it that is handed back; or that no log, no link or no clock could be had, and then nothing was
-    // read or written.
-    ensures told { IfOk result.1 (λ status. TellsRun S.Source K.Sink E.contents (is_some log.entry) station streams result.0 (exit_status status)) }
+) -> (
+    Streams<S, K, E>,
+    io::Result<ExitCode>,
+    Option<Telling<PlacedLink<'a, R>>>,
+)
+    // The status and the messages tell how it ended, and behind that whether a log was lost: what was measured, by the acts that the link
+    // told from none on, as link and sink have it that are handed back; or that no log, no link or no clock could be had, and then nothing
+    // was read or written.
+    ensures told { IfOk result.1 (λ status. TellsRun S.Source K.Sink K.is_durable E.contents (is_some log.entry) station streams result.0 (acts_of result.2) (exit_status status)) }
 
     // Status 0 only where the source gave a text to its end, and the run over its commands is done.
-    ensures done { IfOk result.1 (λ status. exit_status status ≡ 0 → MeasuresAllFromNone S.Source K.Sink E.contents station streams result.0) }
+    ensures done { IfOk result.1 (λ status. exit_status status ≡ 0 → MeasuresAllFromNone S.Source K.Sink E.contents station streams result.0 (acts_of result.2)) }
     ensures bound { IfOk result.1 (λ status. exit_status status ≤ 1) }
 {
     let Ends { link, moment, log } = match open_ends(rt, spot, log) {
         Ok(ends) => ends,
         Err(fault) => {
             let ended = tell_counts(Err(Stop::Run(fault)), &mut streams.messages);
-            return (streams, ended);
+            return (streams, ended, None);
         }
     };
     let station = station.begun(moment);
     let told = Telling::new(link);
     let mut link = Noticing::new(told, spot.noticed);
     match log {
-        None => measure_over(alloc, &mut link, station, spot, streams),
+        None => {
+            let (streams, ended) = measure_over(alloc, &mut link, station, spot, streams);
+            (streams, ended, Some(link.into_link()))
+        }
         Some(log) => {
             let mut logged = Logged::new(link, log, moment.utc);
-            measure_logged(alloc, &mut logged, station, spot, streams)
+            let (streams, ended) = measure_logged(alloc, &mut logged, station, spot, streams);
+            (streams, ended, Some(logged.into_link().into_link()))
         }
     }
 }
@@ -139,7 +148,7 @@ pub(crate) fn measure_over<L: Link, S: Source, K: Durable, E: Write>(
     streams: Streams<S, K, E>,
 ) -> (Streams<S, K, E>, io::Result<ExitCode>)
     // What the text was, what of its commands was measured, and that the messages and the status tell how that ended.
-    ensures told { IfOk result.1 (λ status. TellsMeasuring S.Source K.Sink E.contents station (L.acts link.old) (L.acts link.new) streams result.0 (exit_status status)) }
+    ensures told { IfOk result.1 (λ status. TellsMeasuring S.Source K.Sink K.is_durable E.contents station (L.acts link.old) (L.acts link.new) streams result.0 (exit_status status)) }
 
     // Status 0 only where the source gave a text to its end, and the run over its commands is done.
     ensures done { IfOk result.1 (λ status. exit_status status ≡ 0 → MeasuresAll S.Source K.Sink E.contents station (L.acts link.old) (L.acts link.new) streams result.0) }

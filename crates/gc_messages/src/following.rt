@@ -1,11 +1,11 @@
 //! A file of rows that is where its path leads: where it was moved or deleted, rows go on in a new one at that path.
 
-ghost use Rattle.std.specs.Prelude.{◌≡◌, None};
-ghost use Rattle.gc_files.specs.Sinks.{has_failed, is_durable};
+ghost use Rattle.std.specs.Prelude.{◌≡◌, [], Some};
+ghost use Rattle.gc_files.specs.Sinks.{has_failed, is_durable, steps_in};
 
 use crate::files::FilesSeen;
 use crate::oddity::Noticed;
-use gc_files::{RowsFile, SystemFile, end_at, open_at};
+use gc_files::{Done, Past, RowsFile, SystemFile, end_at, open_at};
 use gc_lines::{Durable, PortFailed, Sink};
 use std::alloc::Global;
 use std::cell::Cell;
@@ -14,7 +14,7 @@ use std::rt::Files;
 
 /// A file of rows by its path. Between two rows it looks whether the path still leads to the file. Where it doesn't, and a file can
 /// be had there as at the start, the rows go on in that one, behind its head; else they go on in the old one. What became of it is
-/// noted in `noticed`.
+/// noted in `noticed`. What was appended to all of these files, in order, counts as taken.
 #[derive(Drop)]
 pub struct Followed<'a, R> {
     rt: &'a R,
@@ -22,10 +22,14 @@ pub struct Followed<'a, R> {
     path: &'a str,
     /// The file that takes the rows.
     pub rows: RowsFile<SystemFile>,
+    // What was done to the files that were left, one after the other: in proofs alone.
+    left: Past,
     noticed: &'a Cell<Noticed>,
 }
 
 impl<'a, R: Files<File = File>> Followed<'a, R> {
+    ghost use Rattle.gc_messages.specs.Following.{bytes_in};
+
     /// A file of rows that was opened at this path.
     pub fn new(
         rt: &'a R,
@@ -34,13 +38,15 @@ impl<'a, R: Files<File = File>> Followed<'a, R> {
         rows: RowsFile<SystemFile>,
         noticed: &'a Cell<Noticed>,
     ) -> Followed<'a, R>
-        ensures { result.rows ≡ rows }
+        ensures is { result.rows ≡ rows }
+        ensures fresh { steps_in rows ≡ [] → bytes_in result ≡ [] }
     {
         Followed {
             rt,
             alloc,
             path,
             rows,
+            left: Past::new(),
             noticed,
         }
     }
@@ -52,6 +58,7 @@ impl<'a, R: Files<File = File>> Followed<'a, R> {
             alloc,
             path,
             rows,
+            left: _,
             noticed: _,
         } = self;
         end_at(rt, alloc, path, rows);
@@ -65,7 +72,9 @@ impl<'a, R: Files<File = File>> Followed<'a, R> {
 }
 
 impl<'a, R: Files<File = File>> Sink for Followed<'a, R> {
-    ghost taken = { λ _. None };
+    ghost use Rattle.gc_messages.specs.Following.{bytes_in};
+
+    ghost taken = { λ f. Some (bytes_in f) };
 
     ghost failed = { λ f. has_failed f.rows };
 
@@ -117,6 +126,7 @@ impl<'a, R: Files<File = File>> Durable for Followed<'a, R> {
                     is_astray: false,
                     ..files
                 });
+                self.left = self.left.then(&Done::All(self.rows.past()));
                 self.rows = rows;
                 match self.rows.sync() {
                     Ok(()) => Ok(()),

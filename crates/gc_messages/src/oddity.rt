@@ -137,6 +137,20 @@ impl<'a, L: Link> Noticing<'a, L> {
 }
 
 impl<'a, L> Noticing<'a, L> {
+    /// The link inside.
+    pub fn into_link(self) -> L
+        ensures { result ≡ self.entry.link }
+    {
+        let Noticing {
+            link,
+            seen: _,
+            front: _,
+            count: _,
+            last: _,
+        } = self;
+        link
+    }
+
     // Looks at what came.
     fn look(&mut self, bytes: &[u8])
         ensures { self.new.link ≡ self.old.link }

@@ -1,5 +1,5 @@
-mod Columns
-mod Rows
+pub mod Columns
+pub mod Rows
 mod JsonLines
 mod Members
 mod Told

@@ -1,6 +1,6 @@
 pub mod Acting
 mod Always
-mod Answers
+pub mod Answers
 mod Beginnings
 pub mod Booking
 mod Chaining

@@ -1,6 +1,6 @@
-use Rattle.std.proofs.Common.{rules, ◌≡◌, ◌≤◌, ◌+◌, ◌-◌, length, arith}
+use Rattle.std.proofs.Common.{rules, ◌≤◌, ◌+◌, arith}
 use Rattle.gc_files.specs.Files.{content}
-use Rattle.gc_files.proofs.Feeds.{puts_block, counts_block, puts_all, counts_all}
+use Rattle.gc_files.proofs.Feeds.{puts_block, counts_block, puts_all}
 use Rattle.gc_files.proofs.Looking.{size_of}
 use Rattle.gc_files.proofs.copying.copy_lines.Goals as goal
 

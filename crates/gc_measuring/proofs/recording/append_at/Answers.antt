@@ -1,16 +1,22 @@
-use Rattle.std.proofs.Common.{inl, inr, refl, sym, ◌∙◌}
+use Rattle.std.proofs.Common.{inl, inr, refl, Some, ap, ◌∙◌}
 use Rattle.std.proofs.lemmas.Result.{IfOk-weaker}
-use Rattle.gc_words.specs.Stations.{appended}
-use Rattle.gc_measuring.proofs.Unseen.{unseen_run, unseen_all}
+use Rattle.gc_messages.specs.Following.{bytes_in}
 use Rattle.gc_measuring.proofs.recording.append_at.Goals as goal
 
 pub returns-in-Ok-clause-told : goal.returns-in-Ok-clause-told
 returns-in-Ok-clause-told g c =
     IfOk-weaker c.measure_at-filed.result.1 _ _
     (λ status t. inr (record {
-      begun = c.open_records.new.messages;
-      run = unseen_run _ _ _ _ _ _ _ _ _ _ c.with_output-filed.ensures.input c.with_output-filed.ensures.messages (sym c.with_output-streams.ensures.input)
-          (sym c.with_output-streams.ensures.messages) (c.with_output-streams.ensures.output ∙ c.with_output-filed.ensures.before) t;
+      begun = c.with_output-filed.result.0;
+      ended = c.measure_at-filed.result.0;
+      filed = record {
+        fresh = ap (λ f. Some (bytes_in f)) c.with_output-filed.ensures.output ∙ ap Some (c.new-followed.ensures.fresh c.in-Ok.ensures.fresh);
+        left = ap Some c.with_output-streams.ensures.before;
+        input = c.with_output-filed.ensures.input;
+        read = c.with_output-streams.ensures.input;
+        messages = c.with_output-streams.ensures.messages;
+      };
+      run = t;
     }))
     (rw (c.appended.ensures) at c.measure_at-filed.ensures.told)
 
@@ -18,8 +24,16 @@ pub returns-in-Ok-clause-done : goal.returns-in-Ok-clause-done
 returns-in-Ok-clause-done g c =
     IfOk-weaker c.measure_at-filed.result.1 _ _
     (λ status d zero. record {
-      begun = c.open_records.new.messages;
-      all = unseen_all _ _ _ (appended c.args.station) _ _ _ _ c.with_output-filed.ensures.input c.with_output-filed.ensures.messages (sym c.with_output-streams.ensures.input) (d zero);
+      begun = c.with_output-filed.result.0;
+      ended = c.measure_at-filed.result.0;
+      filed = record {
+        fresh = ap (λ f. Some (bytes_in f)) c.with_output-filed.ensures.output ∙ ap Some (c.new-followed.ensures.fresh c.in-Ok.ensures.fresh);
+        left = ap Some c.with_output-streams.ensures.before;
+        input = c.with_output-filed.ensures.input;
+        read = c.with_output-streams.ensures.input;
+        messages = c.with_output-streams.ensures.messages;
+      };
+      all = d zero;
     })
     (rw (c.appended.ensures) at c.measure_at-filed.ensures.done)
 

@@ -1,5 +1,5 @@
 use Rattle.std.specs.Option.{is_some}
-use Rattle.std.proofs.Common.{inl, inr, refl, false, Err, sym, ap, ◌∙◌}
+use Rattle.std.proofs.Common.{inl, inr, refl, false, Err, Some, sym, ap, ◌∙◌}
 use Rattle.std.proofs.lemmas.Result.{IfOk-weaker}
 use Rattle.gc_measuring.specs.declared.stop.Stop.TheVariants.{Run}
 use Rattle.gc_measuring.proofs.Unbegun.{none_is_lost, sink_is_as_it_was}
@@ -14,7 +14,7 @@ returns-in-Err-clause-told g c =
       behind = c.tell_counts-ended.new.messages;
       is_lost = false;
       logged = none_is_lost _;
-      ran = inr (c.in-Err.fault, refl, c.in-Err.ensures.fault, refl, refl, refl);
+      ran = inr (c.in-Err.fault, refl, c.in-Err.ensures.fault, refl, refl, refl, refl);
       fails = sink_is_as_it_was _ _ _ c.in-Err.ensures.fault;
       counts = told;
       loss = refl;
@@ -23,44 +23,62 @@ returns-in-Err-clause-told g c =
 
 pub returns-in-None-clause-told : goal.returns-in-None-clause-told
 returns-in-None-clause-told g c =
-    IfOk-weaker c.measure_over.result.1 _ _
+    IfOk-weaker c.measure_over-streams.result.1 _ _
     (λ status t. record {
       end = t.end;
       between = t.between;
-      behind = c.measure_over.result.0.messages;
+      behind = c.measure_over-streams.result.0.messages;
       is_lost = false;
       logged = none_is_lost _;
-      ran = inl (c.measure_over.new.link.link.history.acts, (c.in-Ok.ends.moment.utc, t.measured));
+      ran = inl (record {
+        told = c.measure_over-streams.new.link.link.history.acts;
+        is = ap (λ l. Some l.history.acts) c.into_link.ensures;
+        measured = (c.in-Ok.ends.moment.utc, t.measured);
+        all_last = t.all_last;
+      });
       fails = t.fails;
       counts = t.counts;
       loss = refl;
     })
-    (rw (c.new-link.ensures, c.new-told.ensures, c.begun-station.ensures) at c.measure_over.ensures.told)
+    (rw (c.new-link.ensures, c.new-told.ensures, c.begun-station.ensures) at c.measure_over-streams.ensures.told)
 
 pub returns-in-None-clause-done : goal.returns-in-None-clause-done
 returns-in-None-clause-done g c =
-    IfOk-weaker c.measure_over.result.1 _ _
-    (λ status d zero. (c.measure_over.new.link.link.history.acts, c.in-Ok.ends.moment.utc, d zero))
-    (rw (c.new-link.ensures, c.new-told.ensures, c.begun-station.ensures) at c.measure_over.ensures.done)
+    IfOk-weaker c.measure_over-streams.result.1 _ _
+    (λ status d zero. (
+      c.measure_over-streams.new.link.link.history.acts,
+      ap (λ l. Some l.history.acts) c.into_link.ensures,
+      (c.in-Ok.ends.moment.utc, d zero),
+    ))
+    (rw (c.new-link.ensures, c.new-told.ensures, c.begun-station.ensures) at c.measure_over-streams.ensures.done)
 
 pub returns-in-Some-clause-told : goal.returns-in-Some-clause-told
 returns-in-Some-clause-told g c =
-    IfOk-weaker c.measure_logged.result.1 _ _
+    IfOk-weaker c.measure_logged-streams.result.1 _ _
     (λ status t. record {
       end = t.1.end;
       between = t.1.between;
       behind = t.0;
       is_lost = _;
       logged = λ _. sym c.in-Ok.ensures.logged ∙ ap is_some c.in-Some.is;
-      ran = inl (c.measure_logged.new.logged.link.link.history.acts, (c.in-Ok.ends.moment.utc, t.1.measured));
+      ran = inl (record {
+        told = c.measure_logged-streams.new.logged.link.link.history.acts;
+        is = ap (λ l. Some l.history.acts) (c.into_link-in-Some-2.ensures ∙ ap (λ n. n.link) c.into_link-in-Some.ensures);
+        measured = (c.in-Ok.ends.moment.utc, t.1.measured);
+        all_last = t.1.all_last;
+      });
       fails = t.1.fails;
       counts = t.1.counts;
       loss = t.2;
     })
-    (rw (c.new-logged.ensures, c.new-link.ensures, c.new-told.ensures, c.begun-station.ensures) at c.measure_logged.ensures.told)
+    (rw (c.new-logged.ensures, c.new-link.ensures, c.new-told.ensures, c.begun-station.ensures) at c.measure_logged-streams.ensures.told)
 
 pub returns-in-Some-clause-done : goal.returns-in-Some-clause-done
 returns-in-Some-clause-done g c =
-    IfOk-weaker c.measure_logged.result.1 _ _
-    (λ status d zero. (c.measure_logged.new.logged.link.link.history.acts, c.in-Ok.ends.moment.utc, d zero))
-    (rw (c.new-logged.ensures, c.new-link.ensures, c.new-told.ensures, c.begun-station.ensures) at c.measure_logged.ensures.done)
+    IfOk-weaker c.measure_logged-streams.result.1 _ _
+    (λ status d zero. (
+      c.measure_logged-streams.new.logged.link.link.history.acts,
+      ap (λ l. Some l.history.acts) (c.into_link-in-Some-2.ensures ∙ ap (λ n. n.link) c.into_link-in-Some.ensures),
+      (c.in-Ok.ends.moment.utc, d zero),
+    ))
+    (rw (c.new-logged.ensures, c.new-link.ensures, c.new-told.ensures, c.begun-station.ensures) at c.measure_logged-streams.ensures.done)

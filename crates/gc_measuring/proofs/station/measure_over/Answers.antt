@@ -11,6 +11,7 @@ returns-clause-told g c =
       end = c.run_station_text-streams.result.1;
       between = c.run_station_text-streams.result.0.messages;
       measured = (m.0, m.1.0, m.2);
+      all_last = c.run_station_text-streams.ensures.is_durable;
       fails = c.run_station_text-streams.ensures.output;
       counts = told;
     })

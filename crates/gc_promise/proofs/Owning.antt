@@ -1,0 +1,127 @@
+-- The rows of a run in the field are their own.
+use Rattle.std.proofs.Common.{◌≡◌, ℕ, ◌<◌, Bool, true, false, List, [], ◌∷◌, ◌++◌, length, Option, Some, Result, Ok, Err, refl, ap, ◌∙◌, arith}
+use Rattle.std.specs.Prelude.{codes}
+use Rattle.std.specs.List.{AllByRecursion}
+use Rattle.gc_lines.specs.Readers.{reply_at}
+use Rattle.gc_lines.specs.Replies.{ReplyFields, IsReply}
+use Rattle.gc_lines.specs.declared.fault.LineFault.{LineFault}
+use Rattle.gc_lines.proofs.Replies.{reply_found}
+use Rattle.gc_client.specs.Rule.{heard, id_in}
+use Rattle.gc_instrument.specs.State.{KeptReply}
+use Rattle.gc_texts.specs.Endings.{End, Answered, Unreadable, Elsewhere, Late, Lost, Skipped, Missed, word_of, fault_of, line_of}
+use Rattle.gc_texts.specs.Names.{name_text}
+use Rattle.gc_texts.specs.Stamps.{stamp_text}
+use Rattle.gc_texts.specs.declared.commands.Command.{Command}
+use Rattle.gc_texts.specs.declared.name.Name.{Name}
+use Rattle.gc_texts.specs.declared.tasks.Task.{Task}
+use Rattle.gc_rows.specs.Records.{record_text}
+use Rattle.gc_rows.specs.Rows.{row_of, row_fields, when_fields, what_fields, fault_field, reply_fields, more_fields, com_of, code_of, values_of}
+use Rattle.gc_rows.specs.declared.when.When.{When}
+use Rattle.gc_rows.proofs.Columns.{reply_columns}
+use Rattle.gc_rows.proofs.Rows.{read_back}
+use Rattle.gc_links.specs.Acts.{Act}
+use Rattle.gc_station.specs.Answers.{answer_of, IsTrueRecord}
+use Rattle.gc_station.specs.Parts.{Part}
+use Rattle.gc_station.specs.Records.{Record}
+use Rattle.gc_station.specs.Scopes.{Scope}
+use Rattle.gc_station.specs.declared.plan.Plan.{Plan}
+use Rattle.gc_station.proofs.Answers.{answers_true}
+use Rattle.gc_words.specs.declared.layout.Layout.{Layout}
+use Rattle.gc_measuring.specs.Measuring.{text_in, when_of}
+use Rattle.gc_world.specs.World.{Ends}
+use Rattle.gc_field.specs.Instrument.{AnyState}
+use Rattle.gc_field.specs.Runs.{IsOwnAnswer}
+use Rattle.gc_field.specs.Shown.{Stretch}
+use Rattle.gc_field.proofs.Joining.{run_faithful}
+use Rattle.gc_promise.specs.Rows.{table, column, Says, IsOwnRow, RowsAreTheirOwn}
+
+-- a line with an id is a reply
+a_reply : (line : List ℕ) (id : ℕ) → heard line ≡ Some id → (r : ReplyFields) × IsReply line r
+a_reply line id h = by_read (reply_at line) refl where
+  by_read : (read : Result ReplyFields LineFault) → reply_at line ≡ read → (r : ReplyFields) × IsReply line r
+  by_read (Ok r) e = (r, reply_found line r e)
+  by_read (Err f) e = let none = ap id_in e in absurd (cc)
+
+-- the line that answered a command is that of its row
+same_line : (end : End) (line : List ℕ) → answer_of end ≡ Some line → line_of end ≡ Some line
+same_line (Answered answer l) line e = e
+same_line (Unreadable l fault) line e = e
+same_line (Elsewhere l) line e = e
+same_line Late line e = absurd (cc)
+same_line Lost line e = absurd (cc)
+same_line Skipped line e = absurd (cc)
+same_line Missed line e = absurd (cc)
+
+module _ (columns : Bool) (when : When) (name : List ℕ) (command : Command) (end : End) where
+  -- the fields of a row, by the line of its reply
+  abbrev by_line : Option (List ℕ) → List (List ℕ)
+  by_line line =
+      stamp_text when.run ∷ (when_fields when ++ (what_fields command name ++ ((word_of end ∷ fault_field (fault_of end) ∷ reply_fields line) ++ more_fields columns command.call end)))
+
+  two_fields : 1 < length (row_fields columns when name command end)
+  two_fields = omega arith
+
+  under_rc_com : (line : List ℕ) → line_of end ≡ Some line → column (codes "rc_com") (row_fields columns when name command end) ≡ com_of line
+  under_rc_com line e = ap (λ o. column (codes "rc_com") (by_line o)) e
+
+  under_rc : (line : List ℕ) → line_of end ≡ Some line → column (codes "rc") (row_fields columns when name command end) ≡ code_of line
+  under_rc line e = ap (λ o. column (codes "rc") (by_line o)) e
+
+  under_values : (line : List ℕ) → line_of end ≡ Some line → column (codes "values") (row_fields columns when name command end) ≡ values_of line
+  under_values line e = ap (λ o. column (codes "values") (by_line o)) e
+
+-- a row of a table is that of its fields
+in_table : (columns : Bool) (when : When) (name : List ℕ) (command : Command) (end : End)
+    → record_text (table columns) when name command end ≡ row_of (row_fields columns when name command end)
+in_table false when name command end = refl
+in_table true when name command end = refl
+
+abbrev fields_of : Layout → Bool → List Name → Record → List (List ℕ)
+fields_of layout columns names r = row_fields columns (when_of layout.run r) (name_text r.command.target names) r.command r.end
+
+says : (layout : Layout) (columns : Bool) (names : List Name) (r : Record) (line : List ℕ) → answer_of r.end ≡ Some line
+    → (reply : ReplyFields) × IsReply line reply → Says (fields_of layout columns names r) r line
+says layout columns names r line answered reply =
+    let when = when_of layout.run r in
+    let name = name_text r.command.target names in
+    let same = same_line r.end line answered in
+    let said = reply_columns line reply.0 reply.1 in
+    record {
+      cycle = refl;
+      place = refl;
+      target = refl;
+      procedure = refl;
+      outcome = refl;
+      reply = reply.0;
+      is_reply = reply.1;
+      rc_com = rw (under_rc_com columns when name r.command r.end line same) said.rc_com;
+      rc = rw (under_rc columns when name r.command r.end line same) said.rc;
+      values = under_values columns when name r.command r.end line same ∙ said.values;
+    }
+
+module _ {State : Type 0} (ends : Ends State) (kept : State → Option KeptReply) (layout : Layout) (columns : Bool) (names : List Name) (form : layout.form ≡ table columns)
+    (plan : Plan) (commands : List Task) (scope : Scope) (acts : List Act) (ps : List Part) (ss : List (Stretch State)) where
+  one : (r : Record) → IsOwnAnswer ends AnyState kept commands ps ss r → IsTrueRecord plan commands scope acts r → IsOwnRow ends AnyState kept layout names commands ps ss r
+  one r own came line answered =
+      let true_one = came line answered in
+      let fields = fields_of layout columns names r in
+      let row : text_in layout names r ≡ row_of fields =
+      ap (λ f. record_text f (when_of layout.run r) (name_text r.command.target names) r.command r.end) form
+      ∙ in_table columns (when_of layout.run r) (name_text r.command.target names) r.command r.end in
+      record {
+        fields = fields;
+        row = row;
+        reads_back = λ behind. rw row (read_back.row fields behind (two_fields columns (when_of layout.run r) (name_text r.command.target names) r.command r.end));
+        says = says layout columns names r line answered (a_reply line _ true_one.id);
+        own = own line answered;
+      }
+
+  each : (records : List Record) → AllByRecursion (IsOwnAnswer ends AnyState kept commands ps ss) records → AllByRecursion (IsTrueRecord plan commands scope acts) records
+      → AllByRecursion (IsOwnRow ends AnyState kept layout names commands ps ss) records
+  each [] own came = tt
+  each (r ∷ records) own came = (one r own.0 came.0, each records own.1 came.1)
+
+pub rows_own : {State : Type 0} → RowsAreTheirOwn State
+rows_own ends kept is layout columns names form plan commands scope acts u rs field =
+    let faithful = run_faithful ends AnyState kept is plan commands scope acts u rs field in
+    each ends kept layout columns names form plan commands scope acts _ _ _ faithful.own (answers_true plan commands scope acts field.runs)

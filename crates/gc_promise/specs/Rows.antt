@@ -1,0 +1,88 @@
+-- The rows of a station in the field, this project's own: what stands in the columns of a row of an answer was made by the instrument on
+-- executing the very request of that row's cycle and place.
+use Rattle.std.specs.Prelude.{◌≡◌, ℕ, Bool, true, false, List, [], ◌∷◌, ◌++◌, map, Option, Some, nat_eq, if◌then◌else◌, codes}
+use Rattle.std.specs.Cmp.Lexicographic.{pointwise}
+use Rattle.std.specs.Fmt.{decimal}
+use Rattle.std.specs.List.{AllByRecursion}
+use Rattle.csv.specs.Machine.{next_record}
+use Rattle.csv.specs.Reading.{default_config}
+use Rattle.csv.specs.declared.parser.State.TheVariants.{StartRecord}
+use Rattle.gc_lines.specs.Numbers.{IsNumber}
+use Rattle.gc_lines.specs.Replies.{ReplyFields, IsReply}
+use Rattle.gc_catalogue.specs.Calls.{call_fields}
+use Rattle.gc_instrument.specs.State.{KeptReply}
+use Rattle.gc_texts.specs.Endings.{word_of}
+use Rattle.gc_texts.specs.Logs.{escaped}
+use Rattle.gc_texts.specs.declared.name.Name.{Name}
+use Rattle.gc_texts.specs.declared.tasks.Task.{Task}
+use Rattle.gc_rows.specs.Records as rows
+use Rattle.gc_rows.specs.Rows.{row_of}
+use Rattle.gc_rows.specs.declared.record.Form.{Form}
+use Rattle.gc_rows.specs.declared.record.Form.TheVariants.{Csv, Columns}
+use Rattle.gc_links.specs.Acts.{Act}
+use Rattle.gc_station.specs.Answers.{answer_of}
+use Rattle.gc_station.specs.Model.{opening}
+use Rattle.gc_station.specs.Parts.{Part, parts_of}
+use Rattle.gc_station.specs.Records.{Record}
+use Rattle.gc_station.specs.Runs.{stood}
+use Rattle.gc_station.specs.Scopes.{Scope}
+use Rattle.gc_station.specs.declared.plan.Plan.{Plan}
+use Rattle.gc_words.specs.declared.layout.Layout.{Layout}
+use Rattle.gc_measuring.specs.Measuring.{text_in}
+use Rattle.gc_world.specs.World.{Ends}
+use Rattle.gc_field.specs.Begin.{UnderWay}
+use Rattle.gc_field.specs.Beginnings.{Run}
+use Rattle.gc_field.specs.Instrument.{IsAnInstrument, AnyState}
+use Rattle.gc_field.specs.Runs.{IsInField, IsItsOwn}
+use Rattle.gc_field.specs.Shown.{Stretch, stretches}
+
+-- the form of a table, with a column for each quantity or without
+abbrev pub table : Bool → Form
+table false = Csv
+table true = Columns
+
+-- the field that stands under a name, in a row whose fields stand under these names; none where there is no such name
+abbrev pub under : List ℕ → List (List ℕ) → List (List ℕ) → List ℕ
+under name [] fields = []
+under name (n ∷ names) [] = []
+under name (n ∷ names) (field ∷ fields) = if pointwise nat_eq n name then field else under name names fields
+
+-- the field of a row in one of the first thirteen columns
+abbrev pub column : List ℕ → List (List ℕ) → List ℕ
+column name fields = under name rows.names fields
+
+-- what the fields of a row say of the record, and of the line of its reply
+pub record Says (fields : List (List ℕ)) (r : Record) (line : List ℕ) : Type 0 where
+  pub cycle : column (codes "cycle") fields ≡ decimal r.cycle
+  pub place : column (codes "place") fields ≡ decimal r.place
+  pub target : column (codes "target") fields ≡ decimal r.command.target
+  pub procedure : column (codes "procedure") fields ≡ decimal (call_fields r.command.call).number
+  pub outcome : column (codes "outcome") fields ≡ word_of r.end
+  pub reply : ReplyFields
+  pub is_reply : IsReply line reply
+  pub rc_com : IsNumber (column (codes "rc_com") fields) reply.rc_com
+  pub rc : IsNumber (column (codes "rc") fields) reply.rc
+  pub values : column (codes "values") fields ≡ reply.params
+
+module _ {State : Type 0} (ends : Ends State) (Good : State → Type 0) (kept : State → Option KeptReply) where
+  -- a row in a table: a reader of comma-separated values gives it back as its fields, whatever stands behind it; these say what the line of the
+  -- record's reply says; and that line was made by the instrument on executing the request of the record's cycle and place
+  pub record IsRowOwn (layout : Layout) (names : List Name) (commands : List Task) (ps : List Part) (ss : List (Stretch State)) (r : Record) (line : List ℕ) : Type 0 where
+    pub fields : List (List ℕ)
+    pub row : text_in layout names r ≡ row_of fields
+    pub reads_back : (behind : List ℕ) → next_record default_config StartRecord [] [] (text_in layout names r ++ behind) ≡ Some (map escaped fields, StartRecord, behind)
+    pub says : Says fields r line
+    pub own : IsItsOwn ends Good kept commands ps ss r line
+
+  -- a record, where it is an answer
+  abbrev pub IsOwnRow : Layout → List Name → List Task → List Part → List (Stretch State) → Record → Type 0
+  IsOwnRow layout names commands ps ss r = (line : List ℕ) → answer_of r.end ≡ Some line → IsRowOwn layout names commands ps ss r line
+
+-- for any instrument, every layout of a table, all names of targets, every plan, all commands, every run of the station, and all that the line
+-- and the instrument may do meanwhile
+abbrev pub RowsAreTheirOwn : Type 0 → Type 0
+RowsAreTheirOwn State =
+    (ends : Ends State) (kept : State → Option KeptReply) → IsAnInstrument ends AnyState kept →
+    (layout : Layout) (columns : Bool) (names : List Name) → layout.form ≡ table columns →
+    (plan : Plan) (commands : List Task) (scope : Scope) (acts : List Act) (u : UnderWay State) (rs : List (Run State)) → IsInField ends AnyState kept plan commands scope acts u rs →
+    AllByRecursion (IsOwnRow ends AnyState kept layout names commands (parts_of plan commands (opening plan scope) acts) (stretches ends u rs)) (stood plan commands scope acts).records
