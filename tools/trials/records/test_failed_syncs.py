@@ -14,7 +14,7 @@ from stations import PATIENCE, appended, appending, copied_line, instrument, mar
 from test_files_of_rows import ANSWERED
 
 pytestmark = pytest.mark.skipif(not shutil.which("strace"), reason="strace is missing")
-COUNTS = "answered 3 late 0 lost 0 skipped 0 unreadable 0 missed 0\n"
+COUNTS = "answered 3 late 0 lost 0 skipped 0 unreadable 0 missed 0 elsewhere 0\n"
 
 
 def injecting(path, *calls):
