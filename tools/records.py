@@ -36,6 +36,11 @@ class NoRow(Exception):
     """Why a line is no row."""
 
 
+def counts_line(**count):
+    """The last line of a run with so many rows of each outcome; none of an outcome that isn't named."""
+    return " ".join(f"{outcome} {count.get(outcome, 0)}" for outcome in OUTCOMES)
+
+
 def printable(data):
     """A line as printable ASCII: each other byte is `\\xNN`, so that any sink takes it."""
     return data.decode("latin-1").translate(ESCAPES)

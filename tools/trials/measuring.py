@@ -7,7 +7,7 @@ import re
 from pathlib import Path
 
 from programs import PATIENCE, Run
-from records import HEAD, MOMENT, OUTCOMES, REPLIED, UNSENT, moment
+from records import HEAD, MOMENT, OUTCOMES, REPLIED, UNSENT, counts_line, moment
 
 STAMP = MOMENT.pattern
 # The line that says at the start what a run has to do, where, and what it waits for.
@@ -50,8 +50,7 @@ def rows_of(written):
 
 def counts_of(rows):
     """The last line of a run with these rows."""
-    count = collections.Counter(row["outcome"] for row in rows)
-    return " ".join(f"{outcome} {count[outcome]}" for outcome in OUTCOMES)
+    return counts_line(**collections.Counter(row["outcome"] for row in rows))
 
 
 def utc_of(row):

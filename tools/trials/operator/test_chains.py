@@ -7,6 +7,7 @@ import pytest
 
 from far_end import CLOSES, closes, good, loses, standing
 from measuring import STAMP, finished, measuring, outcomes_of
+from records import counts_line
 
 PRISMS = b"7 9027 0.5,1.5,0,1,0\n7 17017 2\n8 9027 2.25,1.625,0,1,0\n8 17017 2\n"
 SHORT = "--deadline 300 --quiet 300"
@@ -178,4 +179,4 @@ def test_counts(program):
             ends = ["answered", "late", "lost", "answered", "unreadable", "skipped"]
             assert [row["outcome"] for row in rows] == ends, "the outcomes"
             messages = run.messages().splitlines()[-1]
-            assert messages == "answered 2 late 1 lost 1 skipped 1 unreadable 1 missed 0 elsewhere 0", "the last line"
+            assert messages == counts_line(answered=2, late=1, lost=1, skipped=1, unreadable=1), "the last line"

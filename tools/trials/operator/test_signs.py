@@ -14,7 +14,7 @@ import pytest
 from far_end import LOSES, closes, good, loses, standing
 from measuring import STAMP, expect_each_once, finished, measuring
 from programs import Run, ended, until
-from records import moment
+from records import counts_line, moment
 
 TWO = b"7 5003\n8 5004\n"
 AWAY, AGAIN = f"geocom: no connection since {STAMP}", "geocom: connected again"
@@ -153,7 +153,7 @@ def test_terminal(program, what, words, most):
             while select.select([terminal], [], [], 0.1)[0] and not shown.endswith(b"elsewhere 0\n"):
                 shown += terminal.read(4096)
     *lines, last = shown.decode().split("\r\x1b[K")
-    assert last == "answered 8 late 0 lost 0 skipped 0 unreadable 0 missed 0 elsewhere 0\n", "the last line"
+    assert last == counts_line(answered=8) + "\n", "the last line"
     assert bool(lines) == bool(most)
     if lines:
         start, end, lines[0] = lines[0].partition(" one after the other\n")

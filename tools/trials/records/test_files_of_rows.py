@@ -4,7 +4,7 @@ import os
 import time
 
 from programs import until
-from records import HEAD
+from records import HEAD, counts_line
 from stations import PATIENCE, ROTATION, appended, appending, instrument, numbers, rows_in, split, torn_line
 
 LOST = b"2026-11-24T00:00:00.000Z,2026-11-24T00:00:01.000Z,2026-11-24T00:00:02.000Z,1,0,7,,5003,lost,,,,\n"
@@ -22,7 +22,7 @@ def test_starts_whole(program, folder):
         held = held or b""
         with instrument() as far:
             found = appended(program, far, path, cycles=1)
-        counts = "answered 3 late 0 lost 0 skipped 0 unreadable 0 missed 0 elsewhere 0\n"
+        counts = counts_line(answered=3) + "\n"
         assert found == (0, b"", torn_line(torn) + counts), f"of {held[-60:]!r}"
         rows, rest = split(path.read_bytes())
         assert (numbers(rows), rest) == ([1, 2, 3], b""), f"of {held[-60:]!r}"
