@@ -20,13 +20,15 @@ use Rattle.gc_ask.proofs.FirstReplies.{lines_behind-append, first_reply-at}
 
 -- One request that waits.
 
+-- fewer than one is none
 one_waits : (n p : ℕ) (b : Bool) → b ≡ ltb p 1 → b ≡ true → p ≡ 0
 one_waits n p b is e = omega (arith, ltb-true p 1 (sym is ∙ e))
 
--- the reply with its id settles it alone, and nothing waits any more
+-- a line that fits the client which waits for request k settles that request alone, and nothing waits any more
 pub hears_one : (k : ℕ) (c : Command) (line : List ℕ) → fits (waiting_for k c) (heard line) ≡ true
     → ((hears (waiting_for k c) line (heard line)).settlements ≡ met (asked_for c) line ∷ []) × ((hears (waiting_for k c) line (heard line)).client ≡ idle (k + 1))
 hears_one k c line fit = by_id (heard line) fit where
+  -- whatever id is heard, where it fits, the request that waits is settled, and nothing waits any more
   by_id : (o : Option ℕ) → fits (waiting_for k c) o ≡ true → ((hears (waiting_for k c) line o).settlements ≡ met (asked_for c) line ∷ []) × ((hears (waiting_for k c) line o).client ≡ idle (k + 1))
   by_id None e = (cc)
   by_id (Some id) e =
@@ -35,18 +37,21 @@ hears_one k c line fit = by_id (heard line) fit where
 
 -- Requests and settlements in order.
 
+-- the request lines of commands, and of one more, are those of the commands, and that of the last
 texts_one : (k : ℕ) (done : List Command) (c : Command) → request_texts k (done ++ c ∷ []) ≡ request_texts k done ++ request_text (k + length done) c ∷ []
 texts_one k [] c = ap (λ n. request_text n c ∷ []) (omega arith)
 texts_one k (x ∷ done) c =
     let place : k + 1 + length done ≡ k + length (x ∷ done) = omega arith in
     ap (λ ts. request_text k x ∷ ts) (texts_one (k + 1) done c ∙ ap (λ n. request_texts (k + 1) done ++ request_text n c ∷ []) place)
 
+-- the text of the request lines of commands, and of one more, is that of the commands, and the line of the last
 pub all_texts_one : (done : List Command) (c : Command) → all_of (request_texts 0 (done ++ c ∷ [])) ≡ all_of (request_texts 0 done) ++ request_text (length done) c
 all_texts_one done c =
     let place : 0 + length done ≡ length done = omega arith in
     ap all_of (texts_one 0 done c ∙ ap (λ n. request_texts 0 done ++ request_text n c ∷ []) place) ∙ all_of-append (request_texts 0 done) (request_text (length done) c ∷ [])
     ∙ ap (λ t. all_of (request_texts 0 done) ++ t) (append-nil (request_text (length done) c))
 
+-- the line of one more settlement comes behind those before it
 pub lines_last : (settled : List Settlement) (k : ℕ) (next : Settlement) → length settled ≡ k → settlement_lines (settled ++ next ∷ []) ≡ settlement_lines settled ++ lines_from k (next ∷ [])
 lines_last settled k next is =
     let place : 0 + length settled ≡ k = omega (arith, is) in
@@ -57,6 +62,7 @@ length_one xs x = length-append xs (x ∷ [])
 
 -- The bytes that came.
 
+-- where more bytes come, the lines that were looked at stay, and those behind them are of what was left and of the new bytes
 more_came : (given left more now : List ℕ) (looked : List (List ℕ)) → lines given ≡ looked ++ lines_behind now left → rest_of given ≡ rest_behind now left
     → (lines (given ++ more) ≡ looked ++ lines_behind now (left ++ more)) × (rest_of (given ++ more) ≡ rest_behind now (left ++ more))
 more_came given left more now looked seen rests = (
@@ -79,6 +85,7 @@ pub record Course (done : List Command) (given left : List ℕ) (kept : Kept) (c
   pub link : Appends link_old link_new (all_of (request_texts 0 done))
   pub sink : Appends sink_old sink_new (settlement_lines settled)
 
+-- before anything is asked, the course of no commands holds
 pub course_start : (kept : Kept) (client : ById) (link sink : Option (List ℕ)) → StandsFor kept [] → client ≡ idle 0 → Course [] [] [] kept client link link sink sink
 course_start kept client link sink s is = record {
   now = [];
@@ -94,7 +101,7 @@ course_start kept client link sink s is = record {
   sink = Appends-nil sink;
 }
 
--- what is asked of all that came, where no further command is
+-- of the commands that were asked, all that came settles what the course says
 pub asked_so : (done : List Command) (given left : List ℕ) (kept : Kept) (client : ById) (a b c d : Option (List ℕ)) (more : List ℕ)
     (at : Course done given left kept client a b c d) → asked done (given ++ more) ≡ at.settled
 asked_so done given left kept client a b c d more at =
@@ -102,7 +109,7 @@ asked_so done given left kept client a b c d more at =
     ap (λ xs. asked_from 0 xs (lines (given ++ more))) (sym (append-nil done)) ∙ ap (asked_from 0 (done ++ [])) (more_came given left more at.now at.looked at.seen at.rests).0
     ∙ at.asks [] came ∙ append-nil at.settled
 
--- what is asked of it, where one more command was sent
+-- where one more command was sent, all that came settles what the course says, and behind that what the first reply to this command does
 asked_on : (done : List Command) (given left : List ℕ) (kept : Kept) (client : ById) (a b c d : Option (List ℕ)) (more : List ℕ)
     (at : Course done given left kept client a b c d) (command : Command) (later : List Command) (r : Option Reply)
     → first_reply (waiting_for (length done) command) (lines_behind at.now (left ++ more)) ≡ r
@@ -112,12 +119,13 @@ asked_on done given left kept client a b c d more at command later r is =
     ap (asked_from 0 (done ++ command ∷ later)) (more_came given left more at.now at.looked at.seen at.rests).0
     ∙ at.asks (command ∷ later) came ∙ ap (λ x. at.settled ++ settled_by (waiting_for (length done) command) (asked_from (length done + 1) later) x) is
 
+-- the line that settles a request is its first reply
 first_is : (rest bytes left : List ℕ) (kept : Kept) (from to : ById) (settled : List Settlement.Settlement)
     (s : Settles from (record { rest = rest; bytes = bytes; left = left; kept = kept; client = to; settled = settled }))
     → first_reply from (lines_behind rest bytes) ≡ Some (record { line = s.line; later = lines_behind [] left })
 first_is rest bytes left kept from to settled s = ap (first_reply from) s.seen ∙ first_reply-at from s.front s.line (lines_behind [] left) s.none s.fits
 
--- what was settled, as the rule speaks of it
+-- what the client settled is that one request, by that line, and then it waits for nothing
 pub settled_is : (k : ℕ) (command : Command) (rest bytes left : List ℕ) (kept : Kept) (to : ById) (settled : List Settlement.Settlement)
     (s : Settles (waiting_for k command) (record { rest = rest; bytes = bytes; left = left; kept = kept; client = to; settled = settled }))
     → (map settlement_seen settled ≡ met (asked_for command) s.line ∷ []) × (to ≡ idle (k + 1))
@@ -125,7 +133,7 @@ settled_is k command rest bytes left kept to settled s =
     let one = hears_one k command s.line s.fits in
     (s.settles.seen ∙ one.0, s.client ∙ one.1)
 
--- what is asked where one more command was sent, and a line settles it
+-- where one more command was sent, and a line settles it, all that came settles what the course says, and this command by that line
 pub asked_with : (done : List Command) (given left : List ℕ) (kept : Kept) (client : ById) (a b c d : Option (List ℕ)) (more : List ℕ)
     (at : Course done given left kept client a b c d) (command : Command)
     (left' : List ℕ) (kept' : Kept) (to : ById) (settled : List Settlement.Settlement)
@@ -144,7 +152,7 @@ asked_with done given left kept client a b c d more at command left' kept' to se
     asked_on done given left kept client a b c d more at command [] (Some (record { line = s.line; later = lines_behind [] left' })) found
     ∙ ap (λ zs. at.settled ++ (zs ++ [])) (hears_one (length done) command s.line s.fits).0
 
--- one more command was asked and settled
+-- where one more command was asked and settled, the course goes on with that command
 pub course_more : (done : List Command) (command : Command) (given left more left' : List ℕ) (kept kept' : Kept) (client to : ById)
     (a b b' c d d' : Option (List ℕ)) (settled : List Settlement.Settlement)
     → (at : Course done given left kept client a b c d) → Settles (waiting_for (length done) command)
@@ -183,7 +191,7 @@ course_more done command given left more left' kept kept' client to a b b' c d d
 
 -- Ends.
 
--- all were asked
+-- where the course has all commands, `AsksAll` holds
 pub course_all : (commands : List Command) (given left : List ℕ) (kept : Kept) (client : ById) (a b c d : Option (List ℕ))
     → Course commands given left kept client a b c d → AsksAll commands given (record { link_old = a; link_new = b; sink_old = c; sink_new = d })
 course_all commands given left kept client a b c d at =
@@ -194,7 +202,7 @@ course_all commands given left kept client a b c d at =
       told = Appends-is _ _ _ _ (ap settlement_lines (sym all)) at.sink;
     }
 
--- the next one was sent, and is lost
+-- where the next command was sent, and is lost, asking stops there (`StopsAt`)
 pub course_stops : (alone : Bool) (commands done later : List Command) (command : Command) (given left more : List ℕ) (kept : Kept) (client : ById) (a b b' c d d' : Option (List ℕ))
     → (at : Course done given left kept client a b c d) → commands ≡ done ++ command ∷ later
     → (alone ≡ true → first_reply (waiting_for (length done) command) (lines_behind at.now (left ++ more)) ≡ None)
@@ -214,7 +222,7 @@ course_stops alone commands done later command given left more kept client a b b
           ∙ ap (λ zs. settlement_lines (zs ++ lost_of command ∷ [])) (sym so)) (Appends-append _ _ _ _ _ at.sink told);
     }
 
--- the same, where its request or its reply was cut
+-- where the next command's request or its reply was cut, asking was cut there (`IsCut`)
 pub course_cut : (alone : Bool) (commands done later : List Command) (command : Command) (given left more : List ℕ) (kept : Kept) (client : ById)
     (a b b' c d d' : Option (List ℕ)) (count part bytes : ℕ)
     → Course done given left kept client a b c d → commands ≡ done ++ command ∷ later → count ≡ length done
@@ -237,7 +245,7 @@ course_cut alone commands done later command given left more kept client a b b' 
           ∙ ap (λ zs. settlement_lines (zs ++ lost_of command ∷ [])) (sym so)) (Appends-append _ _ _ _ _ at.sink told);
     }
 
--- the sink failed, as it took the next settlement
+-- where the sink failed as it took the next settlement, `TellsPart` holds
 pub course_tells : (commands done later : List Command) (command : Command) (given left more : List ℕ) (kept : Kept) (client : ById)
     (a b b' c d d' : Option (List ℕ)) (bytes : ℕ) (next : Settlement) (over : LinkEnd → Type 0) (link : LinkEnd)
     → (at : Course done given left kept client a b c d) → commands ≡ done ++ command ∷ later

@@ -9,9 +9,11 @@ use Rattle.gc_texts.specs.declared.commands.Command.{Command}
 use Rattle.gc_ask.proofs.Asked.{hears_one}
 use Rattle.gc_ask.proofs.FirstReplies.{first_reply-at}
 
+-- a client that waits for one request has a window that the rule allows
 one_window : (k : ℕ) (c : Command) → IsWindow (waiting_for k c)
 one_window k c = record { digit = omega arith; few = omega arith }
 
+-- the id of the oldest request is the one that was given
 its_id : (k : ℕ) → ((k + 1) % 8 + 8 - 1 + 0) % 8 ≡ k % 8
 its_id k = omega arith
 
@@ -21,7 +23,7 @@ heard_digit line id e =
     let reply = (heard_by_grammar line).only id e in
     subst (λ o. IfSome o (λ n. n < 8)) reply.2 reply.1.is_id
 
--- the reply with its id fits
+-- a reply with the id of request k fits the client that waits for it
 fits_its : (k : ℕ) (c : Command) (line : List ℕ) → heard line ≡ Some (k % 8) → fits (waiting_for k c) (heard line) ≡ true
 fits_its k c line e =
     ap (fits (waiting_for k c)) e ∙ (fits_where_it_waits (waiting_for k c) (k % 8) (one_window k c) (heard_digit line (k % 8) e)).1 (0, omega arith, its_id k)
@@ -29,13 +31,16 @@ fits_its k c line e =
 -- only a reply with the id of request k fits the client that waits for it
 fits_only : (k : ℕ) (c : Command) (line : List ℕ) → fits (waiting_for k c) (heard line) ≡ true → heard line ≡ Some (k % 8)
 fits_only k c line fit = by_id (heard line) refl fit where
+  -- an id for which a request waits is that of request k
   the_id : (id : ℕ) → heard line ≡ Some id → Waits (waiting_for k c) id → id ≡ k % 8
   the_id id e (place, below, same) = omega (arith, below, same)
 
+  -- by the id that is heard: where it fits, it is that of request k
   by_id : (o : Option ℕ) → heard line ≡ o → fits (waiting_for k c) o ≡ true → o ≡ Some (k % 8)
   by_id None e f = (cc)
   by_id (Some id) e f = ap Some (the_id id e ((fits_where_it_waits (waiting_for k c) id (one_window k c) (heard_digit line id e)).0 f))
 
+-- lines without a reply to request k have no first reply to it
 no_reply : (k : ℕ) (c : Command) (came : List (List ℕ)) → HasNoReply k came → first_reply (waiting_for k c) came ≡ None
 no_reply k c [] none = refl
 no_reply k c (line ∷ later) none = elim (fits (waiting_for k c) (heard line)) as
@@ -44,6 +49,7 @@ no_reply k c (line ∷ later) none = elim (fits (waiting_for k c) (heard line)) 
       | false ↦ λ e. no_reply k c later none.1
     ] refl
 
+-- the law: each request is settled by the first reply with its id, behind the one that settled the request before it
 pub asks_by_id : (k : ℕ) (command : Command) (later : List Command) → AsksById k command later
 asks_by_id k command later = record {
   settled = λ front line rest none its.

@@ -14,7 +14,7 @@ use Rattle.gc_texts.specs.WholeTexts.{Input}
 
 -- Ports, a step later.
 
--- nothing happened at an end
+-- where nothing happened at an end, that is a step which went well
 pub step_none : (old new : Ports) → new.reads ≡ old.reads → new.ended ≡ old.ended → new.source_failed ≡ old.source_failed → new.sink_failed ≡ old.sink_failed → StepEnds old new (Ok tt)
 step_none old new reads ended source sink = record {
   ends = ((λ some. absurd (omega (arith, some, reads))), source, sink);
@@ -22,7 +22,7 @@ step_none old new reads ended source sink = record {
   grows = omega (arith, reads);
 }
 
--- the request couldn't be sent
+-- a failed write of a request is a step of the end with the write's fault
 pub step_sends : (place : ℕ) (text : List ℕ) (old new : Ports) (e : RunFault)
     → Sends place text (record { bytes = old.taken; failed = old.sink_failed }) (record { bytes = new.taken; failed = new.sink_failed }) (Err e)
     → new.reads ≡ old.reads → new.ended ≡ old.ended → new.source_failed ≡ old.source_failed → StepEnds old new (Err e)
@@ -36,17 +36,18 @@ step_sends place text old new TooManyReads s reads ended source = absurd s
 step_sends place text old new LinkClosed s reads ended source = absurd s
 step_sends place text old new other s reads ended source = absurd s
 
+-- a write of a request, whatever came of it, is a step of the end with the write's result
 pub step_sent : (place : ℕ) (text : List ℕ) (old new : Ports) (r : LinkEnd)
     → Sends place text (record { bytes = old.taken; failed = old.sink_failed }) (record { bytes = new.taken; failed = new.sink_failed }) r
     → new.reads ≡ old.reads → new.ended ≡ old.ended → new.source_failed ≡ old.source_failed → StepEnds old new r
 step_sent place text old new (Ok u) s reads ended source = step_none old new reads ended source s.1
 step_sent place text old new (Err e) s reads ended source = step_sends place text old new e s reads ended source
 
--- its fault isn't that reads are spent
+-- the fault of a write isn't that all reads were made
 pub sends_no : (place : ℕ) (text : List ℕ) (old new : Taken) (r : LinkEnd) → Sends place text old new r → r ≡ Err TooManyReads → ⊥
 sends_no place text old new r s is = subst (λ (e : LinkEnd). Sends place text old new e) is s
 
--- its reply was waited for
+-- waiting for a reply is a step of the end with the result of the waiting
 pub step_hears : (old new : Ports) (after : ℕ) (r : LinkEnd) → ReadEnds (source_of old) (source_of new) after r
     → old.reads ≤ new.reads → new.sink_failed ≡ old.sink_failed → StepEnds old new r
 step_hears old new after (Ok u) h grows sink = record { ends = (h.0, h.2, sink); same = h.1; grows = grows }
@@ -56,12 +57,12 @@ step_hears old new after (Err LinkClosed) h grows sink = record { ends = (h.0, h
 step_hears old new after (Err (Write count part)) h grows sink = absurd h
 step_hears old new after (Err other) h grows sink = absurd h
 
--- both ends are sound after a command that was settled
+-- a step of both ends that went well went well at each
 both_ok : (a b c d : Ports) → BothStep a b c d (Ok tt) → StepEnds a b (Ok tt) × StepEnds c d (Ok tt)
 both_ok a b c d (inl s) = s
 both_ok a b c d (inr s) = s
 
--- a request was sent, and answered where that is the link's own affair; then the client's end was read
+-- where a request went out well, was answered if that is the link's own affair, and then the client's end was read, all of this is one step
 pub step_both : (c c' c'' i i' i'' : Ports) (after : ℕ) (r : LinkEnd) → BothStep c c' i i' (Ok tt) → source_of c' ≡ source_of c
     → c''.sink_failed ≡ c'.sink_failed → i'' ≡ i' → c'.reads ≤ c''.reads → ReadEnds (source_of c') (source_of c'') after r → BothStep c c'' i i'' r
 step_both c c' c'' i i' i'' after r sent unread sink same grows ends =
@@ -76,10 +77,11 @@ step_both c c' c'' i i' i'' after r sent unread sink same grows ends =
 pub reads_nothing : (old new : Ports) → source_of new ≡ source_of old → Consumes old.remaining new.remaining []
 reads_nothing old new same = subst (λ (r : Option (List ℕ)). Consumes old.remaining r []) (ap (λ (s : Input). s.remaining) (sym same)) (Consumes-nil _)
 
+-- where nothing was read in a first step, all that was read in both was read in the second
 pub reads_then : (old mid new : Ports) (given : List ℕ) → source_of mid ≡ source_of old → Consumes mid.remaining new.remaining given → Consumes old.remaining new.remaining given
 reads_then old mid new given same gave = subst (λ (r : Option (List ℕ)). Consumes r new.remaining given) (ap (λ (s : Input). s.remaining) same) gave
 
--- whether the last read was the end, one request later
+-- where no read of a first step was the end, and none of a second, none of both together was
 still_on : (old mid new : ℕ) (mid_end new_end : Bool) → old ≤ mid → mid ≤ new → (old < mid → mid_end ≡ false) → (mid < new → new_end ≡ false)
     → (new ≡ mid → new_end ≡ mid_end) → old < new → new_end ≡ false
 still_on old mid new mid_end new_end grows more going on same below = by_order (le_cases mid new more) where
@@ -89,21 +91,25 @@ still_on old mid new mid_end new_end grows more going on same below = by_order (
     | false ↦ λ e. inr (let f = ltb-false a b e in omega (arith, f, h))
   ] refl
 
+  -- by whether the second step read anything: if it did, none of its reads was the end; else the first step had none
   by_order : (mid < new) ⊎ (new ≡ mid) → new_end ≡ false
   by_order (inl h) = on h
   by_order (inr e) = same e ∙ going (omega (arith, e, below))
 
--- a sound end, and a step of it
+-- an end that is sound so far
 pub record Sound (old new : Ports) : Type 0 where
   pub ends : LinkEnds old new (Ok tt)
   pub grows : old.reads ≤ new.reads
 
+-- an end of which nothing was used yet is sound
 pub sound_start : (old : Ports) → Sound old old
 sound_start old = record { ends = ((λ some. absurd (omega (arith, some))), refl, refl); grows = omega arith }
 
+-- where no read of a step was the end, none of all reads was
 on : (old mid new : Ports) (r : LinkEnd) → Sound old mid → StepEnds mid new r → (mid.reads < new.reads → new.ended ≡ false) → old.reads < new.reads → new.ended ≡ false
 on old mid new r g s more = still_on old.reads mid.reads new.reads mid.ended new.ended g.grows s.grows g.ends.0 more s.same
 
+-- a step of a sound end gives the end of all its use
 link_step : (old mid new : Ports) (r : LinkEnd) → Sound old mid → StepEnds mid new r → LinkEnds old new r
 link_step old mid new (Ok u) g s = (on old mid new (Ok u) g s s.ends.0, s.ends.1 ∙ g.ends.1, s.ends.2 ∙ g.ends.2)
 link_step old mid new (Err Read) g s = (on old mid new (Err Read) g s s.ends.0, s.ends.1, s.ends.2 ∙ g.ends.2)
@@ -112,27 +118,32 @@ link_step old mid new (Err TooManyReads) g s = (on old mid new (Err TooManyReads
 link_step old mid new (Err LinkClosed) g s = (omega (arith, g.grows, s.ends.0), s.ends.1, s.ends.2 ∙ g.ends.1, s.ends.3 ∙ g.ends.2)
 link_step old mid new (Err other) g s = absurd s.ends
 
+-- a sound end stays so by a step that went well
 sound_step : (old mid new : Ports) → Sound old mid → StepEnds mid new (Ok tt) → Sound old new
 sound_step old mid new g s = record { ends = link_step old mid new (Ok tt) g s; grows = omega (arith, g.grows, s.grows) }
 
+-- two sound ends stay so by a step that went well
 pub sound_on : (c0 c c' i0 i i' : Ports) (x y : Bool) → Sound c0 c → Sound i0 i → EndsWith (BothStep c c' i i') x y (Ok tt) → Sound c0 c' × Sound i0 i'
 sound_on c0 c c' i0 i i' x y gc gi ends =
     let both = both_ok c c' i i' ends.0 in (sound_step c0 c c' gc both.0, sound_step i0 i i' gi both.1)
 
+-- a step of two sound ends gives the ends of all their use
 pub both_end : (c0 c c' i0 i i' : Ports) (r : LinkEnd) → Sound c0 c → Sound i0 i → BothStep c c' i i' r → BothEnd c0 c' i0 i' r
 both_end c0 c c' i0 i i' r gc gi (inl s) = inl (link_step c0 c c' r gc s.0, link_step i0 i i' (Ok tt) gi s.1)
 both_end c0 c c' i0 i i' r gc gi (inr s) = inr (link_step c0 c c' (Ok tt) gc s.0, link_step i0 i i' r gi s.1)
 
+-- two sound ends are those of asking that ended well
 pub both_sound : (c0 c i0 i : Ports) → Sound c0 c → Sound i0 i → BothEnd c0 c i0 i (Ok tt)
 both_sound c0 c i0 i gc gi = inl (gc.ends, gi.ends)
 
--- no end of a step is the sink's
+-- a step of the link's ends never ends with the fault of the sink
 pub no_output : (p p' q q' : Ports) → BothStep p p' q q' (Err Output) → ⊥
 no_output p p' q q' (inl s) = s.0.ends
 no_output p p' q q' (inr s) = s.1.ends
 
 -- A link that is alone: all that ends it comes at the client's end.
 
+-- where the other end isn't there, the reason is at the client's end
 pub alone_end : (p p' : Ports) (r : LinkEnd) → BothEnd p p' no_ports no_ports r → LinkEnds p p' r
 alone_end p p' r (inl s) = s.0
 alone_end p p' (Ok u) (inr s) = s.0
@@ -142,7 +153,7 @@ alone_end p p' (Err TooManyReads) (inr s) = s.0
 alone_end p p' (Err LinkClosed) (inr s) = absurd (omega (arith, s.1.0))
 alone_end p p' (Err other) (inr s) = absurd s.1
 
--- what holds of the link's ends holds of why it ended
+-- where `other` holds of each end of which `over` does, why asking ended may be said with `other`
 pub ends_as : (over other : LinkEnd → Type 0) → ((r : LinkEnd) → over r → other r) → (x y z : Bool) → y ≡ x → (r : LinkEnd) → EndsWith over y z r → EndsWith other x z r
 ends_as over other so x y z same (Ok u) ends = (so (Ok u) ends.0, ends.1 ∙ same)
 ends_as over other so x y z same (Err Output) ends = (ends.0, (ends.1.0, so ends.1.0 ends.1.1))

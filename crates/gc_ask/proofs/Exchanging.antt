@@ -27,14 +27,14 @@ use Rattle.gc_texts.specs.WholeTexts.{Input}
 whole : (a b : Option (List ℕ)) (text : List ℕ) → Appends a b text → Appends a b (take (length text) text)
 whole a b text sent = Appends-is _ _ _ _ (sym (take_all (length text) text (omega arith))) sent
 
--- what the client's end took of a request, where this was its write or the write failed
+-- the client's end took of a request that it wrote, or failed to write, what `TakesRequest` says
 pub takes_sent : (alone : Bool) (place : ℕ) (text : List ℕ) (a b : Option (List ℕ)) (x y : Bool) (r : LinkEnd)
     → Sends place text (record { bytes = a; failed = x }) (record { bytes = b; failed = y }) r → TakesRequest alone place text a b r
 takes_sent alone place text a b x y (Ok u) s = s.0
 takes_sent alone place text a b x y (Err (Write count part)) s = (s.0, (part, s.2, λ so. (refl, s.1)))
 takes_sent alone place text a b x y (Err other) s = absurd s
 
--- what the client's end took of a request that was written, and that the other end answered or couldn't
+-- where a request was written, and the other end answered it or couldn't, the client's end took what `TakesRequest` says
 pub takes_answered : (alone : Bool) (place : ℕ) (text : List ℕ) (a b : Option (List ℕ)) (r : LinkEnd) → (alone ≡ true → ⊥) → Appends a b text
     → CountsReplies place r → TakesRequest alone place text a b r
 takes_answered alone place text a b (Ok u) two sent of = sent
@@ -43,25 +43,27 @@ takes_answered alone place text a b (Err other) two sent of = (sent, two)
 
 -- One command.
 
--- its request couldn't be sent, or wasn't answered at the other end
+-- where a request couldn't be sent, or wasn't answered at the other end, the exchange ended with that fault
 pub unsent : (alone : Bool) (place : ℕ) (command : Command) (h : Heard) (a b : Option (List ℕ)) (e : RunFault) → TakesRequest alone place (request_text place command) a b (Err e)
     → h.client ≡ waiting_for place command → Exchanges alone place command h a b (Err e)
 unsent alone place command h a b (Write count part) t is = (t, is)
 unsent alone place command h a b other t is = (t.0, (λ so. absurd (t.1 so)), is)
 
--- a request was sent, and its reply was waited for
+-- where a request was sent, and its reply was waited for, the exchange ended as the waiting did
 pub exchanged : (alone : Bool) (place : ℕ) (command : Command) (from : ById) (h : Heard) (a b : Option (List ℕ)) (old new : Input) (after : ℕ) (r : LinkEnd)
     → Appends a b (request_text place command) → from ≡ waiting_for place command → HearsReply from h r → ReadEnds old new after r → Exchanges alone place command h a b r
 exchanged alone place command from h a b old new after r sent is heard ends = by_end r heard ends where
+  -- where no line is a first reply to the client that waited, none is one to the client that waits for this command
   missed : first_reply from (lines_behind h.rest h.bytes) ≡ None → alone ≡ true → first_reply (waiting_for place command) (lines_behind h.rest h.bytes) ≡ None
   missed none so = subst (λ (c : ById). first_reply c (lines_behind h.rest h.bytes) ≡ None) is none
 
+  -- by how the waiting ended, the exchange ended so
   by_end : (r : LinkEnd) → HearsReply from h r → ReadEnds old new after r → Exchanges alone place command h a b r
   by_end (Ok u) heard ends = (sent, subst (λ (c : ById). Settles c h) is heard)
   by_end (Err (Write count part)) heard ends = absurd ends
   by_end (Err other) heard ends = (sent, missed heard.0, heard.1 ∙ is)
 
--- after a fault the client waits
+-- after a fault of an exchange the client still waits for the command
 pub still_waits : (alone : Bool) (place : ℕ) (command : Command) (h : Heard) (a b : Option (List ℕ)) (e : RunFault) → Exchanges alone place command h a b (Err e) → h.client ≡ waiting_for place command
 still_waits alone place command h a b (Write count part) x = x.1
 still_waits alone place command h a b other x = x.2
@@ -71,7 +73,7 @@ pub lost_alone : (place : ℕ) (command : Command) (to : ById) (settled now : Li
     → AreSettlements settled (restarts to).settlements → now ≡ settled → map settlement_seen now ≡ lost_of command ∷ []
 lost_alone place command to settled now waits are is = ap (map settlement_seen) is ∙ are.seen ∙ ap (λ c. (restarts c).settlements) waits
 
--- what of the request the link took
+-- after a fault the link took a front of the request
 sent_part : (alone : Bool) (place : ℕ) (command : Command) (h : Heard) (a b : Option (List ℕ)) (e : RunFault) → Exchanges alone place command h a b (Err e)
     → (part : ℕ) × Appends a b (take part (request_text place command))
 sent_part alone place command h a b (Write count part) x = (x.0.1.0, x.0.1.1)
@@ -81,7 +83,7 @@ sent_part alone place command h a b other x = (length (request_text place comman
 abbrev with_client : Heard → ById → Heard
 with_client h to = record { rest = h.rest; bytes = h.bytes; left = h.left; kept = h.kept; client = to; settled = h.settled }
 
--- the line of the lost request was written
+-- where a fault came, and the line of the lost command was written, asking this command ended with the fault (`AsksOne`)
 pub asks_lost : (alone : Bool) (place : ℕ) (command : Command) (h : Heard) (to : ById) (lost now : List Settlement) (w : Written) (e : RunFault)
     (over : LinkEnd → Type 0) → (over (Err Output) → ⊥) → over (Err e)
     → Exchanges alone place command h w.link_old w.link_new (Err e) → AreSettlements lost (restarts h.client).settlements → now ≡ lost
@@ -94,7 +96,7 @@ asks_lost alone place command h to lost now w e over none ends x are is told =
       by_fault Output ends x told = absurd (none ends)
       by_fault other ends x told = (x.0, x.1, told)
 
--- the sink failed as it took that line
+-- where a fault came, and the sink failed as it took the line of the lost command, asking this command ended with the fault of the sink
 pub asks_untold : (alone : Bool) (place : ℕ) (command : Command) (h : Heard) (to : ById) (lost now : List Settlement) (w : Written) (x y : Bool)
     (e f : RunFault) (over : LinkEnd → Type 0) → over (Err e)
     → Exchanges alone place command h w.link_old w.link_new (Err e) → AreSettlements lost (restarts h.client).settlements → now ≡ lost
@@ -106,7 +108,7 @@ asks_untold alone place command h to lost now w x y e f over ends ex are is told
       by_fault Output t = let sent = sent_part alone place command h w.link_old w.link_new e ex in inr (e, ends, (sent.0, sent.1, t.0))
       by_fault other t = absurd t
 
--- a reply settled the request, and that was told, or the sink failed
+-- where a reply settled the request, and its line was written, or the sink failed, asking this command ended as that writing did
 pub asks_told : (alone : Bool) (place : ℕ) (command : Command) (h : Heard) (now : List Settlement) (w : Written) (x y : Bool) (over : LinkEnd → Type 0) (r : LinkEnd)
     → over (Ok tt) → Appends w.link_old w.link_new (request_text place command) → Settles (waiting_for place command) h → now ≡ h.settled
     → Told place (map settlement_seen now) w.sink_old w.sink_new x y r → AsksOne alone place command h w over r
@@ -116,17 +118,19 @@ asks_told alone place command h now w x y over (Err Output) link sent s is told 
     inl (link, sent, s, subst (λ (zs : List Settlement). ToldPart place (map settlement_seen zs) w.sink_old w.sink_new) is told.0)
 asks_told alone place command h now w x y over (Err other) link sent s is told = absurd told
 
--- why that ended, where a settlement was told, where a lost one was, and where the sink failed as it took a lost one
+-- where the link was used well, asking a command ended as the writing of its settlement did
 pub ends_told : (over : LinkEnd → Type 0) (place : ℕ) (settled : List Rule.Settlement) (c d : Option (List ℕ)) (x y : Bool) (r : LinkEnd) → over (Ok tt)
     → Told place settled c d x y r → EndsWith over x y r
 ends_told over place settled c d x y (Ok u) ends told = (ends, told.1)
 ends_told over place settled c d x y (Err Output) ends told = (told.1, (Ok tt, ends))
 ends_told over place settled c d x y (Err other) ends told = absurd told
 
+-- where the link had a fault, and the line of the lost command was written, asking the command ended with that fault
 pub ends_lost : (over : LinkEnd → Type 0) (x y : Bool) (e : RunFault) → (over (Err Output) → ⊥) → over (Err e) → y ≡ x → EndsWith over x y (Err e)
 ends_lost over x y Output none ends same = absurd (none ends)
 ends_lost over x y other none ends same = (ends, same)
 
+-- where the sink failed as it took the line of the lost command, asking the command ended with the fault of the sink
 pub ends_untold : (over : LinkEnd → Type 0) (place : ℕ) (settled : List Rule.Settlement) (c d : Option (List ℕ)) (x y : Bool) (e f : RunFault) → over (Err e)
     → Told place settled c d x y (Err f) → EndsWith over x y (Err f)
 ends_untold over place settled c d x y e Output ends told = (told.1, (Err e, ends))
@@ -134,7 +138,7 @@ ends_untold over place settled c d x y e other ends told = absurd told
 
 -- The run.
 
--- a fault ends the run
+-- where one command ended with a fault, asking all of them ended with it
 pub run_fault : (alone : Bool) (commands done later : List Command) (command : Command) (place : ℕ) (given left more left' : List ℕ) (kept kept' : Kept)
     (client to : ById) (settled : List Settlement) (a b b' c d d' : Option (List ℕ)) (e : RunFault) (c0 p p' i0 q q' : Ports) (x y : Bool)
     → Sound c0 p → Sound i0 q → (at : Course done given left kept client a b c d) → length done ≡ place → commands ≡ done ++ command ∷ later
@@ -172,7 +176,7 @@ run_fault alone commands done later command place given left more left' kept kep
           (both_end c0 p p' i0 q q' (Err o.0) gc gi o.1) (λ so. refl) o.2.1 o.2.2
       by_fault other one ends = absurd (none (λ h. h) (λ h. h) ends.0)
 
--- one more command was asked
+-- where one more command was asked and settled, the course goes on with that command
 pub course_next : (alone : Bool) (commands done later : List Command) (command : Command) (place : ℕ) (given left more left' : List ℕ) (kept kept' : Kept)
     (client to : ById) (settled : List Settlement) (a b b' c d d' : Option (List ℕ)) (over : LinkEnd → Type 0)
     → (at : Course done given left kept client a b c d) → length done ≡ place

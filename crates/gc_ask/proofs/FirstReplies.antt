@@ -21,13 +21,15 @@ use Rattle.gc_ask.specs.Listening.{lines_behind, SettlesNothing, TakesFrame, IsQ
 abbrev lines_of : List (List ℕ) → List (List ℕ)
 lines_of pieces = filter_map line_in (map frame_of pieces)
 
+-- the lines of pieces, and of others behind them, are those of the first, and behind them those of the others
 lines_of-append : (xs ys : List (List ℕ)) → lines_of (xs ++ ys) ≡ lines_of xs ++ lines_of ys
 lines_of-append xs ys = ap (λ fs. filter_map line_in fs) (map-append frame_of xs ys) ∙ filter_map-append line_in (map frame_of xs) (map frame_of ys)
 
--- one piece after another
+-- one more piece: its lines come behind those before
 pub lines_behind-append : (rest xs ys : List ℕ) → lines_behind rest (xs ++ ys) ≡ lines_behind rest xs ++ lines_behind (rest_behind rest xs) ys
 lines_behind-append rest xs ys = ap lines_of (pieces-append rest xs ys) ∙ lines_of-append (pieces_behind rest xs) (pieces_behind (rest_behind rest xs) ys)
 
+-- lines without a first reply, in front of others, leave the others' first reply
 pub first_reply-none : (c : ById) (xs ys : List (List ℕ)) → first_reply c xs ≡ None → first_reply c (xs ++ ys) ≡ first_reply c ys
 first_reply-none c [] ys e = refl
 first_reply-none c (x ∷ xs) ys e = (elim (fits c (heard x)) as (λ v. cond v (Some (record { line = x; later = xs })) (first_reply c xs) ≡ None
@@ -36,12 +38,14 @@ first_reply-none c (x ∷ xs) ys e = (elim (fits c (heard x)) as (λ v. cond v (
       | false ↦ λ f. first_reply-none c xs ys f
     ]) e
 
+-- a line that fits is the first reply where none before it is
 pub first_reply-at : (c : ById) (front : List (List ℕ)) (line : List ℕ) (later : List (List ℕ)) → first_reply c front ≡ None → fits c (heard line) ≡ true
     → first_reply c (front ++ line ∷ later) ≡ Some (record { line = line; later = later })
 first_reply-at c front line later none fit = first_reply-none c front (line ∷ later) none ∙ rw fit refl
 
 -- Quiet pieces.
 
+-- two pieces that settle nothing, one behind the other, settle nothing as one
 pub quiet_then : (rest xs ys : List ℕ) (kept kept' : Kept) (a b c : ById) → IsQuiet rest xs kept a b → IsQuiet (rest_behind rest xs) ys kept' b c → IsQuiet rest (xs ++ ys) kept' a c
 quiet_then rest xs ys kept kept' a b c q r = record {
   none = ap (first_reply a) (lines_behind-append rest xs ys) ∙ first_reply-none a (lines_behind rest xs) (lines_behind (rest_behind rest xs) ys) q.none
@@ -50,6 +54,7 @@ quiet_then rest xs ys kept kept' a b c q r = record {
   same = r.same ∙ q.same;
 }
 
+-- a piece that settles nothing, and one behind it that settles a request, settle that request as one
 pub settles_then : (rest xs ys left : List ℕ) (kept kept' : Kept) (a b c : ById) (settled : List Settlement) → IsQuiet rest xs kept a b
     → Settles b (record { rest = rest_behind rest xs; bytes = ys; left = left; kept = kept'; client = c; settled = settled })
     → Settles a (record { rest = rest; bytes = xs ++ ys; left = left; kept = kept'; client = c; settled = settled })
@@ -82,6 +87,7 @@ pub record Passed (rest piece left : List ℕ) (kept : Kept) (from to : ById) : 
   pub none : first_reply from front ≡ None
   pub same : to ≡ from
 
+-- where nothing is left of a piece, the piece settled nothing
 pub passed_end : (rest piece : List ℕ) (kept : Kept) (a b : ById) → Passed rest piece [] kept a b → IsQuiet rest piece kept a b
 passed_end rest piece kept a b p = record {
   none = ap (first_reply a) (p.seen ∙ append-nil p.front) ∙ p.none;
@@ -89,17 +95,19 @@ passed_end rest piece kept a b p = record {
   same = p.same;
 }
 
+-- the lines of a frame are its line, if it has one
 completed_lines : (f : Frame) → filter_map line_in (completed f) ≡ option_to_list (line_in f)
 completed_lines (Line line) = refl
 completed_lines Cleared = refl
 completed_lines Overlong = refl
 completed_lines More = refl
 
+-- a frame that settles nothing has no first reply
 no_reply : (c : ById) (line : Option (List ℕ)) → SettlesNothing c line → first_reply c (option_to_list line) ≡ None
 no_reply c None q = refl
 no_reply c (Some line) q = rw q refl
 
--- one more frame, whose line settles nothing
+-- where the line of the next frame, if it has one, settles nothing, that frame is passed, too
 pub passed_on : (rest piece left : List ℕ) (used : ℕ) (frame : Frame) (kept kept' : Kept) (a b c : ById) → (p : Passed rest piece left kept a b)
     → Takes p.now left used frame kept' → c ≡ b → SettlesNothing b (line_in frame)
     → Passed rest piece (drop used left) kept' a c
@@ -119,18 +127,20 @@ passed_on rest piece left used frame kept kept' a b c p t same nothing =
       same = same ∙ p.same;
     }
 
--- the frame of a line feed
+-- a frame with a line: that line comes first, and the bytes behind it are those that weren't used
 record TakesLine (rest left : List ℕ) (used : ℕ) (line : List ℕ) (kept : Kept) : Type 0 where
   seen : lines_behind rest left ≡ line ∷ lines_behind [] (drop used left)
   rests : rest_behind rest left ≡ rest_behind [] (drop used left)
   stands : StandsFor kept []
 
+-- the line of the first frame is the first line
 first_line : (f : Frame) (line : List ℕ) (fs : List Frame) → line_in f ≡ Some line → filter_map line_in (f ∷ fs) ≡ line ∷ filter_map line_in fs
 first_line f line fs e = filter_map-append line_in (f ∷ []) fs ∙ ap (λ zs. zs ++ filter_map line_in fs) (alone (line_in f) e) where
   alone : (o : Option (List ℕ)) → o ≡ Some line → filter_map (λ (x : Frame). o) (f ∷ []) ≡ line ∷ []
   alone None e = (cc)
   alone (Some x) e = ap (λ (l : List ℕ). l ∷ []) (cc)
 
+-- a frame that has a line, as the assembler gives it, is the first line of the bytes (`TakesLine`)
 takes_line : (rest left : List ℕ) (used : ℕ) (frame : Frame) (line : List ℕ) (kept : Kept) → line_in frame ≡ Some line
     → (position is_line_feed left ≡ None → frame ≡ More)
     → ((at : ℕ) → position is_line_feed left ≡ Some at → (used ≡ at + 1) × (frame ≡ frame_of (rest ++ take at left)) × StandsFor kept [])
@@ -151,7 +161,7 @@ takes_line rest left used frame line kept is more whole = elim (position is_line
   no_line : (o : Option (List ℕ)) → o ≡ None → o ≡ Some line → ⊥
   no_line o e f = (cc)
 
--- one more frame, whose line settles a request
+-- where the line of the next frame settles a request, the piece settles that request
 pub passed_settles : (rest piece left : List ℕ) (used : ℕ) (frame : Frame) (line : List ℕ) (kept kept' : Kept) (a b c : ById) (settled : List Settlement)
     → (p : Passed rest piece left kept a b) → line_in frame ≡ Some line
     → (position is_line_feed left ≡ None → frame ≡ More)
@@ -172,7 +182,7 @@ passed_settles rest piece left used frame line kept kept' a b c settled p is mor
       client = subst (λ (x : ById). c ≡ (hears x line (heard line)).client) p.same client;
     }
 
--- what taking a frame says where it settled a request
+-- a frame that settled a request has a line, which fits
 pub taken_line : (a b : ById) (o : Option (List ℕ)) (settled : List Settlement) → TakesFrame a b o settled true
     → (line : List ℕ) × (o ≡ Some line) × (fits a (heard line) ≡ true) × AreSettlements settled (hears a line (heard line)).settlements × (b ≡ (hears a line (heard line)).client)
 taken_line a b None settled t = absurd t
@@ -186,7 +196,7 @@ pub record Reading (rest start given ahead : List ℕ) (kept : Kept) (from to : 
   pub order : start ++ given ≡ heard_so ++ ahead
   pub quiet : IsQuiet rest heard_so kept from to
 
--- all that was ahead is quiet, and a piece more was read
+-- where all that was ahead settles nothing, and one more piece was read, the reading goes on with that piece
 pub reading_more : (rest start given ahead piece : List ℕ) (kept kept' : Kept) (a b c : ById) → (r : Reading rest start given ahead kept a b) → IsQuiet (rest_behind rest r.heard_so) ahead kept' b c
     → Reading rest start (given ++ piece) piece kept' a c
 reading_more rest start given ahead piece kept kept' a b c r q = record {
@@ -195,6 +205,7 @@ reading_more rest start given ahead piece kept kept' a b c r q = record {
   quiet = quiet_then rest r.heard_so ahead kept kept' a b c r.quiet q;
 }
 
+-- where all that is ahead settles nothing either, nothing that was given does
 pub reading_quiet : (rest start given ahead : List ℕ) (kept kept' : Kept) (a b c : ById) → (r : Reading rest start given ahead kept a b) → IsQuiet (rest_behind rest r.heard_so) ahead kept' b c
     → (first_reply a (lines_behind rest (start ++ given)) ≡ None) × (c ≡ a)
 reading_quiet rest start given ahead kept kept' a b c r q =
@@ -212,6 +223,7 @@ reading_settles rest start given ahead left kept kept' a b c settled r s =
 
 -- Nothing more was given.
 
+-- where a source gave bytes, and then stayed as it was, it gave these bytes
 pub Consumes-keeps : (a b c : Option (List ℕ)) (xs : List ℕ) → Consumes a b xs → Keeps b c → Consumes a c xs
 Consumes-keeps None b c xs h k = tt
 Consumes-keeps (Some a) None c xs h k = absurd h

@@ -15,6 +15,7 @@ use Rattle.gc_texts.specs.WholeTexts.{Input}
 
 -- Alone.
 
+-- where the link is alone, asking that stops at a command asked up to it
 up_to : (commands : List Command) (given : List ℕ) (w : Written) → StopsAt true commands given w → AsksUpTo commands given w
 up_to commands given w s = record {
   earlier = s.earlier;
@@ -26,6 +27,7 @@ up_to commands given w s = record {
   told = Appends-is _ _ _ _ (ap (λ zs. settlement_lines (zs ++ lost_of s.command ∷ [])) (sym (s.none refl))) s.told;
 }
 
+-- where the link is alone, asking that was cut asked a part
 in_part : (commands : List Command) (given : List ℕ) (w : Written) (count part : ℕ) → IsCut true commands given w count part → AsksPart commands given w count part
 in_part commands given w count part s = record {
   earlier = s.earlier;
@@ -39,6 +41,7 @@ in_part commands given w count part s = record {
   told = s.told;
 }
 
+-- a part of the settlements that was told with `over` is told with any `other` that allows as many ends or more
 tells : (commands : List Command) (given : List ℕ) (w : Written) (over other : LinkEnd → Type 0) → ((r : LinkEnd) → over r → other r)
     → TellsPart commands given w over → TellsPart commands given w other
 tells commands given w over other so t = record {
@@ -58,6 +61,7 @@ tells commands given w over other so t = record {
   told = t.told;
 }
 
+-- what was asked over a link that is alone is what `Asks` says
 asks_alone : (commands : List Command) (given : List ℕ) (w : Written) (over other : LinkEnd → Type 0) → ((r : LinkEnd) → over r → other r) → (r : LinkEnd)
     → AsksOn true commands given w over r → Asks commands given w other r
 asks_alone commands given w over other so (Ok u) x = x
@@ -68,6 +72,7 @@ asks_alone commands given w over other so (Err (Write count part)) x = in_part c
 asks_alone commands given w over other so (Err Output) x = tells commands given w over other so x
 asks_alone commands given w over other so (Err e) x = absurd x
 
+-- a run of commands over a link that is alone is what `AsksOver` says
 pub over_alone : (commands : List Command) (most : ℕ) (old new : Seen) (r : LinkEnd)
     → AsksAt true commands most (seen_at old.link no_ports old.sink) (seen_at new.link no_ports new.sink) r → AsksOver commands most old new r
 over_alone commands most old new r x = record {
@@ -80,6 +85,7 @@ over_alone commands most old new r x = record {
   ends = ends_as (BothEnd old.link new.link no_ports no_ports) (LinkEnds old.link new.link) (alone_end old.link new.link) old.sink.failed old.sink.failed new.sink.failed refl r x.ends;
 }
 
+-- a run of a text over a link that is alone is what `AskRuns` says
 pub runs_alone : (text_old text_new : Input) (most : ℕ) (old new : Seen) (r : LinkEnd)
     → RunsAt true text_old text_new most (seen_at old.link no_ports old.sink) (seen_at new.link no_ports new.sink) r → AskRuns text_old text_new most old new r
 runs_alone text_old text_new most old new r (given, gave, few, inl x) = (given, gave, few, inl (x.0, x.1, x.2, ap (λ (s : SeenAtBoth). record { link = s.client; sink = s.sink }) x.3))
@@ -87,9 +93,11 @@ runs_alone text_old text_new most old new r (given, gave, few, inr x) = (given, 
 
 -- A loop.
 
+-- asking that stops at a command loops up to it
 loops_up_to : (alone : Bool) (commands : List Command) (given : List ℕ) (w : Written) → StopsAt alone commands given w → LoopsUpTo commands given w
 loops_up_to alone commands given w s = record { earlier = s.earlier; command = s.command; later = s.later; order = s.order; settled = s.settled; sent = s.sent; told = s.told }
 
+-- asking that was cut loops in part
 loops_part : (alone : Bool) (commands : List Command) (given : List ℕ) (w : Written) (count part : ℕ) → IsCut alone commands given w count part → LoopsPart commands given w count
 loops_part alone commands given w count part s = record {
   earlier = s.earlier;
@@ -104,6 +112,7 @@ loops_part alone commands given w count part s = record {
   told = s.told;
 }
 
+-- what was asked over any link is what a loop asked
 loops : (alone : Bool) (commands : List Command) (given : List ℕ) (w : Written) (over : LinkEnd → Type 0) (r : LinkEnd) → AsksOn alone commands given w over r → Loops commands given w over r
 loops alone commands given w over (Ok u) x = x
 loops alone commands given w over (Err Read) x = loops_up_to alone commands given w x
@@ -113,13 +122,15 @@ loops alone commands given w over (Err (Write count part)) x = loops_part alone 
 loops alone commands given w over (Err Output) x = x
 loops alone commands given w over (Err e) x = absurd x
 
+-- a run of commands over any link is what `LoopsOver` says
 pub loops_over : (alone : Bool) (commands : List Command) (most : ℕ) (old new : SeenAtBoth) (r : LinkEnd) → AsksAt alone commands most old new r → LoopsOver commands old new r
 loops_over alone commands most old new r x = record { given = x.given; gave = x.gave; loops = loops alone commands x.given _ _ r x.asks; ends = x.ends }
 
+-- a run of a text over any link is what `LoopRuns` says
 pub loop_runs : (alone : Bool) (text_old text_new : Input) (most : ℕ) (old new : SeenAtBoth) (r : LinkEnd) → RunsAt alone text_old text_new most old new r → LoopRuns text_old text_new old new r
 loop_runs alone text_old text_new most old new r (given, gave, few, inl x) = (given, gave, few, inl x)
 loop_runs alone text_old text_new most old new r (given, gave, few, inr x) = (given, gave, few, inr (x.0, x.1, loops_over alone x.0 most old new r x.2))
 
--- no want of memory comes while commands are asked
+-- asking commands never ends with `Memory`
 pub no_memory : (alone : Bool) (commands : List Command) (most : ℕ) (old new : SeenAtBoth) (r : LinkEnd) → AsksAt alone commands most old new r → r ≡ Err Memory → ⊥
 no_memory alone commands most old new r x is = subst (λ (e : LinkEnd). AsksOn alone commands x.given (written_there old new) (BothEnd old.client new.client old.instrument new.instrument) e) is x.asks

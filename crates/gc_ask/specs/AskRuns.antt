@@ -14,7 +14,7 @@ pub record Seen : Type 0 where
   pub link : Ports
   pub sink : Taken
 
--- what these took
+-- what a link and the sink of the settlements took
 abbrev pub written : Seen → Seen → Written
 written old new = record { link_old = old.link.taken; link_new = new.link.taken; sink_old = old.sink.bytes; sink_new = new.sink.bytes }
 
@@ -47,7 +47,7 @@ AskRuns text_old text_new most old new result =
     ⊎ ((commands : List Command) × GivesCommands given text_old text_new commands × AsksOver commands most old new result))
 
 -- a run over a source of commands, a connection that it makes, and a sink: the text was refused, or it was read and no connection
--- could be had, with such a fault, and in both cases nothing was written; or its commands were asked over the connection
+-- could be had, with a fault of which `IsNone` holds, and in both cases nothing was written; or its commands were asked over the connection
 abbrev pub AskRunsAt : (IsNone : RunFault → Type 0) → (text_old text_new : Input) → (most : ℕ) → (old new : Taken) → Result (Unit {0}) RunFault → Type 0
 AskRunsAt IsNone text_old text_new most old new result =
     (given : List ℕ) × Consumes text_old.remaining text_new.remaining given

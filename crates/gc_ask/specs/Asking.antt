@@ -14,14 +14,15 @@ use Rattle.gc_texts.specs.declared.commands.Command.{Command}
 use Rattle.gc_texts.specs.declared.fault.RunFault.{RunFault}
 use Rattle.gc_texts.specs.declared.fault.RunFault.TheVariants.{Read, Write, TooManyReads, LinkClosed, Output}
 
--- a command that was sent and waits; its deadline is the greatest of a u64, and no moment is told, so it is never given up
+-- a command that was sent and waits; its deadline is the greatest of a u64, and the client is given no moment, so it never times out
 abbrev pub asked_for : Command → Pending
 asked_for command = pending_of command.target command.call 18446744073709551615
 
--- the client before request k is sent, and while it waits: its id is k modulo 8
+-- the client before request k is sent, whose id is k modulo 8
 abbrev pub idle : ℕ → ById
 idle k = record { next = k % IDS; waiting = [] }
 
+-- the client while request k waits
 abbrev pub waiting_for : ℕ → Command → ById
 waiting_for k command = record { next = (k + 1) % IDS; waiting = asked_for command ∷ [] }
 
@@ -35,7 +36,7 @@ abbrev pub first_reply : ById → List (List ℕ) → Option Reply
 first_reply client [] = None
 first_reply client (line ∷ later) = if fits client (heard line) then Some (record { line = line; later = later }) else first_reply client later
 
--- what a client settles by its first reply, and behind it what is settled by the lines behind that one
+-- what a client settles by its first reply, and behind it what `rest` settles by the lines behind that reply; nothing without a reply
 abbrev pub settled_by : ById → (List (List ℕ) → List Settlement) → Option Reply → List Settlement
 settled_by client rest None = []
 settled_by client rest (Some reply) = (hears client reply.line (heard reply.line)).settlements ++ rest reply.later
@@ -45,7 +46,7 @@ abbrev pub asked_from : ℕ → List Command → List (List ℕ) → List Settle
 asked_from k [] came = []
 asked_from k (command ∷ later) came = settled_by (waiting_for k command) (asked_from (k + 1) later) (first_reply (waiting_for k command) came)
 
--- the settlements of commands over all that a link gives, as far as it settles them
+-- the settlements of these commands by the lines of all that a link gives, as far as the lines settle them
 abbrev pub asked : List Command → List ℕ → List Settlement
 asked commands stream = asked_from 0 commands (lines stream)
 
@@ -53,12 +54,12 @@ asked commands stream = asked_from 0 commands (lines stream)
 abbrev pub request_text : ℕ → Command → List ℕ
 request_text k command = with_end (request_line (Some (k % IDS)) command.call)
 
--- requests as they are written, from request k on
+-- the requests of these commands as they are written, the first of which is request k
 abbrev pub request_texts : ℕ → List Command → List (List ℕ)
 request_texts k [] = []
 request_texts k (command ∷ later) = request_text k command ∷ request_texts (k + 1) later
 
--- a command that is settled without a reply
+-- the settlement of a command that is lost
 abbrev pub lost_of : Command → Settlement
 lost_of command = lost (asked_for command)
 
@@ -71,7 +72,7 @@ pub record Taken : Type 0 where
 abbrev pub taken_by : {K : Type 0} → Sink K → K → Taken
 taken_by of_sink sink = record { bytes = of_sink.taken sink; failed = of_sink.failed sink }
 
--- what a link had taken and has taken, and the sink of the settlements, where these are known
+-- what a link and the sink of the settlements had taken before, and have taken now, where these are known
 pub record Written : Type 0 where
   pub link_old : Option (List ℕ)
   pub link_new : Option (List ℕ)
@@ -82,13 +83,14 @@ pub record Written : Type 0 where
 abbrev pub LinkEnd : Type 0
 LinkEnd = Result (Unit {0}) RunFault
 
--- each command was sent, and settled
+-- each command was sent and settled, and the sink took the lines of the settlements
 pub record AsksAll (commands : List Command) (given : List ℕ) (w : Written) : Type 0 where
   pub settled : length (asked commands given) ≡ length commands
   pub sent : Appends w.link_old w.link_new (all_of (request_texts 0 commands))
   pub told : Appends w.sink_old w.sink_new (settlement_lines (asked commands given))
 
--- what came settles the commands before one, which was sent, and is lost; those behind it weren't sent
+-- what came settles the commands before one, and no more; that one was sent, and is lost, and those behind it weren't sent. The sink took the
+-- lines of these settlements
 pub record AsksUpTo (commands : List Command) (given : List ℕ) (w : Written) : Type 0 where
   pub earlier : List Command
   pub command : Command
@@ -98,7 +100,8 @@ pub record AsksUpTo (commands : List Command) (given : List ℕ) (w : Written) :
   pub sent : Appends w.link_old w.link_new (all_of (request_texts 0 (earlier ++ command ∷ [])))
   pub told : Appends w.sink_old w.sink_new (settlement_lines (asked commands given ++ lost_of command ∷ []))
 
--- the commands before one are settled, of that one the first bytes were sent, and it is lost, also where its reply came already
+-- the commands before one are settled, of that one the first bytes were sent, and it is lost, also where its reply came already. The sink took
+-- the lines of these settlements
 pub record AsksPart (commands : List Command) (given : List ℕ) (w : Written) (count bytes : ℕ) : Type 0 where
   pub earlier : List Command
   pub command : Command
@@ -115,8 +118,8 @@ abbrev pub IsNext : List Command → Command → List ℕ → Settlement → Lin
 IsNext earlier command given next (Ok _) = asked (earlier ++ command ∷ []) given ≡ asked earlier given ++ next ∷ []
 IsNext earlier command given next (Err _) = next ≡ lost_of command
 
--- the sink took the settlements of the commands before one, and of the next one the first bytes; the commands behind it weren't sent. The
--- link had ended well where that one was settled, and else with a fault; over says what its ports are with each end
+-- the sink took the settlements of the commands before one, and of its settlement the first bytes; the commands behind it weren't sent. The
+-- link had ended well where that one was settled, and else with a fault; `over e` says what the link's ports are behind the end e
 pub record TellsPart (commands : List Command) (given : List ℕ) (w : Written) (over : LinkEnd → Type 0) : Type 0 where
   pub earlier : List Command
   pub command : Command
@@ -133,7 +136,7 @@ pub record TellsPart (commands : List Command) (given : List ℕ) (w : Written) 
   pub not_all : part < length (settlement_line (length earlier) next)
   pub told : Appends w.sink_old w.sink_new (settlement_lines (asked earlier given) ++ take part (settlement_line (length earlier) next))
 
--- what was asked over a link that gave these bytes, by how asking ended; `over` says what the link's ports are with each end
+-- what was asked over a link that gave these bytes, by how asking ended; `over e` says what the link's ports are behind the end e
 abbrev pub Asks : List Command → List ℕ → Written → (over : LinkEnd → Type 0) → LinkEnd → Type 0
 Asks commands given w over (Ok _) = AsksAll commands given w
 Asks commands given w over (Err Read) = AsksUpTo commands given w
@@ -143,8 +146,8 @@ Asks commands given w over (Err (Write count bytes)) = AsksPart commands given w
 Asks commands given w over (Err Output) = TellsPart commands given w over
 Asks commands given w over (Err _) = ⊥
 
--- what the two ports of an end of a link are once they were used, with this end: whether the last read was the end of the input, and
--- which of them has failed
+-- the two ports of a link's end behind a use that ended with this result: whether the last read was the end of the input, and which port
+-- has failed
 abbrev pub LinkEnds : Ports → Ports → LinkEnd → Type 0
 LinkEnds old new (Ok _) = (old.reads < new.reads → new.ended ≡ false) × (new.source_failed ≡ old.source_failed) × (new.sink_failed ≡ old.sink_failed)
 LinkEnds old new (Err Read) = (old.reads < new.reads → new.ended ≡ false) × (new.source_failed ≡ true) × (new.sink_failed ≡ old.sink_failed)
@@ -153,8 +156,8 @@ LinkEnds old new (Err TooManyReads) = (old.reads < new.reads → new.ended ≡ f
 LinkEnds old new (Err LinkClosed) = (old.reads < new.reads) × (new.ended ≡ true) × (new.source_failed ≡ old.source_failed) × (new.sink_failed ≡ old.sink_failed)
 LinkEnds old new (Err _) = ⊥
 
--- why asking ended, where over says what the ports of a link are with each end, and whether the sink has failed: it failed exactly where
--- that is the fault, and then over holds of an end that the link had
+-- which ports have failed, by how asking ended. With `Output` the sink has failed, and `over` holds of some end of the link. With any other
+-- end `over` holds of that end, and whether the sink has failed is as before. `over e` says what the link's ports are behind the end e
 abbrev pub EndsWith : (over : LinkEnd → Type 0) → (sink_old sink_new : Bool) → LinkEnd → Type 0
 EndsWith over sink_old sink_new (Err Output) = (sink_new ≡ true) × ((link : LinkEnd) × over link)
 EndsWith over sink_old sink_new (Ok x) = over (Ok x) × (sink_new ≡ sink_old)

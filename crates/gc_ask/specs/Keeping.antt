@@ -1,4 +1,4 @@
--- A port that is kept: how its connections ended, and what is told of them. This project's own.
+-- A port that is kept: how its connections ended, and what is written of them. This project's own.
 use Rattle.std.specs.Prelude.{◌≡◌, ℕ, ◌+◌, Bool, true, List, [], ◌∷◌, ◌++◌, length, Option, Some, None, Result, Ok, Err, codes}
 use Rattle.std.specs.Fmt.{decimal}
 use Rattle.std.specs.Io.KnownBytes.{Appends}
@@ -15,7 +15,7 @@ use Rattle.gc_ask.specs.declared.callers.CallerFault.TheVariants.{Read, Write, T
 abbrev pub End : Type 0
 End = Result (Unit {0}) CallerFault
 
--- a fault as it is printed: an idle connection has no number, since nothing failed
+-- a fault as it is printed: an idle connection has no number, because nothing failed
 abbrev pub caller_fault_text : CallerFault → List ℕ
 caller_fault_text Read = numbered 42
 caller_fault_text (Write count bytes) = numbered 43 ++ how_far count bytes
@@ -27,23 +27,24 @@ caller_fault_text Idle = codes "idle"
 abbrev pub caller_line : (number : ℕ) → CallerFault → List ℕ
 caller_line number fault = codes "geocom: connection " ++ (decimal number ++ (codes ": " ++ (caller_fault_text fault ++ codes "\n")))
 
--- what is told of a connection: nothing where it was served to its end
+-- what is written of a connection: its fault's line, or nothing where it was served to its end
 abbrev pub told_of : (number : ℕ) → End → List ℕ
 told_of number (Ok _) = []
 told_of number (Err fault) = caller_line number fault
 
--- what is told of connections, of which the first has this number
+-- what is written of connections, of which the first has this number
 abbrev pub told_from : (number : ℕ) → List End → List ℕ
 told_from number [] = []
 told_from number (end ∷ later) = told_of number end ++ told_from (number + 1) later
 
--- known ends grow by these
+-- ends that were known are known still, with these behind them
 abbrev pub Grows : Option (List End) → Option (List End) → List End → Type 0
 Grows None new more = Unit {0}
 Grows (Some ends) None more = ⊥
 Grows (Some ends) (Some all) more = all ≡ ends ++ more
 
--- so many callers were served, whatever became of each; where all lines were written the messages grew by the line of each fault, and by nothing else
+-- `most` callers were served, whatever became of each; where all lines were written (`told`), the messages grew by the line of each fault,
+-- and by nothing else
 pub record Kept (most : ℕ) (told : Bool) (old new : Option (List End)) (messages_old messages_new : Option (List ℕ)) : Type 0 where
   pub ends : List End
   pub count : length ends ≡ most
@@ -57,7 +58,7 @@ end_of_caller (Err (serving.Read _)) = Err Read
 end_of_caller (Err (serving.Write count bytes)) = Err (Write count bytes)
 end_of_caller (Err (serving.TooManyReads _)) = Err TooManyReads
 
--- how many callers a kept port serves: as many as it was told to, or as a u64 counts
+-- how many callers a kept port serves: the number that was asked for, or else the greatest u64
 abbrev pub most_callers : Option ℕ → ℕ
 most_callers None = 18446744073709551615
 most_callers (Some connections) = connections

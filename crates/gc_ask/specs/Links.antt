@@ -33,19 +33,19 @@ ReadsOnce old new given (Ok more) =
     Consumes old.remaining new.remaining given × (new.reads ≡ old.reads + 1) × (new.ended ≡ not more) × (old.failed ≡ false) × (new.failed ≡ false)
 ReadsOnce old new given (Err _) = Keeps old.remaining new.remaining × (new.reads ≡ old.reads) × (new.ended ≡ old.ended) × (new.failed ≡ true)
 
--- the ports of an end behind one step, which ended so
+-- the ports of an end behind one step with this result: the reads don't get fewer, and without a read `ended` is as before
 pub record StepEnds (old new : Ports) (result : LinkEnd) : Type 0 where
   pub ends : LinkEnds old new result
   pub same : new.reads ≡ old.reads → new.ended ≡ old.ended
   pub grows : old.reads ≤ new.reads
 
--- the ports of both ends behind one step, which ended so at one of them and well at the other
+-- the ports of both ends behind one step, which had this result at one of them and went well at the other
 abbrev pub BothStep : (client_old client_new instrument_old instrument_new : Ports) → LinkEnd → Type 0
 BothStep client_old client_new instrument_old instrument_new result =
     (StepEnds client_old client_new result × StepEnds instrument_old instrument_new (Ok tt))
     ⊎ (StepEnds client_old client_new (Ok tt) × StepEnds instrument_old instrument_new result)
 
--- a text, the one at this place, went out whole, or the sink failed, and took so many bytes of it
+-- the text at this place went out whole, or the sink failed and took its first bytes, but not all: the fault has the place and their count
 abbrev pub Sends : ℕ → List ℕ → Taken → Taken → LinkEnd → Type 0
 Sends place text old new (Ok _) = Appends old.bytes new.bytes text × (new.failed ≡ old.failed)
 Sends place text old new (Err (Write count bytes)) =

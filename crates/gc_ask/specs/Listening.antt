@@ -29,7 +29,7 @@ abbrev pub SettlesNothing : ById → Option (List ℕ) → Type 0
 SettlesNothing client None = Unit {0}
 SettlesNothing client (Some line) = fits client (heard line) ≡ false
 
--- a client took the line of a frame, if it has one: whether that settled a request, and what then stands
+-- a client took the line of a frame, if it has one: whether that settled a request, which settlements came, and the client behind it
 abbrev pub TakesFrame : ById → ById → Option (List ℕ) → List Settlement → Bool → Type 0
 TakesFrame from to line settled false = (to ≡ from) × SettlesNothing from line
 TakesFrame from to None settled true = ⊥
@@ -42,8 +42,8 @@ pub record IsQuiet (rest bytes : List ℕ) (kept : Kept) (from to : ById) : Type
   pub stands : StandsFor kept (rest_behind rest bytes)
   pub same : to ≡ from
 
--- what a client's end has heard, and how it stands: the bytes that came behind a rest of a line, what of them isn't looked at yet, what
--- the assembler keeps, for what the client waits, and what its last reply settled
+-- what a client's end has heard, and its state: the rest of a line, the bytes that came behind that rest, those of them that it hasn't looked
+-- at yet, what the assembler keeps, the client by its ids, and what its last reply settled
 pub record Heard : Type 0 where
   pub rest : List ℕ
   pub bytes : List ℕ
@@ -57,17 +57,18 @@ abbrev pub heard_by : ClientEnd → (rest bytes left : List ℕ) → Heard
 heard_by end rest bytes left =
     record { rest = rest; bytes = bytes; left = left; kept = end.assembler; client = end.client.ids; settled = end.settled.items }
 
--- what the client's end of a link took, and the sink of the settlements
+-- what the client's end of a link and the sink of the settlements took
 abbrev pub took_meanwhile : (old new : Ports) → (sink_old sink_new : Option (List ℕ)) → Written
 took_meanwhile old new sink_old sink_new = record { link_old = old.taken; link_new = new.taken; sink_old = sink_old; sink_new = sink_new }
 
--- what a link gave meanwhile, at most 256 bytes at each read; and this holds of it, behind any rest of a line that the assembler kept
+-- a link gave some bytes, at most 256 at each read, and `claim` holds of them behind any rest of a line that the assembler kept
 abbrev pub Gives : (old new : Ports) → Kept → ((rest given : List ℕ) → Type 0) → Type 0
 Gives old new assembler claim =
     (given : List ℕ) × Consumes old.remaining new.remaining given
     × (length given ≤ 256 * (new.reads - old.reads)) × ((rest : List ℕ) → StandsFor assembler rest → claim rest given)
 
--- of the lines that came one is the first to settle a request of this client, and what is left stands behind it
+-- of the lines that came one is the first to settle a request of this client, and what is left stands behind that line. The settlements and
+-- the client then are those of the client's rule, and the assembler keeps nothing
 pub record Settles (from : ById) (heard_so : Heard) : Type 0 where
   pub front : List (List ℕ)
   pub line : List ℕ
@@ -79,17 +80,17 @@ pub record Settles (from : ById) (heard_so : Heard) : Type 0 where
   pub settles : AreSettlements heard_so.settled (hears from line (heard line)).settlements
   pub client : heard_so.client ≡ (hears from line (heard line)).client
 
--- what is left of a piece of which this many bytes were used, or all
+-- what is left of a piece of which this many bytes were used; nothing where no number is given
 abbrev pub left_by : Option ℕ → List ℕ → List ℕ
 left_by None piece = []
 left_by (Some used) piece = drop used piece
 
--- what the lines of a piece did: none of them settled a request, or one did, and so many bytes of the piece were used
+-- what the lines of a piece did: none of them settled a request, or one did, where a number of used bytes is given
 abbrev pub Listens : ById → Heard → Option ℕ → Type 0
 Listens from heard_so None = IsQuiet heard_so.rest heard_so.bytes heard_so.kept from heard_so.client
 Listens from heard_so (Some used) = Settles from heard_so
 
--- reading until a line settles a request: it did, or what was read settles none
+-- a client read until a line settles its request: one did, or no line that was read does
 abbrev pub HearsReply : ById → Heard → Result (Unit {0}) RunFault → Type 0
 HearsReply from heard_so (Ok _) = Settles from heard_so
 HearsReply from heard_so (Err _) = (first_reply from (lines_behind heard_so.rest heard_so.bytes) ≡ None) × (heard_so.client ≡ from)
@@ -124,7 +125,7 @@ TellsOne place command heard_so w over =
     ⊎ ((fault : RunFault) × over (Err fault)
     × ((part : ℕ) × Appends w.link_old w.link_new (take part (request_text place command)) × ToldPart place (lost_of command ∷ []) w.sink_old w.sink_new))
 
--- a request was sent, its reply waited for, and its settlement told
+-- a request was sent, its reply waited for, and its settlement written, by how that ended
 abbrev pub AsksOne : (alone : Bool) → ℕ → Command → Heard → Written → (over : LinkEnd → Type 0) → LinkEnd → Type 0
 AsksOne alone place command heard_so w over (Ok _) =
     Appends w.link_old w.link_new (request_text place command)
@@ -140,8 +141,8 @@ AsksOne alone place command heard_so w over (Err _) =
 
 -- Runs.
 
--- what came settles the commands before one, which was sent, and is lost; those behind it weren't sent. Where the link is alone, what came
--- doesn't settle that one either
+-- what came settles the commands before one; that one was sent, and is lost, and those behind it weren't sent. Where the link is alone, what
+-- came doesn't settle that one either. The sink took the lines of these settlements
 pub record StopsAt (alone : Bool) (commands : List Command) (given : List ℕ) (w : Written) : Type 0 where
   pub earlier : List Command
   pub command : Command
@@ -152,7 +153,8 @@ pub record StopsAt (alone : Bool) (commands : List Command) (given : List ℕ) (
   pub sent : Appends w.link_old w.link_new (all_of (request_texts 0 (earlier ++ command ∷ [])))
   pub told : Appends w.sink_old w.sink_new (settlement_lines (asked earlier given ++ lost_of command ∷ []))
 
--- the same, where of the one that is lost the first bytes were sent, or all: its request, or its reply, was cut
+-- what came settles the commands before one, whose request or whose reply was cut: of its request the first bytes were sent, or all, and it is
+-- lost; those behind it weren't sent. The sink took the lines of these settlements
 pub record IsCut (alone : Bool) (commands : List Command) (given : List ℕ) (w : Written) (count part : ℕ) : Type 0 where
   pub earlier : List Command
   pub command : Command
@@ -165,7 +167,7 @@ pub record IsCut (alone : Bool) (commands : List Command) (given : List ℕ) (w 
   pub sent : Appends w.link_old w.link_new (all_of (request_texts 0 earlier) ++ take bytes (request_text count command))
   pub told : Appends w.sink_old w.sink_new (settlement_lines (asked earlier given ++ lost_of command ∷ []))
 
--- what was asked over a link that gave these bytes, by how the link ended; where it is alone, it has one end
+-- how commands were asked over a link that gave these bytes, by how that ended; `alone` says whether somebody else answers at the other end
 abbrev pub AsksOn : (alone : Bool) → List Command → List ℕ → Written → (over : LinkEnd → Type 0) → LinkEnd → Type 0
 AsksOn alone commands given w over (Ok _) = AsksAll commands given w
 AsksOn alone commands given w over (Err Read) = StopsAt alone commands given w

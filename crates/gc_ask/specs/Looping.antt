@@ -13,7 +13,8 @@ use Rattle.gc_ask.specs.declared.looped.Duplex.{Duplex}
 use Rattle.gc_ask.specs.Asking.{asked, lost_of, taken_by, request_text, request_texts, Taken, Written, LinkEnd, AsksAll, TellsPart, LinkEnds, EndsWith}
 use Rattle.gc_texts.specs.Texts.{end_reads}
 
--- what came settles the commands before one, which was sent, and is lost; those behind it weren't sent
+-- what came settles the commands before one; that one was sent, and is lost, and those behind it weren't sent. The sink took the lines of these
+-- settlements
 pub record LoopsUpTo (commands : List Command) (given : List ℕ) (w : Written) : Type 0 where
   pub earlier : List Command
   pub command : Command
@@ -23,7 +24,8 @@ pub record LoopsUpTo (commands : List Command) (given : List ℕ) (w : Written) 
   pub sent : Appends w.link_old w.link_new (all_of (request_texts 0 (earlier ++ command ∷ [])))
   pub told : Appends w.sink_old w.sink_new (settlement_lines (asked earlier given ++ lost_of command ∷ []))
 
--- the same, where of the one that is lost the first bytes were sent, or all: its request, or its reply, was cut
+-- what came settles the commands before one, whose request or whose reply was cut: of its request the first bytes were sent, or all, and it is
+-- lost; those behind it weren't sent. The sink took the lines of these settlements
 pub record LoopsPart (commands : List Command) (given : List ℕ) (w : Written) (count : ℕ) : Type 0 where
   pub earlier : List Command
   pub command : Command
@@ -45,7 +47,7 @@ Loops commands given w over (Err (Write count _)) = LoopsPart commands given w c
 Loops commands given w over (Err Output) = TellsPart commands given w over
 Loops commands given w over (Err _) = ⊥
 
--- the ports of both ends where asking ended so: one of them has the reason, and the other is sound
+-- the ports of both ends of a link, by how asking ended: one end has the reason, and the other ended well
 abbrev pub BothEnd : (client_old client_new instrument_old instrument_new : Ports) → Result (Unit {0}) RunFault → Type 0
 BothEnd client_old client_new instrument_old instrument_new result =
     (LinkEnds client_old client_new result × LinkEnds instrument_old instrument_new (Ok tt))

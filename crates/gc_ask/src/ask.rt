@@ -1,4 +1,4 @@
-//! Asking: each command of a text is sent over a link, once the one before it is settled, and each settlement is told.
+//! Asking: each command of a text is sent over a link, once the one before it is settled, and each settlement is written.
 
 ghost use Rattle.std.specs.Prelude.{◌≡◌, ◌+◌, ◌*◌, ◌-◌, ◌≤◌, ◌++◌, [], ℕ, List, length, Err};
 ghost use Rattle.std.specs.Io.KnownBytes.{Consumes};
@@ -30,7 +30,7 @@ pub(crate) struct Asking {
 }
 
 impl Asking {
-    // Before the first command.
+    // What is kept before the first command.
     pub(crate) fn new(max_reads: u32) -> Asking
         ensures client { result.end.client.ids ≡ idle 0 }
         ensures assembler { StandsFor result.end.assembler [] }
@@ -44,7 +44,7 @@ impl Asking {
         }
     }
 
-    // The request of the command at this place, for which the client then waits, without a deadline.
+    // Makes the request of the command at this place, for whose reply the client then waits, without a deadline.
     fn request(&mut self, place: usize, command: &Command) -> Line
         requires { self.old.end.client.ids ≡ idle place }
         ensures text { with_end result.items ≡ request_text place command.now }
@@ -62,7 +62,7 @@ impl Asking {
         line
     }
 
-    // Sends the command at this place, and waits until it is settled.
+    // Sends the command at this place, and waits until it is settled, or the link has a fault.
     fn exchange<L: Link>(
         &mut self,
         place: usize,
@@ -85,8 +85,8 @@ impl Asking {
         self.end.hear_reply(link, &mut self.ahead, &mut self.reads)
     }
 
-    // Asks the command at this place, and writes the line of its settlement. After a fault of the link it is lost, which is
-    // written too.
+    // Asks the command at this place, and writes the line of its settlement. After a fault of the link the command is lost, and
+    // that is written, too.
     fn ask<L: Link, K: Sink>(
         &mut self,
         place: usize,
@@ -123,14 +123,14 @@ impl Asking {
 /// most 256 bytes each.
 ///
 /// Each command is sent once the one before it is settled. Request k has id k modulo 8, and it is settled by the first reply
-/// with this id among the lines behind the one that settled request k - 1. Other lines are passed over. The line of each
+/// with this id among the lines behind the one that settled request k - 1. Other lines are ignored. The line of each
 /// settlement goes to the sink as the reply comes.
 ///
 /// Before anything is sent or written, `Read` comes where the source failed, `InputTooLong` where it gave more than 65,536
 /// bytes, `Schedule` at the first line that has the form of no command, counted from 1, and `Memory` where a growth was
 /// refused. Then a fault of the link ends the run: `Read` where it can't be read, `Write` where it can't be written,
 /// `LinkClosed` where it ends, and `TooManyReads` where all reads were made, none was the end, and what came doesn't
-/// settle the request. The request is lost then, and its line is written before the fault is answered. Nothing is sent
+/// settle the request. The request is lost then, and its line is written before the fault is returned. Nothing is sent
 /// afterwards. `Output` comes where the sink failed, also as it took that line.
 pub fn run_ask<S: Source, I: Source, O: Sink, K: Sink>(
     alloc: Global,
@@ -140,8 +140,8 @@ pub fn run_ask<S: Source, I: Source, O: Sink, K: Sink>(
     sink: &mut K,
     max_reads: u32,
 ) -> Result<(), RunFault>
-    // What the text was, and what of its commands was asked: what the link took, what it gave, and what the sink took; and
-    // which ports have failed.
+    // Which text was read, and how its commands were asked: what the link took and gave, what the sink took, and which ports
+    // have failed.
     ensures asks { AskRuns (input_of S.Source commands.old) (input_of S.Source commands.new) max_reads
         (record { link = ports_of I.Source link_in.old O.Sink link_out.old; sink = taken_by K.Sink sink.old })
         (record { link = ports_of I.Source link_in.new O.Sink link_out.new; sink = taken_by K.Sink sink.new })
@@ -150,7 +150,7 @@ pub fn run_ask<S: Source, I: Source, O: Sink, K: Sink>(
     // At most 65,537 reads of the source were answered.
     ensures bounded { S.reads commands.new ≤ S.reads commands.old + (TEXT_LIMIT + 1) }
 
-    // After want of memory nothing was read of the link, sent or written.
+    // Where memory was refused, nothing was read of the link, sent or written.
     ensures memory { result ≡ Err RunFault.Memory
         → (I.remaining link_in.new ≡ I.remaining link_in.old) × (I.reads link_in.new ≡ I.reads link_in.old)
         × (O.taken link_out.new ≡ O.taken link_out.old) × (K.taken sink.new ≡ K.taken sink.old) }
@@ -162,7 +162,8 @@ pub fn run_ask<S: Source, I: Source, O: Sink, K: Sink>(
     run_over(alloc, commands, &mut link, sink, max_reads)
 }
 
-/// Reads the whole command text of a source, and asks its commands over any link, in at most `max_reads` reads of its ends.
+/// Reads the whole command text of a source, and asks its commands over any link, in at most `max_reads` reads of its ends. The
+/// faults come as `run_ask` says.
 pub(crate) fn run_over<S: Source, L: Link, K: Sink>(
     alloc: Global,
     commands: &mut S,
@@ -176,7 +177,7 @@ pub(crate) fn run_over<S: Source, L: Link, K: Sink>(
         result }
     ensures bounded { S.reads commands.new ≤ S.reads commands.old + (TEXT_LIMIT + 1) }
 
-    // After want of memory nothing was read of the link, sent or written.
+    // Where memory was refused, nothing was read of the link, sent or written.
     ensures memory { result ≡ Err RunFault.Memory
         → (L.client link.new ≡ L.client link.old) × (L.instrument link.new ≡ L.instrument link.old) × (K.taken sink.new ≡ K.taken sink.old) }
     ensures bound { (L.client link.new).reads + (L.instrument link.new).reads ≤ (L.client link.old).reads + (L.instrument link.old).reads + max_reads }
@@ -191,14 +192,14 @@ pub(crate) fn run_over<S: Source, L: Link, K: Sink>(
     ask_all(commands.as_slice(), link, sink, max_reads)
 }
 
-/// Asks commands in order, in at most `max_reads` reads of the link's ends.
+/// Asks commands in order, in at most `max_reads` reads of the link's ends. It ends at the first fault of the link or of the sink.
 pub(crate) fn ask_all<L: Link, K: Sink>(
     commands: &[Command],
     link: &mut L,
     sink: &mut K,
     max_reads: u32,
 ) -> Result<(), RunFault>
-    // What the link gave, what it took and the sink of the settlements, why it ended, and which ports have failed.
+    // What the link gave, what the link and the sink took, why the asking ended, and which ports have failed.
     ensures asks { AsksAt L.alone commands.now max_reads
         (seen_at (L.client link.old) (L.instrument link.old) (taken_by K.Sink sink.old))
         (seen_at (L.client link.new) (L.instrument link.new) (taken_by K.Sink sink.new))

@@ -25,7 +25,7 @@ pub(crate) struct Caller<'a> {
 }
 
 impl<'a> Caller<'a> {
-    /// Over a connection that has its time-outs already. Nothing was read of it yet.
+    /// The reading end of a connection that has its time-outs already. Nothing was read of it yet.
     pub(crate) fn new(stream: &'a TcpStream) -> Caller<'a> {
         Caller {
             stream,
@@ -62,7 +62,7 @@ fn is_time_out(kind: ErrorKind) -> bool {
     matches!(kind, ErrorKind::WouldBlock | ErrorKind::TimedOut)
 }
 
-/// Serves one connection, whose two directions these are, with an instrument that is restarted for it.
+/// Restarts an instrument, and serves one connection with it, whose two directions these are. A fault says why `serve` left it.
 pub(crate) fn serve_caller<S: Source, K: Sink>(
     instrument: &mut Instrument,
     source: &mut S,

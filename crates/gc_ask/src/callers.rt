@@ -17,14 +17,14 @@ pub enum CallerFault {
     Write { replies: u64, bytes: usize },
     /// As many reads were made as are allowed, and none was the end.
     TooManyReads,
-    /// No connection could be accepted, or none whose calls are sure to end.
+    /// No connection could be accepted, or none whose calls are sure to end; or the device is there and can't be used.
     Socket,
     /// Nothing came for as long as a connection may be idle.
     Idle,
 }
 
 impl CallerFault {
-    /// Writes the line of the fault: the program's name, the connection's number, counted from 1, and why it was left.
+    /// Writes the line of the fault: the program's name, the connection's number, counted from 1, and why that was left.
     pub fn tell<E: Write>(self, number: u64, messages: &mut E) -> io::Result<()>
         ensures { OnOk result (Appends (E.contents messages.old) (E.contents messages.new) (caller_line number self)) }
     {
@@ -68,7 +68,7 @@ pub trait Callers {
 /// counted from 1. A fault ends nothing but its own connection, and a line that can't be written ends nothing. Returns
 /// whether all lines were written.
 pub fn keep<C: Callers, E: Write>(callers: &mut C, most: u64, messages: &mut E) -> bool
-    // `most` callers were served, whatever became of each; and what the messages have where all lines were written.
+    // `most` callers were served, whatever became of each. Where all lines were written, the messages grew by them alone.
     ensures kept { Kept most result (C.served callers.old) (C.served callers.new) (E.contents messages.old) (E.contents messages.new) }
 {
     let mut told = true;
@@ -79,7 +79,8 @@ pub fn keep<C: Callers, E: Write>(callers: &mut C, most: u64, messages: &mut E) 
     told
 }
 
-// Tells how the connection with this number ended, where that was a fault. Says whether all lines were written so far.
+// Writes the line of the connection with this number where it ended with a fault, and else nothing. Returns whether all lines were
+// written so far; `told` says whether all before were.
 fn tell_end<E: Write>(
     end: Result<(), CallerFault>,
     number: u64,

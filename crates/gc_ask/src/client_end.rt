@@ -38,7 +38,8 @@ impl ClientEnd {
         }
     }
 
-    // Takes the line of a frame, if it is one, and says whether it settles a request.
+    // Hands the client the line that a frame is, if it is one. Returns whether that line settled a request; the settlements are
+    // then in `settled`.
     fn take_frame(&mut self, frame: Lent<'_>) -> bool
         requires { IsLineWithin frame }
         ensures same { self.new.assembler ≡ self.old.assembler }
@@ -50,8 +51,9 @@ impl ClientEnd {
         self.client.hear(line, &mut self.settled) == Hearing::Settled
     }
 
-    // Takes the lines of a piece up to the first that settles a request, and says how many bytes that used. None: no line
-    // of the piece settles one, and all of it was used. A cut line is put together in `cut`.
+    // Takes the lines of a piece up to the first that settles a request, and returns how many bytes stand through that line.
+    // `None`: no line of the piece settles a request, and all of it was used. A line that comes in several pieces is put
+    // together in `cut`.
     fn listen(&mut self, piece: &[u8], cut: &mut Line) -> Option<usize>
         ensures within { IfSome result (λ used. used ≤ length piece.now) }
         ensures listens { (rest : List ℕ) → StandsFor self.old.assembler rest
@@ -69,7 +71,7 @@ impl ClientEnd {
     }
 
     // Reads a link, at most `reads` times, until a line settles a request that waits. Bytes behind that line stay in `ahead`
-    // for the next request.
+    // for the next request. The faults are `TooManyReads`, `Read` and `LinkClosed`, as `run_ask` has them.
     pub(crate) fn hear_reply<L: Link>(
         &mut self,
         link: &mut L,

@@ -1,4 +1,4 @@
-//! What is asked and served over real connections, to their ends: what makes a connection stands in `gc_links`.
+//! Asking and serving over real connections, to their ends. How a connection is made stands in `gc_links`.
 
 ghost use Rattle.std.specs.Prelude.{◌≡◌, ◌≤◌, Option, Result};
 ghost use Rattle.gc_lines.specs.declared.served.Served.{Served};
@@ -36,7 +36,7 @@ pub const MOST_CONNECTIONS: u32 = 1000;
 /// Reads the whole command text of a source, binds a free port, connects to it, and asks the commands over that one
 /// connection, at whose other end an instrument stands, in at most `max_reads` reads of both ends together.
 ///
-/// The faults are those of `run_loop_on`, and `Socket` where a bind, a connect or an accept failed. No socket is opened
+/// The faults come as `run_loop_on` says, and `Socket` comes where a bind, a connect or an accept failed. No socket is opened
 /// before the whole text was read.
 pub fn loop_tcp_on<R: Net<Listener = TcpListener, Stream = TcpStream>, S: Source, K: Sink>(
     rt: &R,
@@ -135,9 +135,10 @@ pub fn serve_tcp<R: Net<Listener = TcpListener, Stream = TcpStream>>(
 }
 
 /// Accepts `connections` connections of a port one after the other, and serves each with the instrument, which is restarted for
-/// it, in at most `max_reads` reads. Others wait, as the system has it.
+/// it, in at most `max_reads` reads. Further callers wait in the system's queue.
 ///
-/// `Socket` comes where an accept failed, and the faults of a connection are those of `serve_tcp`.
+/// `Socket` comes where an accept failed. A fault of a connection ends the call with it: `Read`, `Write` and `TooManyReads` as
+/// `serve` has them.
 pub fn serve_on(
     listener: &TcpListener,
     connections: u32,
@@ -163,7 +164,8 @@ pub fn serve_on(
 /// Reads the whole command text of a source, connects to a port of 127.0.0.1, and asks the commands over that connection, in at
 /// most `max_reads` reads of it.
 ///
-/// The faults are those of `run_ask`, and `Socket` where no connection could be had. None is made before the whole text was read.
+/// The faults come as `run_ask` says, and `Socket` comes where no connection could be had. No connection is made before the
+/// whole text was read.
 pub fn ask_tcp<R: Net<Listener = TcpListener, Stream = TcpStream>, S: Source, K: Sink>(
     rt: &R,
     alloc: Global,
@@ -188,7 +190,7 @@ pub fn ask_tcp<R: Net<Listener = TcpListener, Stream = TcpStream>, S: Source, K:
 
 /// Asks the commands of a source as `ask_tcp` does, at a place: connects to it, or opens it where it is a device.
 ///
-/// The faults are those of `run_ask`, and those of `fault_of` where no connection could be had.
+/// The faults come as `run_ask` says, and one of `fault_of` comes where no connection could be had.
 pub fn ask_at<
     R: Net<Listener = TcpListener, Stream = TcpStream> + Files<File = File> + Clock,
     S: Source,
@@ -234,7 +236,7 @@ fn ask_over<I: Read + Drop, O: Write + Drop, K: Sink>(
     ask_all(commands, &mut link, sink, max_reads)
 }
 
-/// The fault of a place over which no connection can be had: `Socket` where that is none of the device.
+/// The fault of a place over which no connection can be had: the device's, or `Socket` where the reason is none of a device.
 pub fn fault_of(reason: Option<Unusable>) -> RunFault
     ensures { result ≡ fault_of_reason reason }
 {
@@ -246,7 +248,8 @@ pub fn fault_of(reason: Option<Unusable>) -> RunFault
     }
 }
 
-/// Serves one connection, whose two directions these are, with an instrument that is restarted for it.
+/// Restarts an instrument, and serves one connection with it, whose two directions these are. It fails with `Read`, `Write` or
+/// `TooManyReads` as `serve` does.
 pub(crate) fn serve_connection<S: Source, K: Sink>(
     instrument: &mut Instrument,
     source: &mut S,

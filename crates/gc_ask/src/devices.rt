@@ -19,14 +19,14 @@ use std::rt::Files;
 use std::thread;
 use std::time::{Clock, Duration};
 
-// The rest behind a device that ended, or that isn't there, in seconds: without one a line that is gone would be asked for
-// without a pause.
+// The rest after a device ended or wasn't there, in seconds: without one a device that is gone would be looked for without a pause.
 const REST: u64 = 1;
 
-/// Opens a device `connections` times, one after the other, and serves it with the instrument, which is restarted for each, until its
+/// Opens a device `connections` times, one after the other. Each time the instrument is restarted, and serves the device until its
 /// end, in at most `max_reads` reads.
 ///
-/// The faults are those of `fault_of` where the device couldn't be opened, and those of `serve_on`.
+/// A fault ends the call: one of `fault_of` where the device couldn't be opened, else `Read`, `Write` or `TooManyReads` as `serve`
+/// has them.
 pub fn serve_device<R: Files<File = File> + Clock>(
     rt: &R,
     path: &str,
@@ -51,11 +51,12 @@ pub fn serve_device<R: Files<File = File> + Clock>(
     Ok(())
 }
 
-/// Serves a device for good, each time that it is there, as `keep_tcp` does with callers. It has one caller alone, who may be
-/// silent for as long as he likes, so `idle` is not used.
+/// Serves a device each time that it is there, as often as `keeping` says, and writes the line of each fault on `messages`. Returns
+/// whether all of these lines were written. A device has one caller alone, who may be silent for as long as he likes, so
+/// `keeping.idle` is not used.
 ///
-/// Where the device is there and can't be used the call ends with its fault, and nothing was told. A device that isn't there, or
-/// that ended, is looked for each second.
+/// Where the device is there at first and can't be used, the call fails as `fault_of` says, and nothing was written. A device that
+/// isn't there, or that ended, is looked for each second.
 pub fn keep_device<R: Files<File = File> + Clock, E: Write>(
     rt: &R,
     path: &str,
@@ -86,14 +87,14 @@ pub fn keep_device<R: Files<File = File> + Clock, E: Write>(
 struct DeviceCallers<'a, R> {
     rt: &'a R,
     path: &'a str,
-    // What was opened already, for the first of them.
+    // The device as it was opened already, for the first caller.
     first: Option<Wire<'a, R>>,
     instrument: &'a mut Instrument,
     max_reads: u32,
 }
 
 impl<'a, R: Files<File = File> + Clock> DeviceCallers<'a, R> {
-    // Waits until the device is there.
+    // Opens the device, which is looked for each second until it is there. `Socket`: it is there and can't be used.
     fn wait(&mut self) -> Result<Wire<'a, R>, CallerFault> {
         if let Some(first) = self.first.take() {
             return Ok(first);
@@ -108,7 +109,7 @@ impl<'a, R: Files<File = File> + Clock> DeviceCallers<'a, R> {
         Err(CallerFault::Socket)
     }
 
-    // Lets a second pass.
+    // Sleeps for a second.
     fn rest(&self) {
         thread::sleep(self.rt, Duration::from_secs(REST));
     }
@@ -117,7 +118,7 @@ impl<'a, R: Files<File = File> + Clock> DeviceCallers<'a, R> {
 impl<'a, R: Files<File = File> + Clock> Callers for DeviceCallers<'a, R> {
     ghost served = { λ _. None };
 
-    // Serves the device until its end, once it is there. A rest is behind it, however it ended.
+    // Serves the device until its end, once it is there, and then rests for a second, however that ended.
     fn serve_next(&mut self) -> Result<(), CallerFault> {
         let ended = match self.wait() {
             Ok(wire) => serve_caller(

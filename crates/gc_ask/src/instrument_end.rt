@@ -28,7 +28,8 @@ impl InstrumentEnd {
         }
     }
 
-    // Reads, at most `reads` times, until one line is answered, and writes that reply, which is number `place`.
+    // Reads, at most `reads` times, until one line is answered, and writes that reply. The faults are `TooManyReads`, `Read`,
+    // `LinkClosed`, and `Write`, which counts `place` replies before this one.
     pub(crate) fn answer_line<I: Source, O: Sink>(
         &mut self,
         place: usize,
@@ -64,8 +65,8 @@ impl InstrumentEnd {
         })
     }
 
-    // Takes the lines that were read up to the first that draws a reply, and says whether one does. Its reply is then the
-    // text. A cut line is put together in `cut`.
+    // Takes the lines that were read up to the first that draws a reply, and returns whether one does. That reply is then in
+    // `text`. A line that comes in several pieces is put together in `cut`.
     fn answer_ahead(&mut self, text: &mut Outgoing, cut: &mut Line) -> bool {
         let left = self.ahead.left();
         let mut at = 0;

@@ -15,7 +15,7 @@ use std::net::{Net, TcpListener, TcpStream};
 use std::thread;
 use std::time::{Clock, Duration};
 
-// The rest behind an accept that failed, in seconds: where no descriptor is free each further one fails at once.
+// The rest after an accept that failed, in seconds: where no descriptor is free each further accept fails at once.
 const REST: u64 = 1;
 
 /// How a port is kept.
@@ -23,7 +23,7 @@ const REST: u64 = 1;
 pub struct Keeping {
     /// How many connections are served. `None`: as many as come.
     pub connections: Option<u32>,
-    /// After how many seconds in which nothing came, or nothing was taken, a connection is closed. None count as one.
+    /// After how many seconds in which nothing came, or nothing was taken, a connection is closed. 0 counts as 1.
     pub idle: u32,
     /// How many reads are made of each connection at most.
     pub max_reads: u32,
@@ -42,10 +42,10 @@ impl Keeping {
 }
 
 /// Binds a port, and serves its connections one after the other, each with the instrument, which is restarted for it. A fault of
-/// a connection ends that connection alone; its line is written on `messages`. Says whether all of these lines were written.
+/// a connection ends that connection alone; its line is written on `messages`. Returns whether all of these lines were written.
 ///
-/// `Socket` comes where the bind failed, and nothing was told. A connection that couldn't be accepted counts as one, with this
-/// fault, and behind it is a rest of a second. The instrument is left in the state after the lines that it answered last.
+/// `Socket` comes where the bind failed, and nothing was written. A connection that couldn't be accepted counts as one, with this
+/// fault, and a rest of a second follows it. The instrument is left in the state after the lines that it answered last.
 pub fn keep_tcp<R: Net<Listener = TcpListener, Stream = TcpStream> + Clock, E: Write>(
     rt: &R,
     port: u16,
@@ -63,7 +63,7 @@ pub fn keep_tcp<R: Net<Listener = TcpListener, Stream = TcpStream> + Clock, E: W
     Ok(keep_on(rt, &listener, keeping, instrument, messages))
 }
 
-/// Serves the connections of a port that is bound, as `keep_tcp` does. Others wait, as the system has it.
+/// Serves the connections of a port that is bound, as `keep_tcp` does. Further callers wait in the system's queue.
 pub fn keep_on<R: Clock, E: Write>(
     rt: &R,
     listener: &TcpListener,
@@ -96,8 +96,8 @@ struct PortCallers<'a, R> {
 impl<'a, R: Clock> Callers for PortCallers<'a, R> {
     ghost served = { λ _. None };
 
-    // Waits for the next connection and serves it. After an accept that failed it sleeps for `REST` seconds. A read that timed out is the
-    // fault `Idle`, any other failed read is `Read`.
+    // Waits for the next connection and serves it. `Socket`: no connection could be accepted, behind which it sleeps for `REST`
+    // seconds, or its waits can't be bounded. A read that timed out is the fault `Idle`, any other failed read is `Read`.
     fn serve_next(&mut self) -> Result<(), CallerFault> {
         let Ok(stream) = accept(self.listener) else {
             thread::sleep(self.rt, Duration::from_secs(REST));
@@ -120,7 +120,8 @@ impl<'a, R: Clock> Callers for PortCallers<'a, R> {
     }
 }
 
-// No read and no write waits longer than this: a caller who takes no replies would hold up all others as an idle one does.
+// Makes no read and no write wait longer than `longest`: a caller who takes no replies would hold up all others as an idle one
+// does.
 fn bound_waits(stream: &TcpStream, longest: Duration) -> io::Result<()> {
     stream.set_read_timeout(Some(longest))?;
     stream.set_write_timeout(Some(longest))

@@ -1,8 +1,7 @@
-//! A link that commands are asked over: requests are sent over it, and read is what comes. It may have an instrument of its own at
+//! A link that commands are asked over: requests are sent over it, and what comes is read. It may have an instrument of its own at
 //! the other end.
 
-ghost use Rattle.std.specs.Prelude.{◌≡◌, ◌+◌, ◌≤◌, [], length, true, false, not, Err, Ok, MatchResult};
-ghost use Rattle.std.specs.Io.KnownBytes.{Consumes, Keeps};
+ghost use Rattle.std.specs.Prelude.{◌≡◌, ◌+◌, ◌≤◌, [], length, true, false, Err, Ok};
 ghost use Rattle.gc_lines.specs.Lines.{with_end};
 ghost use Rattle.gc_ask.specs.Asking.{taken_by};
 ghost use Rattle.gc_ask.specs.Links.{BothStep, OnlyReads, ReadsOnce, Sends, TakesRequest, source_of};
@@ -18,7 +17,7 @@ pub(crate) trait Link {
     ghost use Rattle.gc_lines.specs.Answering.{Ports};
     ghost use Rattle.gc_ask.specs.Links.{Held};
 
-    /// Whether the other end is none of this program's.
+    /// Whether somebody other than this program answers at the other end.
     ghost alone: { Bool };
 
     /// What is seen of the client's end.
@@ -27,7 +26,7 @@ pub(crate) trait Link {
     /// What is seen of the instrument's end.
     ghost instrument: { Self → Ports };
 
-    /// The references that it holds. No call changes them, so a caller knows behind a call what became of its ports.
+    /// The references that the link holds. No call changes them, so a caller knows behind a call what became of its ports.
     ghost held: { Self → Held };
 
     /// Sends the request at this place. Where this program answers at the other end, too, it has the request answered there,
@@ -44,11 +43,7 @@ pub(crate) trait Link {
     fn read(&mut self, ahead: &mut Unheard) -> Result<bool, PortFailed>
         ensures few { length ahead.new ≤ 256 }
         ensures end { result ≡ Ok false → ahead.new ≡ [] }
-        ensures bytes { MatchResult result (λ more. Consumes (client self.old).remaining (client self.new).remaining ahead.new
-            × ((client self.new).reads ≡ (client self.old).reads + 1) × ((client self.new).ended ≡ not more)
-            × ((client self.old).source_failed ≡ false) × ((client self.new).source_failed ≡ false))
-            (λ _. Keeps (client self.old).remaining (client self.new).remaining × ((client self.new).reads ≡ (client self.old).reads)
-            × ((client self.new).ended ≡ (client self.old).ended) × ((client self.new).source_failed ≡ true)) }
+        ensures bytes { ReadsOnce (source_of (client self.old)) (source_of (client self.new)) ahead.new result }
         ensures only { OnlyReads (client self.old) (client self.new) (instrument self.old) (instrument self.new) (held self.old) (held self.new) };
 }
 
@@ -80,7 +75,8 @@ impl<'a, 'b, I: Source, O: Sink> Link for Alone<'a, 'b, I, O> {
     }
 }
 
-/// Writes a request, the one at this place, with its CR LF.
+/// Writes the request at this place, with its CR LF. `Write`: the sink failed; the fault counts `place` requests before this
+/// one, and the bytes of it that went out.
 pub(crate) fn send_line<O: Sink>(place: usize, request: &Line, sink: &mut O) -> Result<(), RunFault>
     ensures { Sends place (with_end request.now.items) (taken_by O.Sink sink.old) (taken_by O.Sink sink.new) result }
 {

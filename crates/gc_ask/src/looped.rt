@@ -1,4 +1,4 @@
-//! A loop: commands are asked over a link whose other end answers them itself, in one thread.
+//! A loop: commands are asked over a link at whose other end this program answers them itself, in one thread.
 
 ghost use Rattle.std.specs.Prelude.{◌≡◌, ◌+◌, ◌≤◌, Err};
 ghost use Rattle.gc_lines.specs.Answering.{ports_of};
@@ -19,9 +19,9 @@ use std::alloc::Global;
 /// Reads the whole command text of a source, and asks its commands over a link at whose other end a simulator stands, in at most
 /// `max_reads` reads of both ends together.
 ///
-/// After each request the instrument's end is read until one line was answered, and that reply is written; then the
-/// client's end is read until the request is settled. The faults are those of `run_ask`: 43 counts requests where the
-/// client's end can't be written and replies where the instrument's can't, and 45 is the end of either input.
+/// After each request the instrument's end is read until one line was answered, and that reply is written; then the client's
+/// end is read until the request is settled. The faults come as `run_ask` says, of either end: `Write` counts requests where
+/// the client's end can't be written and replies where the instrument's can't, and `LinkClosed` is the end of either input.
 pub fn run_loop<S: Source, A: Source, B: Sink, C: Source, D: Sink, K: Sink>(
     alloc: Global,
     commands: &mut S,
@@ -32,7 +32,7 @@ pub fn run_loop<S: Source, A: Source, B: Sink, C: Source, D: Sink, K: Sink>(
     sink: &mut K,
     max_reads: u32,
 ) -> Result<(), RunFault>
-    // What the text was, and what of its commands was asked: what the client's end took and gave, what the sink took, and which
+    // Which text was read, and how its commands were asked: what the client's end took and gave, what the sink took, and which
     // ports have failed.
     ensures loops { LoopRuns (input_of S.Source commands.old) (input_of S.Source commands.new)
         (seen_of A.Source client_in.old B.Sink client_out.old C.Source instrument_in.old D.Sink instrument_out.old K.Sink sink.old)
@@ -77,11 +77,11 @@ pub fn run_loop_on<S: Source, A: Source, B: Sink, C: Source, D: Sink, K: Sink>(
         (seen_over A.Source B.Sink client.new C.Source D.Sink instrument_end.new K.Sink sink.new)
         result }
 
-    // At most `max_reads` reads of both ends were answered, and just as many where that is the fault.
+    // At most `max_reads` reads of both ends were answered, and exactly as many where `TooManyReads` is the fault.
     ensures bound { A.reads client.new.source + C.reads instrument_end.new.source ≤ A.reads client.old.source + C.reads instrument_end.old.source + max_reads }
     ensures too_many { result ≡ Err RunFault.TooManyReads → A.reads client.new.source + C.reads instrument_end.new.source ≡ A.reads client.old.source + C.reads instrument_end.old.source + max_reads }
 
-    // After want of memory nothing was read of the link, sent or written.
+    // Where memory was refused, nothing was read of the link, sent or written.
     ensures memory { result ≡ Err RunFault.Memory → IsUnused (seen_over A.Source B.Sink client.old C.Source D.Sink instrument_end.old K.Sink sink.old)
         (seen_over A.Source B.Sink client.new C.Source D.Sink instrument_end.new K.Sink sink.new) }
 {

@@ -30,7 +30,7 @@ impl Model for Unheard {
 }
 
 impl Unheard {
-    // Nothing was read.
+    // No bytes: nothing was read yet.
     pub(crate) fn new() -> Unheard
         ensures { result ≡ [] }
     {

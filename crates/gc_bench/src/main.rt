@@ -1,5 +1,5 @@
 //! A measuring aid, and no part of the product: it does one thing COUNT times, so that an instruction counter at COUNT
-//! and at twice COUNT tells what the thing costs once.
+//! and at twice COUNT shows what the thing costs once.
 #![tactic(auto)]
 
 mod decimals;
@@ -22,7 +22,8 @@ fn main(rt: HostRuntime) -> io::Result<ExitCode> {
     }
 }
 
-// None where the words aren't `read`, `write`, `send-ring` or `send-slots` with a count, or `rows` or `rows-sync` with a count and a file.
+// Does what the words ask, and returns its sum. `None`: the words aren't `read`, `write`, `send-ring` or `send-slots` with a count, or
+// `rows` or `rows-sync` with a count and a file; or a ring got no memory.
 fn sum_of(rt: &HostRuntime, words: &[String]) -> Option<u64> {
     let thing = words.get(1)?.as_str();
     let count = words.get(2)?.as_str().parse::<u32>().ok()?;

@@ -9,7 +9,8 @@ const HEAD: &[u8] =
 const ROW: &[u8] =
     b"2026-11-22T23:08:00.000Z,2026-11-22T23:08:27.103Z,2026-11-22T23:08:27.123Z,1,0,7,,5003,answered,,0,0,123456\n";
 
-/// Appends `count` rows to the file of this path, makes each of them last, and returns how many did.
+/// Appends `count` rows to the file of this path, with a sync behind each where `sync` is true, and returns for how many both went
+/// well: 0 where the file can't be opened.
 pub fn append(rt: &HostRuntime, path: &str, count: u32, sync: bool) -> u64 {
     match open_at(rt, rt.alloc(), path, HEAD, HEAD, sync) {
         Ok((mut rows, _)) => {
@@ -21,6 +22,7 @@ pub fn append(rt: &HostRuntime, path: &str, count: u32, sync: bool) -> u64 {
     }
 }
 
+// Appends `count` rows to an open file, each synced where the file was opened with `sync`, and returns for how many both went well.
 fn append_to(rows: &mut RowsFile<SystemFile>, count: u32) -> u64 {
     let mut sum = 0u64;
     for _ in 0..count {
@@ -31,6 +33,7 @@ fn append_to(rows: &mut RowsFile<SystemFile>, count: u32) -> u64 {
     sum
 }
 
+// Syncs the file where it was opened with `sync`, and returns whether no call of the file failed.
 fn is_durable(rows: &mut RowsFile<SystemFile>) -> bool {
     rows.sync().is_ok()
 }

@@ -31,7 +31,8 @@ pub fn send<W: Window>(window: W, count: u32) -> u64 {
     sum
 }
 
-// Sends a request. It stays a function of its own, so that its instructions can be told apart.
+// Sends a request, and returns the length of its line, or 0 where the window is full.
+// It stays a function of its own, so that its instructions can be told apart.
 #[inline(never)]
 fn sent<W: Window>(client: &mut Client<W>, target: u32, line: &mut Line) -> u64 {
     let call = Call::SimpleMea {
@@ -44,7 +45,7 @@ fn sent<W: Window>(client: &mut Client<W>, target: u32, line: &mut Line) -> u64 
     }
 }
 
-// Hears the reply. It stays a function of its own, so that its instructions can be told apart.
+// Hears a reply, and returns the scale of its distance. It stays a function of its own, so that its instructions can be told apart.
 #[inline(never)]
 fn answered<W: Window>(
     client: &mut Client<W>,
@@ -55,7 +56,7 @@ fn answered<W: Window>(
     scale_of(settled.as_slice())
 }
 
-// The scale of the first settlement's distance.
+// The scale of the first settlement's distance, and 0 where there is none.
 fn scale_of(settled: &[Settlement]) -> u64 {
     match settled.first() {
         Some(settlement) => match &settlement.outcome {

@@ -17,19 +17,23 @@ use Rattle.gc_values.proofs.RoundedDecimals.{rounded_rounds}
 use Rattle.gc_values.proofs.ListLaws.{no_list_fault, one_list_fault, one_values, params_fit}
 use Rattle.gc_catalogue.proofs.Table.{answer_kinds, few_values_out, same_answer, same_answer_kinds, shape-rounded, values-rounded}
 
+-- parameters are at most one answer of a call
 pub one_answer : (call : Call) (params : List ℕ) (a b : Answer) → IsAnswer call params a → IsAnswer call params b → a ≡ b
 one_answer call params a b x y =
     let shape = x.of_call ∙ sym y.of_call in
     same_answer a b shape (one_values _ _ params (same_answer_kinds a b shape) x.values y.values)
 
+-- parameters of an answer of the call are not unreadable for it
 pub no_unreadable : (call : Call) (params : List ℕ) (a : Answer) (e : ValueFault) → IsAnswer call params a → IsUnreadable call params e → ⊥
 no_unreadable call params a e x y =
     no_list_fault (answer_fields a).values params e (few_values_out a) x.values (rw (same_answer_kinds a y.0 (x.of_call ∙ sym y.1)) y.2)
 
+-- parameters that are unreadable for a call are so by one fault
 pub one_unreadable : (call : Call) (params : List ℕ) (e f : ValueFault) → IsUnreadable call params e → IsUnreadable call params f → e ≡ f
 one_unreadable call params e f x y =
     one_list_fault (answer_kinds x.0) params e f x.2 (rw (same_answer_kinds x.0 y.0 (x.1 ∙ sym y.1)) y.2)
 
+-- a reply has at most one reading for a call
 pub one_reading : (call : Call) (r : ReplyFields) (x y : Reading) → IsReading call r x → IsReading call r y → x ≡ y
 one_reading call r (reading.ComFault a) (reading.ComFault b) x y = ap (λ n. reading.ComFault n) (x.1 ∙ sym y.1)
 one_reading call r (reading.ComFault a) (reading.Refused b) x y = absurd (x.0 y.0)
@@ -48,9 +52,11 @@ one_reading call r (reading.Unreadable a) (reading.Refused b) x y = absurd (y.1 
 one_reading call r (reading.Unreadable a) (reading.Value b) x y = absurd (no_unreadable call r.params b a y.2 x.2)
 one_reading call r (reading.Unreadable a) (reading.Unreadable b) x y = ap (λ z. reading.Unreadable z) (one_unreadable call r.params a b x.2 y.2)
 
+-- an answer that parameters are has its values in their ranges
 pub answer_fits : (call : Call) (params : List ℕ) (answer : Answer) → IsAnswer call params answer → IsFittingAnswer answer
 answer_fits call params answer x = params_fit (answer_fields answer).values params x.values
 
+-- values with each double rounded are shown as the values
 all_shown : (places : ℕ) (vs : List Value) → AreShown places vs (shown_values (Some places) vs)
 all_shown places [] = tt
 all_shown places (value.Double d ∷ vs) = (rounded_rounds d places, all_shown places vs)
@@ -60,5 +66,6 @@ all_shown places (value.Byte n ∷ vs) = (refl, all_shown places vs)
 all_shown places (value.Bool b ∷ vs) = (refl, all_shown places vs)
 all_shown places (value.Text t ∷ vs) = (refl, all_shown places vs)
 
+-- an answer is written with every double rounded and every other value as it is
 pub doubles_are_rounded : DoublesAreRounded
 doubles_are_rounded = λ places answer. (shape-rounded places answer, rw (values-rounded places answer) (all_shown places (answer_fields answer).values))

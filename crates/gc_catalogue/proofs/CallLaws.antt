@@ -9,6 +9,7 @@ use Rattle.gc_catalogue.specs.Lists.{params_of}
 use Rattle.gc_values.proofs.ListLaws.{no_list_fault, one_list_fault, one_values, params_fit, written_reads}
 use Rattle.gc_catalogue.proofs.Table.{alike, few_values, same_call, call_kinds}
 
+-- a number and parameters are those of at most one call
 pub one_call : (n : ℕ) (params : List ℕ) (c d : Call) → IsCall n params c → IsCall n params d → c ≡ d
 one_call n params c d x y =
     let number = x.number ∙ sym y.number in
@@ -20,6 +21,7 @@ no_refusal n params c Unknown x h = h c x.number
 no_refusal n params c (Parameters e) x h =
     no_list_fault (call_fields c).values params e (few_values c) x.values (rw (alike c h.0 (x.number ∙ sym h.1)).kinds h.2)
 
+-- a number and parameters have at most one refusal
 pub one_refusal : (n : ℕ) (params : List ℕ) (e f : CallFault) → IsRefusal n params e → IsRefusal n params f → e ≡ f
 one_refusal n params Unknown Unknown x y = refl
 one_refusal n params Unknown (Parameters f) x y = absurd (x y.0 y.1)
@@ -27,11 +29,12 @@ one_refusal n params (Parameters e) Unknown x y = absurd (y x.0 x.1)
 one_refusal n params (Parameters e) (Parameters f) x y =
     ap (λ z. Parameters z) (one_list_fault (call_kinds x.0) params e f x.2 (rw (alike x.0 y.0 (x.1 ∙ sym y.1)).kinds y.2))
 
--- the call that was made where nothing was refused is the only one, and a refusal too
+-- a reading made call `d` or gave a refusal. Where the parameters are those of a call, it refused nothing and made that call
 pub only_call : (n : ℕ) (params : List ℕ) (r : Result ⊤ CallFault) (d : Call) → OnOk r (IsCall n params d) → IfErr r (λ e. IsRefusal n params e) → (c : Call) → IsCall n params c → IsOk r × (d ≡ c)
 only_call n params (Ok u) d x f c y = (refl, one_call n params d c x y)
 only_call n params (Err e) d x f c y = absurd (no_refusal n params c e y f)
 
+-- a reading made call `d` or gave a refusal. Where the parameters have a refusal, the reading gave that one
 pub only_refusal : (n : ℕ) (params : List ℕ) (r : Result ⊤ CallFault) (d : Call) → OnOk r (IsCall n params d) → IfErr r (λ e. IsRefusal n params e) → (e : CallFault) → IsRefusal n params e → r ≡ Err e
 only_refusal n params (Ok u) d x f e y = absurd (no_refusal n params d e x y)
 only_refusal n params (Err g) d x f e y = ap (λ z. Err z) (one_refusal n params g e f y)
@@ -40,6 +43,7 @@ only_refusal n params (Err g) d x f e y = ap (λ z. Err z) (one_refusal n params
 pub written_is_call : (c : Call) → IsFitting c → IsCall (call_fields c).number (params_of (call_fields c).values) c
 written_is_call c h = record { number = refl; values = written_reads (call_fields c).values h }
 
+-- a call that was read has its values in their ranges
 pub fits_where_found : (n : ℕ) (params : List ℕ) (r : Result ⊤ CallFault) (d : Call) → OnOk r (IsCall n params d) → OnOk r (IsFitting d)
 fits_where_found n params (Ok u) d x = params_fit (call_fields d).values params x.values
 fits_where_found n params (Err e) d x = tt

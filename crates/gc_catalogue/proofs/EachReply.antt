@@ -24,7 +24,7 @@ use Rattle.gc_catalogue.specs.declared.answer.Shape.{Shape}
 use Rattle.gc_catalogue.specs.declared.answer.Shape.TheVariants as shape
 use Rattle.gc_catalogue.specs.declared.call.Call.{Call}
 
--- the first value of a list of kinds, and those behind it
+-- the first value of a list, which is of kind k, and those behind it
 record Split (k : Kind) (ks : List Kind) (vs : List Value) : Type 0 where
   first : Value
   behind : List Value
@@ -32,14 +32,17 @@ record Split (k : Kind) (ks : List Kind) (vs : List Value) : Type 0 where
   kind : kind_of first ≡ k
   kinds : kinds_of behind ≡ ks
 
+-- a list of values whose kinds begin with k begins with a value of kind k
 split : (k : Kind) (ks : List Kind) (vs : List Value) → kinds_of vs ≡ k ∷ ks → Split k ks vs
 split k ks [] e = absurd (cc)
 split k ks (v ∷ vs) e = record { first = v; behind = vs; is = refl; kind = cc; kinds = cc }
 
+-- where the list of kinds is empty, the list of values is
 none_left : (vs : List Value) → kinds_of vs ≡ [] → [] ≡ vs
 none_left [] e = refl
 none_left (v ∷ vs) e = absurd (cc)
 
+-- a value of the kind `Double` is a decimal
 a_double : (v : Value) → kind_of v ≡ kind.Double → (d : Decimal) × (value.Double d ≡ v)
 a_double (value.Double d) e = (d, refl)
 a_double (value.Long z) e = absurd (cc)
@@ -48,6 +51,7 @@ a_double (value.Byte n) e = absurd (cc)
 a_double (value.Bool b) e = absurd (cc)
 a_double (value.Text t) e = absurd (cc)
 
+-- a value of the kind `Long` is a whole number
 a_long : (v : Value) → kind_of v ≡ kind.Long → (z : _) × (value.Long z ≡ v)
 a_long (value.Double d) e = absurd (cc)
 a_long (value.Long z) e = (z, refl)
@@ -56,6 +60,7 @@ a_long (value.Byte n) e = absurd (cc)
 a_long (value.Bool b) e = absurd (cc)
 a_long (value.Text t) e = absurd (cc)
 
+-- a value of the kind `Short` is a whole number
 a_short : (v : Value) → kind_of v ≡ kind.Short → (z : _) × (value.Short z ≡ v)
 a_short (value.Double d) e = absurd (cc)
 a_short (value.Long z) e = absurd (cc)
@@ -64,6 +69,7 @@ a_short (value.Byte n) e = absurd (cc)
 a_short (value.Bool b) e = absurd (cc)
 a_short (value.Text t) e = absurd (cc)
 
+-- a value of the kind `Byte` is a byte
 a_byte : (v : Value) → kind_of v ≡ kind.Byte → (n : ℕ) × (value.Byte n ≡ v)
 a_byte (value.Double d) e = absurd (cc)
 a_byte (value.Long z) e = absurd (cc)
@@ -72,6 +78,7 @@ a_byte (value.Byte n) e = (n, refl)
 a_byte (value.Bool b) e = absurd (cc)
 a_byte (value.Text t) e = absurd (cc)
 
+-- a value of the kind `Text` is a text
 a_text : (v : Value) → kind_of v ≡ kind.Text → (t : List ℕ) × (value.Text t ≡ v)
 a_text (value.Double d) e = absurd (cc)
 a_text (value.Long z) e = absurd (cc)
@@ -90,7 +97,7 @@ record Made (s : Shape) : Type 0 where
   shape : (answer_fields some).shape ≡ s
   each : (vs : List Value) → kinds_of vs ≡ kinds_of (answer_fields some).values → Has s vs
 
--- an answer of one value, by its kind
+-- where an answer of a shape has one value of kind k, there is such an answer for each value of that kind
 of_one : {X : Type 0} (k : Kind) (make : X → Value) (say : X → Answer) (s : Shape) → ((v : Value) → kind_of v ≡ k → (x : X) × (make x ≡ v))
     → ((x : X) → (answer_fields (say x)).shape ≡ s) → ((x : X) → (answer_fields (say x)).values ≡ make x ∷ []) → (vs : List Value) → kinds_of vs ≡ k ∷ [] → Has s vs
 of_one k make say s is shape values vs e =
@@ -98,10 +105,12 @@ of_one k make say s is shape values vs e =
     let x = is p.first p.kind in
     (say x.0, shape x.0, values x.0 ∙ ap (λ v. v ∷ []) x.1 ∙ ap (λ ws. p.first ∷ ws) (none_left p.behind p.kinds) ∙ p.is)
 
+-- where an answer of a shape has one decimal, there is such an answer for each decimal
 one_double : (say : Decimal → Answer) (s : Shape) → ((d : Decimal) → (answer_fields (say d)).shape ≡ s)
     → ((d : Decimal) → (answer_fields (say d)).values ≡ value.Double d ∷ []) → (vs : List Value) → kinds_of vs ≡ kind.Double ∷ [] → Has s vs
 one_double say s is values = of_one kind.Double (λ d. value.Double d) say s a_double is values
 
+-- every shape has a list of kinds, and an answer for each list of values of these kinds
 made : (s : Shape) → Made s
 made shape.Nothing = record { some = answer.Nothing; shape = refl; each = λ vs e. (answer.Nothing, refl, none_left vs e) }
 made shape.Short = record { some = answer.Short (pos 0); shape = refl; each = of_one kind.Short (λ z. value.Short z) (λ z. answer.Short z) shape.Short a_short (λ z. refl) (λ z. refl) }
@@ -184,6 +193,7 @@ made shape.MeasuredMode = record { some = answer.MeasuredMode zero zero zero (po
       let m = a_long s.first s.kind in
       (answer.MeasuredMode a.0 b.0 c.0 m.0, refl, cc (a.1, b.1, c.1, m.1, none_left s.behind s.kinds, s.is, r.is, q.is, p.is))
 
+-- parameters are an answer of the call, or are unreadable for some reason
 answered : (call : Call) (params : List ℕ) → ((a : Answer) × IsAnswer call params a) ⊎ ((e : _) × IsUnreadable call params e)
 answered call params =
     let m = made (call_fields call).answer in
@@ -194,6 +204,7 @@ answered call params =
       | inr faulty ↦ inr (faulty.0, (m.some, m.shape, faulty.1))
     ]
 
+-- each reply has a reading for each call
 pub each_reply : EachReplyIsRead
 each_reply call r = elim (cases_eq r.rc_com 0) [
   | inr fault ↦ (reading.ComFault r.rc_com, (fault, refl))

@@ -12,17 +12,21 @@ use Rattle.gc_values.specs.declared.value.Value.{Value}
 use Rattle.gc_catalogue.specs.Lists.{before_commas, behind_commas, params_of}
 use Rattle.gc_values.proofs.TextShape.{text_is_some}
 
+-- texts of values, each behind a comma, are the values behind commas
 commas-map : (vs : List Value) → flat_map (λ u. 44 ∷ u) (map text vs) ≡ behind_commas vs
 commas-map [] = refl
 commas-map (v ∷ vs) = rw (commas-map vs) refl
 
+-- joined values are the first one's text and the others behind commas
 pub params_of-cons : (v : Value) (vs : List Value) → params_of (v ∷ vs) ≡ text v ++ behind_commas vs
 params_of-cons v vs = ap (λ rest. text v ++ rest) (commas-map vs)
 
+-- parameters of at least one byte stand behind a comma
 params_text-some : (bytes : List ℕ) → 0 < length bytes → params_text bytes ≡ 44 ∷ bytes
 params_text-some [] h = absurd (omega arith)
 params_text-some (b ∷ bs) h = refl
 
+-- bytes with others behind them are at least one byte where the first are
 more : (xs ys : List ℕ) → 0 < length xs → 0 < length (xs ++ ys)
 more [] ys h = absurd (omega arith)
 more (x ∷ xs) ys h = omega arith
@@ -32,23 +36,25 @@ pub params_text-params_of : (vs : List Value) → params_text (params_of vs) ≡
 params_text-params_of [] = refl
 params_text-params_of (v ∷ vs) = ap params_text (params_of-cons v vs) ∙ params_text-some (text v ++ behind_commas vs) (more (text v) (behind_commas vs) (text_is_some v))
 
--- a line that is begun, and its parameters behind it
+-- values before commas are the values joined, and a comma behind them
 before-params : (v : Value) (vs : List Value) → before_commas (v ∷ vs) ≡ params_of (v ∷ vs) ++ 44 ∷ []
 before-params v [] = simp append-nil
 before-params v (w ∷ vs) = rw (before-params w vs) (simp append_assoc)
 
+-- a comma and values before commas are the values behind commas, and a comma
 pub behind-before : (vs : List Value) → 44 ∷ before_commas vs ≡ behind_commas vs ++ 44 ∷ []
 behind-before [] = refl
 behind-before (v ∷ vs) =
     ap (λ rest. 44 ∷ rest) (append_assoc (text v) (44 ∷ []) (before_commas vs)) ∙ ap (λ rest. 44 ∷ (text v ++ rest)) (behind-before vs)
     ∙ sym (ap (λ rest. 44 ∷ rest) (append_assoc (text v) (behind_commas vs) (44 ∷ [])))
 
+-- without its last element, a list with one appended is the list
 without_last : (xs : List ℕ) (a : ℕ) → take (length (xs ++ a ∷ []) - 1) (xs ++ a ∷ []) ≡ xs
 without_last xs a =
     let n : length (xs ++ a ∷ []) - 1 ≡ length xs = omega (arith, length-append xs (a ∷ [])) in
     ap (λ k. take k (xs ++ a ∷ [])) n ∙ take-append_seam xs (a ∷ [])
 
--- a comma, values before commas, and the last comma taken off
+-- a head and a comma, values before commas, and the last comma taken off are the head and the values behind commas
 pub comma_list : (head : List ℕ) (vs : List Value) (begun old new : List ℕ) → begun ≡ head ++ 44 ∷ [] → old ≡ begun ++ before_commas vs
     → new ≡ take (length old - 1) old → new ≡ head ++ behind_commas vs
 comma_list head vs begun old new start is cut =
@@ -57,18 +63,20 @@ comma_list head vs begun old new start is cut =
     ∙ sym (append_assoc head (behind_commas vs) (44 ∷ [])) in
     cut ∙ ap (λ bytes. take (length bytes - 1) bytes) all ∙ without_last (head ++ behind_commas vs) 44
 
+-- the empty list doesn't end in an element
 nothing_ends : (ys : List ℕ) (b : ℕ) → [] ≡ ys ++ b ∷ [] → ⊥
 nothing_ends [] b e = absurd (cc)
 nothing_ends (y ∷ ys) b e = absurd (cc)
 
--- bytes have one end
+-- a list ends in one byte
 ends_once : (xs ys : List ℕ) (a b : ℕ) → xs ++ a ∷ [] ≡ ys ++ b ∷ [] → a ≡ b
 ends_once [] [] a b e = cc
 ends_once [] (y ∷ ys) a b e = let rest : [] ≡ ys ++ b ∷ [] = cc in absurd (nothing_ends ys b rest)
 ends_once (x ∷ xs) [] a b e = let rest : [] ≡ xs ++ a ∷ [] = cc in absurd (nothing_ends xs a rest)
 ends_once (x ∷ xs) (y ∷ ys) a b e = let rest : xs ++ a ∷ [] ≡ ys ++ b ∷ [] = cc in ends_once xs ys a b rest
 
--- a colon and values before commas, and the comma at the end taken off where there is one
+-- a head and a colon, values before commas, and a comma taken off the end where one stands there are the head, the colon and the values
+-- joined
 colon_list : (head : List ℕ) (vs : List Value) (old new : List ℕ) → old ≡ (head ++ 58 ∷ []) ++ before_commas vs
     → ((front : List ℕ) → old ≡ front ++ 44 ∷ [] → new ≡ front) → (((front : List ℕ) → old ≢ front ++ 44 ∷ []) → new ≡ old)
     → new ≡ (head ++ 58 ∷ []) ++ params_of vs
@@ -77,10 +85,12 @@ colon_list head [] old new is comma other =
 colon_list head (v ∷ vs) old new is comma other =
     comma ((head ++ 58 ∷ []) ++ params_of (v ∷ vs)) (is ∙ ap (λ bytes. (head ++ 58 ∷ []) ++ bytes) (before-params v vs) ∙ sym (append_assoc (head ++ 58 ∷ []) (params_of (v ∷ vs)) (44 ∷ [])))
 
+-- a request without parameters is its signature, number and id, and a colon
 bare_head : (rpc : ℕ) (id : Option ℕ) → request_text (record { rpc = rpc; id = id; params = [] }) ≡ (request_signature ++ (decimal rpc ++ id_text id)) ++ 58 ∷ []
 bare_head rpc id = simp append_assoc
 
--- a request's head and values before commas, and the comma at the end taken off where there is one
+-- a request's head, values before commas, and a comma taken off the end where one stands there are the request with these values as its
+-- parameters
 pub request_ends : (front : List ℕ) (rpc : ℕ) (id : Option ℕ) (vs : List Value) (old new : List ℕ)
     → old ≡ front ++ (request_text (record { rpc = rpc; id = id; params = [] }) ++ before_commas vs) → ((list : List ℕ) → old ≡ list ++ 44 ∷ [] → new ≡ list)
     → (((list : List ℕ) → old ≢ list ++ 44 ∷ []) → new ≡ old) → new ≡ front ++ request_text (record { rpc = rpc; id = id; params = params_of vs })
@@ -91,6 +101,7 @@ request_ends front rpc id vs old new is comma other =
     let end : (head ++ 58 ∷ []) ++ params_of vs ≡ front ++ request_text (record { rpc = rpc; id = id; params = params_of vs }) = simp append_assoc in
     colon_list head vs old new (is ∙ start) comma other ∙ end
 
+-- a reply is the same reply without parameters, and behind that the parameters' text
 pub reply_text-params : (rc_com : ℕ) (id : Option ℕ) (rc : ℕ) (params : List ℕ)
     → reply_text (record { rc_com = rc_com; id = id; rc = rc; params = [] }) ++ params_text params ≡ reply_text
     (record { rc_com = rc_com; id = id; rc = rc; params = params })

@@ -21,12 +21,15 @@ use Rattle.gc_catalogue.proofs.CallLaws.{one_call, written_is_call}
 use Rattle.gc_values.proofs.ListLaws.{written_reads}
 use Rattle.gc_catalogue.proofs.Table.{number_fits, shape-rounded, values-rounded}
 
+-- a call's line reads back as the call
 pub call_again : (id : Option ℕ) (call : Call) → IfSome id (λ n. n < 8) → IsFitting call → ReadsBackCall id call
 call_again id call i fits = record { line = request_back (request_of id call) (record { rpc = number_fits call; id = i }); is_call = written_is_call call fits }
 
+-- a result is one value at most
 read_once : (r : Result RequestFields LineFault) (p q : RequestFields) → r ≡ Ok p → r ≡ Ok q → p ≡ q
 read_once r p q e f = cc
 
+-- calls with one line are one call, with one id
 pub one_call_for_a_line : (i j : Option ℕ) (c d : Call) → IfSome i (λ n. n < 8) → IfSome j (λ n. n < 8) → IsFitting c → IsFitting d → request_line i c ≡ request_line j d → (i ≡ j) × (c ≡ d)
 one_call_for_a_line i j c d x y f g e =
     let one = call_again i c x f in
@@ -34,6 +37,7 @@ one_call_for_a_line i j c d x y f g e =
     let same : request_of i c ≡ request_of j d = read_once _ (request_of i c) (request_of j d) one.line (ap request_at e ∙ two.line) in
     (ap (λ (q : RequestFields). q.id) same, one_call _ _ c d one.is_call (rw (ap (λ (q : RequestFields). q.rpc) same, ap (λ (q : RequestFields). q.params) same) two.is_call))
 
+-- values in their ranges stay there when doubles are rounded
 shown_fit : (places : ℕ) (vs : List Value) → AreValues vs → AreValues (shown_values (Some places) vs)
 shown_fit places [] h = tt
 shown_fit places (value.Double d ∷ vs) h = (tt, shown_fit places vs h.1)
@@ -43,9 +47,11 @@ shown_fit places (value.Byte n ∷ vs) h = (h.0, shown_fit places vs h.1)
 shown_fit places (value.Bool b ∷ vs) h = (tt, shown_fit places vs h.1)
 shown_fit places (value.Text t ∷ vs) h = (h.0, shown_fit places vs h.1)
 
+-- an answer's values stay in their ranges when its doubles are rounded
 pub rounded_fits : (places : ℕ) (answer : Answer) → IsFittingAnswer answer → IsFittingAnswer (rounded_answer places answer)
 rounded_fits places answer h = rw (values-rounded places answer) (shown_fit places (answer_fields answer).values h)
 
+-- the parameters written of a rounded answer are that answer of the call
 pub written_is_answer : (call : Call) (answer : Answer) (places : ℕ) → IsAnswerOf call answer → IsFittingAnswer (rounded_answer places answer)
     → IsAnswer call (params_of (answer_fields (rounded_answer places answer)).values) (rounded_answer places answer)
 written_is_answer call answer places of_call fits = record {
@@ -53,6 +59,7 @@ written_is_answer call answer places of_call fits = record {
   values = written_reads _ fits;
 }
 
+-- an answer's line reads back as the answer with its doubles rounded
 pub answer_again : (call : Call) (id : ℕ) (answer : Answer) (places : ℕ) → id < 8 → IsAnswerOf call answer → IsFittingAnswer (rounded_answer places answer)
     → ReadsBackAnswer call id 0 answer places (reading.Value (rounded_answer places answer))
 answer_again call id answer places i of_call fits = record {
@@ -60,12 +67,14 @@ answer_again call id answer places i of_call fits = record {
   is_reading = (refl, refl, written_is_answer call answer places of_call fits);
 }
 
+-- a refusal's line reads back as the refusal
 pub refusal_again : (call : Call) (id rc places : ℕ) → id < 8 → 0 < rc → rc < 65536 → ReadsBackAnswer call id rc Nothing places (reading.Refused rc)
 refusal_again call id rc places i some fits = record {
   line = reply_back (reply_of id rc Nothing places) (record { rc_com = lit< tt; id = i; rc = fits });
   is_reading = (refl, (λ e. omega arith), refl);
 }
 
+-- where each value that an optional id has is below 8, `IfSome` says so of the id
 pub some_id : (id : Option ℕ) → ((i : ℕ) → id ≡ Some i → i < 8) → IfSome id (λ i. i < 8)
 some_id None h = tt
 some_id (Some i) h = h i refl

@@ -27,9 +27,11 @@ number_fits call = grind arith
 pub few_values : (call : Call) → length (call_fields call).values ≤ 6
 few_values call = grind arith
 
+-- calls of one number have parameters of the same kinds
 same_kinds : (c d : Call) → (call_fields c).number ≡ (call_fields d).number → call_kinds c ≡ call_kinds d
 same_kinds c d e = grind arith
 
+-- calls of one number have answers of one shape
 same_answers : (c d : Call) → (call_fields c).number ≡ (call_fields d).number → (call_fields c).answer ≡ (call_fields d).answer
 same_answers c d e = grind arith
 

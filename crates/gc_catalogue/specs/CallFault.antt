@@ -9,7 +9,7 @@ abbrev pub call_fault_number : CallFault → ℕ
 call_fault_number Unknown = 21
 call_fault_number (Parameters e) = 22
 
--- the number that users see: of no procedure the fault's own, else that of the parameters' fault, 11 to 15
+-- the number that users see: 21 where no procedure has the number, else that of the parameters' fault, 11 to 15
 abbrev pub refusal_number : CallFault → ℕ
 refusal_number Unknown = call_fault_number Unknown
 refusal_number (Parameters e) = fault_number e

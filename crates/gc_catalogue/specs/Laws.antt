@@ -40,7 +40,7 @@ AreShown places [] (shown ∷ rest) = ⊥
 AreShown places (v ∷ vs) [] = ⊥
 AreShown places (v ∷ vs) (shown ∷ rest) = IsShown places v shown × AreShown places vs rest
 
--- every double of a written answer is the rounding of the answer's, and nothing else is another
+-- an answer is written with every double rounded, and with its shape and every other value as they are
 abbrev pub DoublesAreRounded : Type 0
 DoublesAreRounded = (places : ℕ) (answer : Answer)
     → ((answer_fields (rounded_answer places answer)).shape ≡ (answer_fields answer).shape)
@@ -57,23 +57,24 @@ pub record OneCallOrRefusal : Type 0 where
   pub refusal : (rpc : ℕ) (params : List ℕ) (e f : CallFault) → IsRefusal rpc params e → IsRefusal rpc params f → e ≡ f
   pub never_both : (rpc : ℕ) (params : List ℕ) (c : Call) (e : CallFault) → IsCall rpc params c → IsRefusal rpc params e → ⊥
 
--- a reply says one thing of a call
+-- a reply to a call has one reading at most
 abbrev pub OneReading : Type 0
 OneReading = (call : Call) (reply : ReplyFields) (x y : Reading) → IsReading call reply x → IsReading call reply y → x ≡ y
 
--- each reply says something of each call
+-- each reply has a reading for each call
 abbrev pub EachReplyIsRead : Type 0
 EachReplyIsRead = (call : Call) (reply : ReplyFields) → (reading : Reading) × IsReading call reply reading
 
--- the line of a call reads as a request, and that is the call's
+-- the line of a call reads as a request, whose number and parameters are the call's
 pub record ReadsBackCall (id : Option ℕ) (call : Call) : Type 0 where
   pub line : request_at (request_line id call) ≡ Ok (request_of id call)
   pub is_call : IsCall (request_of id call).rpc (request_of id call).params call
 
+-- the line of each call reads back as that call
 abbrev pub CallsReadBack : Type 0
 CallsReadBack = (id : Option ℕ) (call : Call) → IfSome id (λ n. n < 8) → IsFitting call → ReadsBackCall id call
 
--- the line of an answer reads as a reply, and that says this of the call
+-- the line of an answer reads as a reply, which has this reading for the call
 pub record ReadsBackAnswer (call : Call) (id rc : ℕ) (answer : Answer) (places : ℕ) (reading : Reading) : Type 0 where
   pub line : reply_at (reply_line id rc answer places) ≡ Ok (reply_of id rc answer places)
   pub is_reading : IsReading call (reply_of id rc answer places) reading

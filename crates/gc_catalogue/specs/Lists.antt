@@ -25,5 +25,6 @@ shown None v = v
 shown (Some places) (value.Double d) = value.Double (rounded d places)
 shown (Some places) v = v
 
+-- the values with each double rounded to the places, where places are given
 abbrev pub shown_values : Option ℕ → List Value → List Value
 shown_values places vs = map (λ v. shown places v) vs

@@ -6,13 +6,14 @@ use Rattle.gc_catalogue.specs.declared.answer.Reading.TheVariants.{Value, Refuse
 use Rattle.gc_catalogue.specs.declared.call.Call.{Call}
 use Rattle.gc_catalogue.specs.Answers.{IsAnswer, IsUnreadable}
 
--- a fault of communication where its code isn't 0, else a refusal where the return code isn't 0, else the answer or why there is none
+-- the reply has this reading for the call: a communication fault where that code isn't 0, else a refusal where the return code isn't 0,
+-- else the answer or why there is none
 abbrev pub IsReading : Call → ReplyFields → Reading → Type 0
 IsReading call r (ComFault code) = (r.rc_com ≢ 0) × (code ≡ r.rc_com)
 IsReading call r (Refused code) = (r.rc_com ≡ 0) × (r.rc ≢ 0) × (code ≡ r.rc)
 IsReading call r (Value answer) = (r.rc_com ≡ 0) × (r.rc ≡ 0) × IsAnswer call r.params answer
 IsReading call r (Unreadable e) = (r.rc_com ≡ 0) × (r.rc ≡ 0) × IsUnreadable call r.params e
 
--- no part of a promise: parameters beside two codes of 0, for what reads parameters alone
+-- no part of a promise: a reply of these parameters with both codes 0
 abbrev pub beside_zeros : List ℕ → ReplyFields
 beside_zeros params = record { rc_com = 0; id = None; rc = 0; params = params }

@@ -8,11 +8,11 @@ use Rattle.gc_catalogue.specs.Answers.{answer_fields, rounded_answer}
 use Rattle.gc_catalogue.specs.Calls.{call_fields}
 use Rattle.gc_catalogue.specs.Lists.{params_of}
 
--- what a call's request says
+-- the fields of a call's request
 abbrev pub request_of : Option ℕ → Call → RequestFields
 request_of id call = record { rpc = (call_fields call).number; id = id; params = params_of (call_fields call).values }
 
--- what an answer's reply says, with each double rounded to the places
+-- the fields of a reply with an answer, each double rounded to the places
 abbrev pub reply_of : ℕ → ℕ → Answer → ℕ → ReplyFields
 reply_of id rc answer places = record { rc_com = 0; id = Some id; rc = rc; params = params_of (answer_fields (rounded_answer places answer)).values }
 

@@ -27,7 +27,7 @@ pub struct DateTime {
 /// lengths in metres.
 #[derive(Clone, Copy, Debug, PartialEq, Eq)]
 pub enum Call {
-    /// COM_NullProc: nothing; it tells that the line works.
+    /// COM_NullProc: does nothing; its reply shows that the line works.
     NullProc,
     /// COM_SetDoublePrecision: how many digits right of the point the instrument's doubles have.
     SetPrecision(i16),

@@ -2,7 +2,8 @@
 
 ghost use Rattle.gc_catalogue.specs.Laws.{NumbersDiffer, OneCallForALine, OneCallOrRefusal, OneReading, EachReplyIsRead, CallsReadBack, AnswersReadBack, DoublesAreRounded};
 
-/// No two procedures share a number.
+/// No two procedures share a number: calls with one number have parameters of the same kinds and answers of one shape, and are one
+/// call where their values agree, too.
 pub fn numbers_differ()
     ensures { NumbersDiffer }
 {}
@@ -17,12 +18,12 @@ pub fn one_call_or_refusal()
     ensures { OneCallOrRefusal }
 {}
 
-/// A reply says one thing of a call.
+/// A reply to a call has one reading at most.
 pub fn one_reading_for_a_reply()
     ensures { OneReading }
 {}
 
-/// Each reply says something of each call, whatever its codes and its parameters are.
+/// Each reply has a reading for each call, whatever its codes and its parameters are.
 pub fn each_reply_is_read()
     ensures { EachReplyIsRead }
 {}
@@ -32,7 +33,7 @@ pub fn calls_read_back()
     ensures { CallsReadBack }
 {}
 
-/// The line of a call's answer reads back as that answer with its doubles rounded, and that of a refusal as the refusal.
+/// The line of a call's answer reads back as that answer with its doubles rounded, and the line of a refusal as that refusal.
 pub fn answers_read_back()
     ensures { AnswersReadBack }
 {}

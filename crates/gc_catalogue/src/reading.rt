@@ -82,7 +82,7 @@ pub(crate) fn read_row<P: Parameters>(rpc: u16, params: &mut P, call: &mut Call)
 
 // The rows whose parameters are large stand in functions of their own, so that the others don't make room for them.
 
-// CSV_SetDateTime.
+// The row of CSV_SetDateTime: a date and a time of day.
 #[inline(never)]
 fn read_set_date<P: Parameters>(params: &mut P, call: &mut Call)
     ensures number { (call_fields call.new).number ≡ 5007 }
@@ -92,7 +92,7 @@ fn read_set_date<P: Parameters>(params: &mut P, call: &mut Call)
     *call = Call::SetDate(read_date(params));
 }
 
-// TMC_SetStation.
+// The row of TMC_SetStation: a station's coordinates and the instrument's height.
 #[inline(never)]
 fn read_set_station<P: Parameters>(params: &mut P, call: &mut Call)
     ensures number { (call_fields call.new).number ≡ 2010 }
@@ -102,7 +102,7 @@ fn read_set_station<P: Parameters>(params: &mut P, call: &mut Call)
     *call = Call::SetStation(read_station(params));
 }
 
-// TMC_SetHeight.
+// The row of TMC_SetHeight: the reflector's height.
 #[inline(never)]
 fn read_set_height<P: Parameters>(params: &mut P, call: &mut Call)
     ensures number { (call_fields call.new).number ≡ 2012 }
@@ -112,7 +112,7 @@ fn read_set_height<P: Parameters>(params: &mut P, call: &mut Call)
     *call = Call::SetHeight(params.double());
 }
 
-// AUT_MakePositioning.
+// The row of AUT_MakePositioning: two angles, two modes and a Boolean.
 #[inline(never)]
 fn read_position<P: Parameters>(params: &mut P, call: &mut Call)
     ensures number { (call_fields call.new).number ≡ 9027 }
@@ -128,7 +128,7 @@ fn read_position<P: Parameters>(params: &mut P, call: &mut Call)
     };
 }
 
-// AUT_FineAdjust.
+// The row of AUT_FineAdjust: two areas and a Boolean.
 #[inline(never)]
 fn read_fine_adjust<P: Parameters>(params: &mut P, call: &mut Call)
     ensures number { (call_fields call.new).number ≡ 9037 }
@@ -166,7 +166,7 @@ pub(crate) fn read_answer_row<P: Parameters>(shape: Shape, params: &mut P, answe
     }
 }
 
-// A string.
+// The answer `Name`: a string.
 #[inline(never)]
 fn read_name<P: Parameters>(params: &mut P, answer: &mut Answer)
     ensures shape { (answer_fields answer.new).shape ≡ shape.Name }
@@ -176,7 +176,7 @@ fn read_name<P: Parameters>(params: &mut P, answer: &mut Answer)
     *answer = Answer::Name(params.text());
 }
 
-// A date and a time of day.
+// The answer `Date`: a date and a time of day.
 #[inline(never)]
 fn read_clock<P: Parameters>(params: &mut P, answer: &mut Answer)
     ensures shape { (answer_fields answer.new).shape ≡ shape.Date }
@@ -186,7 +186,7 @@ fn read_clock<P: Parameters>(params: &mut P, answer: &mut Answer)
     *answer = Answer::Date(read_date(params));
 }
 
-// A temperature.
+// The answer `Temperature`, in degrees Celsius.
 #[inline(never)]
 fn read_temperature<P: Parameters>(params: &mut P, answer: &mut Answer)
     ensures shape { (answer_fields answer.new).shape ≡ shape.Temperature }
@@ -196,7 +196,7 @@ fn read_temperature<P: Parameters>(params: &mut P, answer: &mut Answer)
     *answer = Answer::Temperature(params.double());
 }
 
-// A station.
+// The answer `Place`: a station's coordinates and the instrument's height.
 #[inline(never)]
 fn read_place<P: Parameters>(params: &mut P, answer: &mut Answer)
     ensures shape { (answer_fields answer.new).shape ≡ shape.Place }
@@ -206,7 +206,7 @@ fn read_place<P: Parameters>(params: &mut P, answer: &mut Answer)
     *answer = Answer::Place(read_station(params));
 }
 
-// A reflector's height.
+// The answer `Height`: the reflector's height.
 #[inline(never)]
 fn read_height<P: Parameters>(params: &mut P, answer: &mut Answer)
     ensures shape { (answer_fields answer.new).shape ≡ shape.Height }
@@ -216,7 +216,7 @@ fn read_height<P: Parameters>(params: &mut P, answer: &mut Answer)
     *answer = Answer::Height(params.double());
 }
 
-// Two angles.
+// The answer `Angles`: the horizontal direction and the vertical angle.
 #[inline(never)]
 fn read_angles<P: Parameters>(params: &mut P, answer: &mut Answer)
     ensures shape { (answer_fields answer.new).shape ≡ shape.Angles }
@@ -229,7 +229,7 @@ fn read_angles<P: Parameters>(params: &mut P, answer: &mut Answer)
     };
 }
 
-// Two angles and a distance.
+// The answer `Measured`: two angles and a distance.
 #[inline(never)]
 fn read_measured<P: Parameters>(params: &mut P, answer: &mut Answer)
     ensures shape { (answer_fields answer.new).shape ≡ shape.Measured }
@@ -243,7 +243,7 @@ fn read_measured<P: Parameters>(params: &mut P, answer: &mut Answer)
     };
 }
 
-// Two angles, a distance and its mode.
+// The answer `MeasuredMode`: two angles, a distance and its mode.
 #[inline(never)]
 fn read_measured_mode<P: Parameters>(params: &mut P, answer: &mut Answer)
     ensures shape { (answer_fields answer.new).shape ≡ shape.MeasuredMode }
@@ -258,7 +258,7 @@ fn read_measured_mode<P: Parameters>(params: &mut P, answer: &mut Answer)
     };
 }
 
-// A date's six parameters.
+// Asks for a date's six parameters, and makes the date of them.
 fn read_date<P: Parameters>(params: &mut P) -> DateTime
     ensures reads { (vs : List Value) → P.reads params.new vs → P.reads params.old (date_values result ++ vs) }
     ensures fails { (ks : List Kind) (e : ValueFault) → P.fails params.new ks e → P.fails params.old (kinds_of (date_values result) ++ ks) e }
@@ -273,7 +273,7 @@ fn read_date<P: Parameters>(params: &mut P) -> DateTime
     }
 }
 
-// A station's four parameters.
+// Asks for a station's four parameters, and makes the station of them.
 fn read_station<P: Parameters>(params: &mut P) -> Station
     ensures reads { (vs : List Value) → P.reads params.new vs → P.reads params.old (station_values result ++ vs) }
     ensures fails { (ks : List Kind) (e : ValueFault) → P.fails params.new ks e → P.fails params.old (kinds_of (station_values result) ++ ks) e }

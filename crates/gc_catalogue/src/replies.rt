@@ -19,7 +19,7 @@ use gc_lines::{Line, Reply, push_reply};
 use gc_values::{Listed, Quick};
 
 /// Appends the reply line of an answer, with each double rounded to the places. It fits in a line, whatever the answer
-/// is, and reads back. Beside a return code other than 0 stands no answer.
+/// is, and reads back. With a return code other than 0, `answer` has to be `Nothing`.
 pub fn encode_answer_onto<const N: usize>(
     out: &mut ArrayVec<u8, N>,
     id: u8,
@@ -42,12 +42,12 @@ pub fn encode_answer_onto<const N: usize>(
     push_reply(out, 0, id, rc);
     out.push(b',');
     answer.write_row(places, out);
-    // The comma behind the last value, or behind the return code.
+    // Takes off the comma behind the last value, or behind the return code.
     out.pop();
 }
 
 /// Writes the reply line of an answer, with each double rounded to the places. It fits in a line, whatever the answer
-/// is. Beside a return code other than 0 stands no answer.
+/// is, and reads back. With a return code other than 0, `answer` has to be `Nothing`.
 pub fn encode_answer(id: u8, rc: u16, answer: &Answer, places: u8) -> Line
     requires id { id < 8 }
     requires places { places ≤ 15 }
@@ -69,7 +69,7 @@ fn read_quickly(call: &Call, params: &[u8], reading: &mut Reading) -> bool
 {
     let mut quick = Quick::new(params);
     *reading = Reading::Value(Answer::Nothing);
-    // It was just made a value, so this only names the place in it.
+    // `reading` was just made a value, so this only gives the place of its answer.
     let Reading::Value(answer) = reading else {
         return false;
     };
@@ -77,7 +77,7 @@ fn read_quickly(call: &Call, params: &[u8], reading: &mut Reading) -> bool
     quick.is_done()
 }
 
-// Reads the call's answer that any parameters are, or why there is none.
+// Reads parameters in any spelling as the call's answer, or finds why they are none, into `reading`.
 #[inline(never)]
 fn read_by_the_book(call: &Call, params: &[u8], reading: &mut Reading)
     ensures { IsReading call.now (beside_zeros params.now) reading.new }
@@ -91,7 +91,7 @@ fn read_by_the_book(call: &Call, params: &[u8], reading: &mut Reading)
     };
 }
 
-/// Reads what a reply says of its call, into `reading`. It is [`decode_answer`] in place.
+/// As [`decode_answer`], but the reading is written into `reading`.
 pub fn decode_answer_into(call: &Call, reply: &Reply<'_>, reading: &mut Reading)
     ensures found { IsReading call.now (reply_seen reply.now) reading.new }
     ensures only { (other : Reading) → IsReading call.now (reply_seen reply.now) other → reading.new ≡ other }

@@ -30,7 +30,7 @@ pub fn encode_call_onto<const N: usize>(out: &mut ArrayVec<u8, N>, id: Option<u8
     end_list(out);
 }
 
-/// Writes the request line of a call, with the id or without one. It fits in a line, whatever the call is.
+/// Writes the request line of a call, with the id or without one. It fits in a line and reads back, whatever the call is.
 pub fn encode_call(id: Option<u8>, call: &Call) -> Line
     requires { ForSome id (λ i. i < 8) }
     ensures line { result.items ≡ request_line id call.now }
@@ -43,7 +43,7 @@ pub fn encode_call(id: Option<u8>, call: &Call) -> Line
     line
 }
 
-// Takes off the comma behind the last value, where there is one.
+// Takes a comma off the end, where there is one: the one behind the last value.
 fn end_list<const N: usize>(out: &mut ArrayVec<u8, N>)
     ensures comma { (front : List ℕ) → out.old.items ≡ front ++ 44 ∷ [] → out.new.items ≡ front }
     ensures other { ((front : List ℕ) → out.old.items ≢ front ++ 44 ∷ []) → out.new.items ≡ out.old.items }
@@ -53,7 +53,7 @@ fn end_list<const N: usize>(out: &mut ArrayVec<u8, N>)
     }
 }
 
-// Reads the call of a number and parameters in the common spelling, and says whether it is there.
+// Tries to read a number and parameters in the common spelling as a call, into `call`, and says whether that succeeded.
 fn read_quickly(rpc: u16, params: &[u8], call: &mut Call) -> bool
     ensures { IsTrue result → IsCall rpc params.now call.new }
 {
@@ -61,7 +61,7 @@ fn read_quickly(rpc: u16, params: &[u8], call: &mut Call) -> bool
     read_row(rpc, &mut quick, call) && quick.is_done()
 }
 
-// Reads the call of a number and any parameters, or names the first fault.
+// Reads a number and parameters in any spelling as a call, into `call`, or names the first fault.
 #[inline(never)]
 fn read_by_the_book(rpc: u16, params: &[u8], call: &mut Call) -> Result<(), CallFault>
     ensures found { OnOk result (IsCall rpc params.now call.new) }
@@ -77,7 +77,7 @@ fn read_by_the_book(rpc: u16, params: &[u8], call: &mut Call) -> Result<(), Call
     }
 }
 
-// Reads the call of a number and parameters, or names the first fault.
+// Reads a number and parameters as a call, into `call`, or names the first fault: the quick way first.
 #[inline]
 fn read_call(rpc: u16, params: &[u8], call: &mut Call) -> Result<(), CallFault>
     ensures found { OnOk result (IsCall rpc params.now call.new) }
@@ -89,7 +89,7 @@ fn read_call(rpc: u16, params: &[u8], call: &mut Call) -> Result<(), CallFault>
     read_by_the_book(rpc, params, call)
 }
 
-/// Reads the call that a request names, into `call`. It is [`decode_call`] in place; after a fault any call stands there.
+/// As [`decode_call`], but the call is written into `call`, which may be any call after a fault.
 #[inline]
 pub fn decode_call_into(request: &Request<'_>, call: &mut Call) -> Result<(), CallFault>
     ensures found { OnOk result (IsCall request.now.rpc request.now.params.now call.new) }

@@ -1,5 +1,5 @@
-//! What the number of a call and the values of a call or an answer are handed to, one by one: bytes that are written,
-//! or the number alone.
+//! Takers, to which the number of a call and the values of a call or an answer are handed one by one: one writes them as
+//! bytes, and one keeps the number alone.
 
 ghost use Rattle.std.specs.Prelude.{◌≡◌, ◌+◌, ◌-◌, ◌/◌, ◌<◌, ◌≤◌, ◌++◌, ◌∷◌, [], ℕ, List, Option, length, suc};
 ghost use Rattle.std.specs.Option.{ForSome};
@@ -17,7 +17,7 @@ use gc_values::{
     push_text,
 };
 
-/// What takes the number of a call with an id, and values, from the left.
+/// A taker of a call's number, with the request's id, and of values, from the left.
 pub(crate) trait Taker {
     /// For how many values there is room.
     ghost room: { Self → ℕ };
@@ -28,12 +28,14 @@ pub(crate) trait Taker {
     /// From the first state to the last, this number was taken with the id, and then these values.
     ghost begins: { Self → Option ℕ → ℕ → List Value → Self → Type 0 };
 
+    /// Takes a procedure's number, and the request's id, if it has one.
     fn number(&mut self, rpc: u16, id: Option<u8>)
         requires room { 1 ≤ room self.old }
         requires id { ForSome id (λ i. i < 8) }
         ensures room { room self.old ≤ suc (room self.new) }
         ensures takes { (vs : List Value) (t : Self) → takes self.new vs t → begins self.old id rpc vs t };
 
+    /// Takes a decimal with all its places.
     fn double(&mut self, v: &Decimal)
         requires { 1 ≤ room self.old }
         ensures room { room self.old ≤ suc (room self.new) }
@@ -46,26 +48,31 @@ pub(crate) trait Taker {
         ensures room { room self.old ≤ suc (room self.new) }
         ensures takes { (vs : List Value) (t : Self) → takes self.new vs t → takes self.old (Value.Double (rounded v.now places) ∷ vs) t };
 
+    /// Takes a whole number of 32 bits.
     fn long(&mut self, v: i32)
         requires { 1 ≤ room self.old }
         ensures room { room self.old ≤ suc (room self.new) }
         ensures takes { (vs : List Value) (t : Self) → takes self.new vs t → takes self.old (Value.Long v ∷ vs) t };
 
+    /// Takes a whole number of 16 bits.
     fn short(&mut self, v: i16)
         requires { 1 ≤ room self.old }
         ensures room { room self.old ≤ suc (room self.new) }
         ensures takes { (vs : List Value) (t : Self) → takes self.new vs t → takes self.old (Value.Short v ∷ vs) t };
 
+    /// Takes a byte.
     fn byte(&mut self, v: u8)
         requires { 1 ≤ room self.old }
         ensures room { room self.old ≤ suc (room self.new) }
         ensures takes { (vs : List Value) (t : Self) → takes self.new vs t → takes self.old (Value.Byte v ∷ vs) t };
 
+    /// Takes a Boolean.
     fn boolean(&mut self, v: bool)
         requires { 1 ≤ room self.old }
         ensures room { room self.old ≤ suc (room self.new) }
         ensures takes { (vs : List Value) (t : Self) → takes self.new vs t → takes self.old (Value.Bool v ∷ vs) t };
 
+    /// Takes a string.
     fn text(&mut self, v: &Text)
         requires { 1 ≤ room self.old }
         ensures room { room self.old ≤ suc (room self.new) }
@@ -104,7 +111,7 @@ impl Taker for NumberAlone {
     fn text(&mut self, _v: &Text) {}
 }
 
-/// The head of a request, and then each value's text before a comma.
+/// Appends the head of a request, and then each value's text with a comma behind it.
 impl<const N: usize> Taker for ArrayVec<u8, N> {
     ghost room = { λ s. (N - length s.items) / 67 };
 

@@ -13,7 +13,7 @@ use crate::call::{Call, DateTime, Station};
 use crate::taking::{NumberAlone, Taker};
 
 impl Call {
-    /// Hands over the call's number and then its values, in their order on the line, and answers the shape of the
+    /// Hands over the call's number and then its values, in their order on the line, and returns the shape of the
     /// call's answers.
     pub(crate) fn write_row<T: Taker>(&self, id: Option<u8>, to: &mut T) -> Shape
         requires room { 7 ≤ T.room to.old }
@@ -204,7 +204,7 @@ impl Call {
 }
 
 impl Station {
-    // Hands over the coordinates and the height.
+    // Hands over the coordinates and the instrument's height.
     fn hand_over<T: Taker>(&self, to: &mut T)
         requires { 4 ≤ T.room to.old }
         ensures { (vs : List Value) (t : T) → T.takes to.new vs t → T.takes to.old (station_values self.now ++ vs) t }
@@ -217,7 +217,7 @@ impl Station {
 }
 
 impl DateTime {
-    // Hands over the year and the five bytes.
+    // Hands over the year and the five bytes from the month to the second.
     fn hand_over<T: Taker>(&self, to: &mut T)
         requires { 6 ≤ T.room to.old }
         ensures { (vs : List Value) (t : T) → T.takes to.new vs t → T.takes to.old (date_values self.now ++ vs) t }

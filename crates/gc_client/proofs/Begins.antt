@@ -3,6 +3,7 @@ use Rattle.std.proofs.Common.{◌≡◌, ℕ, ◌≤◌, true, List, [], drop, l
 use Rattle.std.proofs.lemmas.Bool.{eqb-true, eq-eqb}
 use Rattle.gc_client.specs.Beginning.{the_word}
 
+-- of the word nothing is left exactly where all eight ids are answered
 pub all_answered : (n : ℕ) (left : List ℕ) → left ≡ drop n the_word → n ≤ 8 → (nat_eq n 8 ≡ true → left ≡ []) × (left ≡ [] → nat_eq n 8 ≡ true)
 all_answered n left is most = (
   (λ e. is ∙ ap (λ k. drop k the_word) (eqb-true n 8 e)),

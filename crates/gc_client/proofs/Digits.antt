@@ -16,15 +16,15 @@ sending next waiting digit room =
       others = λ k below. omega arith;
     }
 
--- those that are left keep their ids
+-- once the first requests are settled, however many, those that are left keep their ids
 pub settling : (next waiting : ℕ) → waiting ≤ 7 → SettlingKeepsIds next waiting
 settling next waiting few count k below = omega arith
 
--- the place of an id at a place
+-- the id at place k has place k
 place_back : (next waiting k : ℕ) → next < 8 → waiting ≤ 7 → k < waiting → place next waiting (id_at next waiting k) ≡ k
 place_back next waiting k digit few below = omega arith
 
--- the id at the place of an id
+-- the id at the place of an id is that id
 id_back : (next waiting id : ℕ) → next < 8 → waiting ≤ 7 → id < 8 → id_at next waiting (place next waiting id) ≡ id
 id_back next waiting id digit few below = omega arith
 
@@ -36,7 +36,7 @@ placed c k w below = place_back c.next (length c.waiting) k w.digit w.few below
 pub differ : (c : ById) (j k : ℕ) → IsWindow c → j < length c.waiting → k < length c.waiting → id_of c j ≡ id_of c k → j ≡ k
 differ c j k w below_j below_k same = sym (placed c j w below_j) ∙ ap (place_in c) same ∙ placed c k w below_k
 
--- the place of an id is that of a request exactly where one has it
+-- a reply's id fits exactly where a request with that id waits
 pub fits_where_it_waits : (c : ById) (id : ℕ) → IsWindow c → id < 8 → (fits c (Some id) ≡ true) ↔ Waits c id
 fits_where_it_waits c id w digit = (
   λ fit. (place_in c id, ltb-true _ _ fit, id_back c.next (length c.waiting) id w.digit w.few digit),

@@ -9,6 +9,7 @@ use Rattle.gc_client.proofs.Lists.{take_turn}
 
 -- A turn of the loop: the one at place k is looked at.
 module _ (k : ℕ) (ws : List Pending) (p : Pending) (here : slice_get ws k ≡ Some p) where
+  -- the deadlines of the first k + 1 requests are those of the first k, and that of the one at place k if it has one
   next_deadlines : deadlines (take (k + 1) ws) ≡ deadlines (take k ws) ++ deadlines (p ∷ [])
   next_deadlines =
       let n : k + 1 ≡ suc k = omega arith in
@@ -16,13 +17,13 @@ module _ (k : ℕ) (ws : List Pending) (p : Pending) (here : slice_get ws k ≡ 
       ∙ ap (map (λ p. p.deadline)) (filter-append (λ p. not p.given_up) (take k ws) (p ∷ []))
       ∙ map-append (λ p. p.deadline) (filter (λ p. not p.given_up) (take k ws)) (filter (λ p. not p.given_up) (p ∷ []))
 
-  -- it waits and isn't given up
+  -- where the request at place k isn't given up, the deadlines of the first k + 1 have its deadline at their end
   pub one_more_deadline : not p.given_up ≡ true → deadlines (take (k + 1) ws) ≡ deadlines (take k ws) ++ p.deadline ∷ []
   one_more_deadline b = next_deadlines ∙ ap (λ ds. deadlines (take k ws) ++ ds) (one b) where
     one : not p.given_up ≡ true → deadlines (p ∷ []) ≡ p.deadline ∷ []
     one b = rw b refl
 
-  -- it was given up
+  -- where the request at place k is given up, it adds no deadline
   pub same_deadlines : not p.given_up ≡ false → deadlines (take (k + 1) ws) ≡ deadlines (take k ws)
   same_deadlines b = next_deadlines ∙ ap (λ ds. deadlines (take k ws) ++ ds) (none b) ∙ append-nil _ where
     none : not p.given_up ≡ false → deadlines (p ∷ []) ≡ []

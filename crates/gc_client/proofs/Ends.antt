@@ -11,11 +11,11 @@ use Rattle.gc_client.specs.Places.{place_heard}
 use Rattle.gc_client.specs.Rule
 use Rattle.gc_client.specs.Settlements.{IsAnsweredBy, IsSettlement}
 
--- the rule's settlement for a reply line, where it was given up or was not
+-- the rule's settlement of a request by a reply line, where the request was given up (true) or wasn't
 abbrev met_when : Pending → List ℕ → Bool → Rule.Settlement
 met_when p line given_up = record { target = p.target; call = p.call; outcome = if given_up then Rule.Late else Rule.Answered line }
 
--- answered, where it was not
+-- a request that wasn't given up, with an outcome that answers it by the line, is the rule's settlement by that line
 pub answered_is : (p : Pending) (line : List ℕ) (fields : ReplyFields) (o : Outcome) → p.given_up ≡ false → reply_at line ≡ Ok fields
     → IsAnsweredBy p.call fields line o → IsSettlement (record { target = p.target; call = p.call; outcome = o }) (met p line)
 answered_is p line fields (Answered reading copy) given_up reads (same, says) =
@@ -26,14 +26,14 @@ answered_is p line fields (Answered reading copy) given_up reads (same, says) =
 answered_is p line fields Late given_up reads is = absurd is
 answered_is p line fields Lost given_up reads is = absurd is
 
--- the first k are lost, and the one at place k is met
+-- settling through place k loses the first k and meets the one at place k
 pub settle_is : (k : ℕ) (line : List ℕ) (ws : List Pending) (p : Pending) (left : List Pending) → drop k ws ≡ p ∷ left → settle k line ws ≡ map lost (take k ws) ++ met p line ∷ []
 settle_is zero line [] p left e = cc
 settle_is (suc k) line [] p left e = cc
 settle_is zero line (w ∷ ws) p left e = let same : w ≡ p = cc in ap (λ x. met x line ∷ []) same
 settle_is (suc k) line (w ∷ ws) p left e = ap (λ rs. lost w ∷ rs) (settle_is k line ws p left e)
 
--- where a choice is a place, it is made
+-- where a choice gives a place, its test holds and the place is the one that it names
 chosen : (b : Bool) (q k : ℕ) → (if b then Some q else None) ≡ Some k → (b ≡ true) × (q ≡ k)
 chosen true q k e = (refl, cc)
 chosen false q k e = absurd (none_is_not_some e) where
@@ -52,6 +52,6 @@ pub settles : (c : ById) (line : List ℕ) (fields : ReplyFields) (k : ℕ) → 
     → hears c line (heard line) ≡ id_settled c line k true
 settles c line fields k reads fit = ap (λ r. hears c line (id_in r)) reads ∙ hears_at c line fields.id k fit
 
--- those that are left are no more than there were
+-- the requests left behind place k are no more than the width where all were
 pub fewer : {A : Type 0} (width k : ℕ) (ws : List A) (p : A) (left : List A) → drop k ws ≡ p ∷ left → length ws ≤ width → length left ≤ width
 fewer width k ws p left next few = let same = ap length next in omega (arith, same, length-drop k ws)

@@ -8,17 +8,17 @@ use Rattle.gc_client.specs.declared.pending.Pending.{Pending}
 use Rattle.gc_client.specs.Rule.{expired, is_expiring, expiring, given_up_at}
 use Rattle.gc_client.proofs.Lists.{take_turn, drop_turn}
 
--- what waits once the first k have seen the moment
+-- the requests that wait once the first k of them have got the moment
 abbrev pub partly : ℕ → ℕ → List Pending → List Pending
 partly now k ws = map (expired now) (take k ws) ++ drop k ws
 
--- the one at place k has not seen it yet
+-- the request at place k hasn't got the moment yet
 pub same_at : (now k : ℕ) (ws : List Pending) (p : Pending) → slice_get (partly now k ws) k ≡ Some p → slice_get ws k ≡ Some p
 same_at now zero ws p e = e
 same_at now (suc k) [] p e = e
 same_at now (suc k) (w ∷ ws) p e = same_at now k ws p e
 
--- one that this moment gives up is given up
+-- a request that this moment gives up is the same request, marked as given up
 expired_is : (now : ℕ) (p : Pending) → is_expiring now p ≡ true → expired now p ≡ record p { given_up = true }
 expired_is now p e = ap (λ b. record p { given_up = b }) (flag (nat_le p.deadline now) p.given_up e) where
   flag : (due given : Bool) → (due && not given) ≡ true → (given || due) ≡ true
@@ -26,7 +26,7 @@ expired_is now p e = ap (λ b. record p { given_up = b }) (flag (nat_le p.deadli
   flag true false e = refl
   flag false false e = e
 
--- one that it doesn't stays as it is
+-- a request that this moment doesn't give up stays as it is
 stays : (now : ℕ) (p : Pending) → is_expiring now p ≡ false → expired now p ≡ p
 stays now p e = ap (λ b. record p { given_up = b }) (flag (nat_le p.deadline now) p.given_up e) where
   flag : (due given : Bool) → (due && not given) ≡ false → (given || due) ≡ given
@@ -34,20 +34,20 @@ stays now p e = ap (λ b. record p { given_up = b }) (flag (nat_le p.deadline no
   flag true false e = e
   flag false false e = refl
 
--- what waits once the one at place k is given up
+-- giving up the request at place k, once the first k have got the moment, leaves those, that one given up, and the others
 given_up_in : (now k : ℕ) (ws : List Pending) (p : Pending) → slice_get ws k ≡ Some p
     → given_up_at k (partly now k ws) ≡ map (expired now) (take k ws) ++ record p { given_up = true } ∷ drop (suc k) ws
 given_up_in now k [] p e = cc
 given_up_in now zero (w ∷ ws) p e = let same : w ≡ p = cc in ap (λ (x : Pending). record x { given_up = true } ∷ ws) same
 given_up_in now (suc k) (w ∷ ws) p e = ap (λ qs. expired now w ∷ qs) (given_up_in now k ws p e)
 
--- what waits once the one at place k has seen the moment
+-- once the request at place k got the moment too, the first k + 1 have got it
 next_partly : (now k : ℕ) (ws : List Pending) (p : Pending) → slice_get ws k ≡ Some p → partly now (suc k) ws ≡ map (expired now) (take k ws) ++ expired now p ∷ drop (suc k) ws
 next_partly now k [] p e = cc
 next_partly now zero (w ∷ ws) p e = let same : w ≡ p = cc in ap (λ x. expired now x ∷ ws) same
 next_partly now (suc k) (w ∷ ws) p e = ap (λ qs. expired now w ∷ qs) (next_partly now k ws p e)
 
--- the targets up to place k
+-- the targets that the moment gives up among the first k + 1 are those among the first k, and that at place k if it is given up
 next_expiring : (now k : ℕ) (ws : List Pending) (p : Pending) → slice_get ws k ≡ Some p → expiring now (take (suc k) ws) ≡ expiring now (take k ws) ++ expiring now (p ∷ [])
 next_expiring now k ws p e =
     ap (expiring now) (take_turn ws k p e)
@@ -56,27 +56,29 @@ next_expiring now k ws p e =
 
 -- A turn of the loop: the one at place k is looked at.
 module _ (now k : ℕ) (ws qs : List Pending) (p : Pending) (done : qs ≡ partly now k ws) (here : slice_get qs k ≡ Some p) where
+  -- the request at place k of all that wait is p
   at_k : slice_get ws k ≡ Some p
   at_k = same_at now k ws p (subst (λ l. slice_get l k ≡ Some p) done here)
 
+  -- the place behind k is k + 1
   suc_k : suc k ≡ k + 1
   suc_k = omega arith
 
-  -- it is given up
+  -- where the moment gives up the request at place k, marking it leaves what the first k + 1 having got the moment leaves
   pub due_done : (qs' : List Pending) → is_expiring now p ≡ true → qs' ≡ given_up_at k qs → qs' ≡ partly now (k + 1) ws
   due_done qs' b e =
       e ∙ ap (given_up_at k) done ∙ given_up_in now k ws p at_k
       ∙ ap (λ x. map (expired now) (take k ws) ++ x ∷ drop (suc k) ws) (sym (expired_is now p b))
       ∙ sym (next_partly now k ws p at_k) ∙ ap (λ m. partly now m ws) suc_k
 
-  -- it stays as it is
+  -- where the moment doesn't give up the request at place k, the first k + 1 have got it without a change
   pub not_due_done : is_expiring now p ≡ false → qs ≡ partly now (k + 1) ws
   not_due_done b =
       done ∙ ap (λ l. map (expired now) (take k ws) ++ l) (drop_turn ws k p at_k)
       ∙ ap (λ x. map (expired now) (take k ws) ++ x ∷ drop (suc k) ws) (sym (stays now p b))
       ∙ sym (next_partly now k ws p at_k) ∙ ap (λ m. partly now m ws) suc_k
 
-  -- its target is told
+  -- where the moment gives up the request at place k, its target is the next in the list
   pub due_told : (targets : List ℕ) → targets ≡ expiring now (take k ws) → is_expiring now p ≡ true → targets ++ p.target ∷ [] ≡ expiring now (take (k + 1) ws)
   due_told targets told b =
       ap₂ (λ xs ys. xs ++ ys) told (sym (one b)) ∙ sym (next_expiring now k ws p at_k) ∙ ap (λ m. expiring now (take m ws)) suc_k
@@ -84,7 +86,7 @@ module _ (now k : ℕ) (ws qs : List Pending) (p : Pending) (done : qs ≡ partl
       one : is_expiring now p ≡ true → expiring now (p ∷ []) ≡ p.target ∷ []
       one b = rw b refl
 
-  -- its target isn't told
+  -- where the moment doesn't give up the request at place k, the list of targets stays
   pub not_due_told : (targets : List ℕ) → targets ≡ expiring now (take k ws) → is_expiring now p ≡ false → targets ≡ expiring now (take (k + 1) ws)
   not_due_told targets told b =
       told ∙ sym (append_none _) ∙ ap (λ ys. expiring now (take k ws) ++ ys) (sym (none b)) ∙ sym (next_expiring now k ws p at_k) ∙ ap (λ m. expiring now (take m ws)) suc_k
@@ -96,13 +98,13 @@ module _ (now k : ℕ) (ws qs : List Pending) (p : Pending) (done : qs ≡ partl
       append_none [] = refl
       append_none (x ∷ xs) = ap (λ ys. x ∷ ys) (append_none xs)
 
--- its deadline is reached, and it wasn't given up
+-- a request whose deadline is reached and that wasn't given up is given up by this moment
 pub is_due : (now : ℕ) (p : Pending) → p.deadline ≤ now → not p.given_up ≡ true → is_expiring now p ≡ true
 is_due now p due waits =
     let b : leb p.deadline now ≡ true = le-leb _ _ due in
     rw (b, waits) refl
 
--- its deadline isn't reached
+-- a request whose deadline isn't reached isn't given up by this moment
 pub is_not_due : (now : ℕ) (p : Pending) → now < p.deadline → is_expiring now p ≡ false
 is_not_due now p early =
     let b : leb p.deadline now ≡ false = lt-leb _ _ early in

@@ -8,7 +8,7 @@ take_turn [] k x e = cc
 take_turn (y ∷ xs) zero x e = let same : y ≡ x = cc in ap (λ z. z ∷ []) same
 take_turn (y ∷ xs) (suc k) x e = ap (λ zs. y ∷ zs) (take_turn xs k x e)
 
--- from place k on there are the one at place k, and those behind it
+-- the elements from place k on are the one at place k and those behind it
 pub drop_turn : {A : Type 0} (xs : List A) (k : ℕ) (x : A) → slice_get xs k ≡ Some x → drop k xs ≡ x ∷ drop (suc k) xs
 drop_turn [] k x e = cc
 drop_turn (y ∷ xs) zero x e = let same : y ≡ x = cc in ap (λ z. z ∷ xs) same
@@ -30,7 +30,7 @@ left_turn ws k p qs qs' rest first =
     let tails : qs' ≡ drop (suc k) ws = cc in
     tails ∙ ap (λ m. drop m ws) n
 
--- what is none isn't there
+-- a value that is none isn't some
 pub none_there : {A : Type 0} (o : Option A) → o ≡ None → IsSome o → ⊥
 none_there None e is = cc
 none_there (Some x) e is = cc

@@ -4,17 +4,17 @@ use Rattle.std.specs.Prelude.{slice_get}
 use Rattle.gc_client.specs.declared.pending.Pending.{Pending}
 use Rattle.gc_client.specs.Rule.{given_up_at}
 
--- a request that was given up
+-- a request marked as given up
 abbrev pub abandoned : Pending → Pending
 abandoned p = record p { given_up = true }
 
--- by the element that stands there
+-- writing the marked request over the one at place k gives up the one at place k
 pub set_is_given_up : (ps : List Pending) (k : ℕ) (d : Pending) → k < length ps → set ps k (abandoned (get_or ps k d)) ≡ given_up_at k ps
 set_is_given_up [] k d lt = absurd (omega arith)
 set_is_given_up (p ∷ ps) zero d lt = refl
 set_is_given_up (p ∷ ps) (suc k) d lt = ap (λ qs. p ∷ qs) (set_is_given_up ps k d (omega arith))
 
--- by the element that was read there
+-- where p is the request at place k, writing p, marked, over that place gives up the request there
 pub set_some_is_given_up : (ps : List Pending) (k : ℕ) (p : Pending) → slice_get ps k ≡ Some p → set ps k (abandoned p) ≡ given_up_at k ps
 set_some_is_given_up [] k p e = cc
 set_some_is_given_up (q ∷ ps) zero p e = let same : p ≡ q = cc in ap (λ x. abandoned x ∷ ps) same

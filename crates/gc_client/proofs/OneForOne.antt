@@ -6,45 +6,45 @@ use Rattle.gc_client.specs.declared.pending.Pending.{Pending}
 use Rattle.gc_client.specs.Rule.{Settled, ById, expired, lost, settle, place, heard, id_send, id_settled, hears, restarts}
 use Rattle.gc_client.specs.OneForOne.{Step, Send, Hear, Expire, Restart, Course, of_settled, of_pending, begun, sent_on, settled_on, goes, course, IsOneForOne}
 
--- those that a line settles through place k, and those behind
+-- the requests that settling through place k settles, and the requests behind that place, are those that waited
 settle_parts : (k : ℕ) (line : List ℕ) (ps : List Pending) → map of_settled (settle k line ps) ++ map of_pending (drop (suc k) ps) ≡ map of_pending ps
 settle_parts k line [] = refl
 settle_parts zero line (p ∷ ps) = refl
 settle_parts (suc k) line (p ∷ ps) = ap (λ qs. of_pending p ∷ qs) (settle_parts k line ps)
 
--- those that are lost
+-- requests that are lost are settled with their targets and calls
 pub lost_parts : (ps : List Pending) → map of_settled (map lost ps) ≡ map of_pending ps
 lost_parts [] = refl
 lost_parts (p ∷ ps) = ap (λ qs. of_pending p ∷ qs) (lost_parts ps)
 
--- those that have seen a moment
+-- a moment changes no target and no call
 pub expired_parts : (now : ℕ) (ps : List Pending) → map of_pending (map (expired now) ps) ≡ map of_pending ps
 expired_parts now [] = refl
 expired_parts now (p ∷ ps) = ap (λ qs. of_pending p ∷ qs) (expired_parts now ps)
 
--- those that a reply settles through place k, or does not
+-- what a reply settles through place k, if it does, and what then waits are those that waited
 reply_parts : (c : ById) (line : List ℕ) (k : ℕ) (b : Bool) → map of_settled (id_settled c line k b).settlements ++ map of_pending (id_settled c line k b).client.waiting ≡ map of_pending c.waiting
 reply_parts c line k false = refl
 reply_parts c line k true = ap (λ n. map of_settled (settle k line c.waiting) ++ map of_pending (drop n c.waiting)) (let e : k + 1 ≡ suc k = omega arith in e) ∙ settle_parts k line c.waiting
 
--- those that a line settles, and those that wait behind it
+-- what a line settles and what then waits are those that waited
 pub heard_parts : (c : ById) (line : List ℕ) (o : Option ℕ) → map of_settled (hears c line o).settlements ++ map of_pending (hears c line o).client.waiting ≡ map of_pending c.waiting
 heard_parts c line None = refl
 heard_parts c line (Some id) = reply_parts c line (place c.next (length c.waiting) id) (ltb (place c.next (length c.waiting) id) (length c.waiting))
 
--- a send keeps it
+-- a send keeps a course one for one
 sent_keeps : (x : Course) (target : ℕ) (call : Call) (deadline : ℕ) (full : Bool) → IsOneForOne x → IsOneForOne (sent_on x target call (id_send x.client target call deadline full))
 sent_keeps x target call deadline true h = h
 sent_keeps x target call deadline false h =
     simp map-append (sym (append_assoc (map of_settled x.settlements) (map of_pending x.client.waiting) _) ∙ ap (λ l. l ++ record { target = target; call = call } ∷ []) h)
 
--- settlements keep it, where they and those that wait behind them are those that waited
+-- settlements keep a course one for one, where they and those that then wait are those that waited
 settled_keeps : (x : Course) (s : Settled ById) → map of_settled s.settlements ++ map of_pending s.client.waiting ≡ map of_pending x.client.waiting → IsOneForOne x → IsOneForOne (settled_on x s)
 settled_keeps x s parts h = pieces ∙ ap (λ l. map of_settled x.settlements ++ l) parts ∙ h where
   pieces : map of_settled (x.settlements ++ s.settlements) ++ map of_pending s.client.waiting ≡ map of_settled x.settlements ++ (map of_settled s.settlements ++ map of_pending s.client.waiting)
   pieces = simp (map-append, append_assoc)
 
--- every step keeps it
+-- every step keeps a course one for one
 goes_on : (width : ℕ) (x : Course) (step : Step) → IsOneForOne x → IsOneForOne (goes width x step)
 goes_on width x (Send target call deadline) h = sent_keeps x target call deadline (eqb (length x.client.waiting) width) h
 goes_on width x (Hear line) h = settled_keeps x (hears x.client line (heard line)) (heard_parts x.client line (heard line)) h
@@ -56,6 +56,6 @@ along : (width : ℕ) (x : Course) (steps : List Step) → IsOneForOne x → IsO
 along width x [] h = h
 along width x (step ∷ steps) h = along width (goes width x step) steps (goes_on width x step h)
 
--- from a new client on
+-- a new client's course is one for one, whatever the steps
 pub one_for_one : (width : ℕ) (steps : List Step) → IsOneForOne (course width begun steps)
 one_for_one width steps = along width begun steps refl

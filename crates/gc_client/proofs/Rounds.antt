@@ -14,7 +14,7 @@ mod_wraps_once N j below = elim (cases_lt j N) [
 ]
 
 module _ {A : Type 0} (N k n : ℕ) (xs : List A) (start : k < N) (fits : n ≤ N) (length_xs : length xs ≡ N) where
-  -- n wait
+  -- the window of n places has n requests
   pub length-waiting : length (waiting_in k n xs) ≡ n
   length-waiting = length-take-le n _ (simp (length-append, length-drop) (omega (arith, length-take-le k xs (omega arith))))
 
@@ -27,7 +27,7 @@ module _ {A : Type 0} (N k n : ℕ) (xs : List A) (start : k < N) (fits : n ≤ 
         | inr wrapped ↦ get_or-append_right _ _ (N - k) i d (omega arith) (omega arith) ∙ get_or-take k xs _ d (omega arith) ∙ ap (λ j. get_or xs j d) (omega arith)
       ]
 
--- A second block, since these use the lemmas above at other windows.
+-- A second block, because these use the lemmas above at other windows.
 module _ {A : Type 0} (N k n : ℕ) (xs : List A) (start : k < N) (fits : n ≤ N) (length_xs : length xs ≡ N) where
   -- a write behind the youngest appends it
   pub waiting_after_push : (x : A) → n < N → waiting_in k (n + 1) (set xs ((k + n) % N) x) ≡ waiting_in k n xs ++ x ∷ []
@@ -45,7 +45,7 @@ module _ {A : Type 0} (N k n : ℕ) (xs : List A) (start : k < N) (fits : n ≤ 
         get_or-waiting N k (n + 1) ys start (omega arith) length_ys i d,
       ))
 
-  -- the oldest, and then those from the next place on
+  -- the waiting are the oldest, and those from the next place on
   pub waiting_before_take : (d : A) → 0 < n → waiting_in k n xs ≡ get_or xs k d ∷ waiting_in ((k + 1) % N) (n - 1) xs
   waiting_before_take d nonempty =
       let next_in_range : (k + 1) % N < N = grind (arith, mod_wraps_once N (k + 1) (omega arith)) in

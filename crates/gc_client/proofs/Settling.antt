@@ -10,12 +10,12 @@ use Rattle.gc_client.specs.Rule
 use Rattle.gc_client.specs.Settlements.{settlement_seen, IsWellRead, IsSettlement, AreSettlements}
 use Rattle.gc_client.proofs.Lists.{take_turn, head_of_drop}
 
--- one settlement that is well read
+-- a list of one settlement that is well read is a list of well read settlements
 well_read_one : (s : Settlement) → IsWellRead s.call s.outcome → All (λ s. IsWellRead s.call s.outcome) (s ∷ [])
 well_read_one s read zero d lt = read
 well_read_one s read (suc k) d lt = absurd (omega arith)
 
--- settlements that are the rule's, and one more that is
+-- settlements that are the rule's stay so with one more that is
 one_more : (ss : List Settlement) (rs : List Rule.Settlement) (s : Settlement) (r : Rule.Settlement) → AreSettlements ss rs → IsSettlement s r → AreSettlements (ss ++ s ∷ []) (rs ++ r ∷ [])
 one_more ss rs s r are is =
     record {
@@ -23,20 +23,20 @@ one_more ss rs s r are is =
       read = All-append (λ s. IsWellRead s.call s.outcome) ss (s ∷ []) are.read (well_read_one s is.read);
     }
 
--- the first k + 1, once the one at place k is written
+-- the first k + 1 elements, once place k is written, are the first k and the one written
 take_set : {A : Type 0} (xs : List A) (k : ℕ) (x : A) → k < length xs → take (suc k) (set xs k x) ≡ take k xs ++ x ∷ []
 take_set [] k x lt = absurd (omega arith)
 take_set (y ∷ xs) zero x lt = refl
 take_set (y ∷ xs) (suc k) x lt = ap (λ zs. y ∷ zs) (take_set xs k x (omega arith))
 
--- settlements whose first k are the rule's, and the one at place k is written
+-- where the first k settlements are the rule's, and the one at place k is written as the rule's next, the first k + 1 are
 pub one_written : (ss : List Settlement) (k : ℕ) (rs : List Rule.Settlement) (s : Settlement) (r : Rule.Settlement) → k < length ss
     → AreSettlements (take k ss) rs → IsSettlement s r → AreSettlements (take (k + 1) (set ss k s)) (rs ++ r ∷ [])
 one_written ss k rs s r lt are is =
     let n : suc k ≡ k + 1 = omega arith in
     subst (λ xs. AreSettlements xs (rs ++ r ∷ [])) (sym (take_set ss k s lt) ∙ ap (λ m. take m (set ss k s)) n) (one_more (take k ss) rs s r are is)
 
--- one more of those that wait is lost
+-- the first k + 1 requests as lost are the first k as lost, and the one taken out then
 pub next_lost : (ws : List Pending) (k : ℕ) (p : Pending) (qs qs' : List Pending) → qs ≡ drop k ws → qs ≡ p ∷ qs' → map lost (take (k + 1) ws) ≡ map lost (take k ws) ++ lost p ∷ []
 next_lost ws k p qs qs' rest first =
     let here : slice_get ws k ≡ Some p = head_of_drop ws k p qs' (sym rest ∙ first) in

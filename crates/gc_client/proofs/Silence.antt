@@ -14,13 +14,13 @@ ours_by_grammar line = (λ b. there (heard line) refl b, λ is. ap is_some ((hea
       let found = (heard_by_grammar line).only id e in
       record { reply = found.0; id = id; is_reply = found.1; has_id = found.2 }
 
--- one line more in front
+-- where lines and those kept of them do the same to every client, so do they with one more line in front, kept if it is heard
 one_more_line : (c : ById) (line : List ℕ) (lines kept : List (List ℕ)) (h : Option ℕ) → heard line ≡ h → ((d : ById) → hears_all d lines ≡ hears_all d kept)
     → hears_all c (line ∷ lines) ≡ hears_all c (if is_some h then line ∷ kept else kept)
 one_more_line c line lines kept None e rest = ap (λ o. first (hears c line o).settlements (hears_all (hears c line o).client lines)) e ∙ rest c
 one_more_line c line lines kept (Some id) e rest = ap (first (hears c line (heard line)).settlements) (rest (hears c line (heard line)).client)
 
--- without the lines that aren't the client's it is the same
+-- a list of lines does the same as that list without those that aren't the client's
 pub silent : (c : ById) (lines : List (List ℕ)) → IsSilent c lines
 silent c [] = refl
 silent c (line ∷ lines) = one_more_line c line lines (filter is_ours lines) (heard line) refl (λ d. silent d lines)

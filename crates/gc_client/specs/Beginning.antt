@@ -4,8 +4,8 @@ use Rattle.std.specs.Prelude.{◌≡◌, ◌⊎◌, ℕ, Bool, true, false, List
 use Rattle.gc_catalogue.specs.declared.call.Call.TheVariants.{NullProc}
 use Rattle.gc_catalogue.specs.Texts.{request_line}
 
--- The word: the ids of the null procedures, in order. It goes downward, since the ids of a run that measures go upward; and its last id is
--- the one before that of the first command.
+-- The word: the ids of the null procedures, in order. It goes downward, because the ids of a run that measures go upward; and its last id
+-- is the one before that of the first command.
 abbrev pub the_word : List ℕ
 the_word = 6 ∷ 5 ∷ 4 ∷ 3 ∷ 2 ∷ 1 ∷ 0 ∷ 7 ∷ []
 
@@ -17,23 +17,25 @@ IsSubsequence (w ∷ word) (i ∷ ids) = ((w ≡ i) × IsSubsequence word ids) �
 
 -- A beginning, as what isn't answered of its word: at first all of it; and where nothing is left, it has begun.
 
--- the line of the null procedure that is asked for: that of the first id that isn't answered, whenever it goes out, the first time or again
+-- the line of the null procedure that is asked for: that of the first id that isn't answered, the same whenever it goes out. None where all
+-- are answered
 abbrev pub asks : List ℕ → Option (List ℕ)
 asks [] = None
 asks (asked ∷ rest) = Some (request_line (Some asked) NullProc)
 
--- whether a line that is heard with this id, or with none, answers it: a reply with its id does, whatever its codes and parameters
+-- whether a line that is heard with this id, or with none, answers the null procedure that is asked for: a reply with that one's id does,
+-- whatever its codes and parameters
 abbrev pub is_answered : List ℕ → Option ℕ → Bool
 is_answered [] id = false
 is_answered (asked ∷ rest) None = false
 is_answered (asked ∷ rest) (Some id) = nat_eq id asked
 
--- the ids that aren't answered yet, of this one and those behind it: without this one, where it was answered, and else all
+-- of the id that was asked for and those behind it, the ones that aren't answered yet: where it was answered (true) those behind it, else all
 abbrev pub left_by_one : Bool → ℕ → List ℕ → List ℕ
 left_by_one true asked rest = rest
 left_by_one false asked rest = asked ∷ rest
 
--- what isn't answered behind a line that is heard with this id, or with none: every line that doesn't answer is dropped
+-- what isn't answered behind a line that is heard with this id, or with none: a line that doesn't answer changes nothing
 abbrev pub left_by : List ℕ → Option ℕ → List ℕ
 left_by [] id = []
 left_by (asked ∷ rest) id = left_by_one (is_answered (asked ∷ rest) id) asked rest

@@ -26,11 +26,11 @@ pub record SendKeepsIds (next waiting : ℕ) : Type 0 where
   pub own : id_at ((next + 1) % IDS) (waiting + 1) waiting ≡ next
   pub others : (k : ℕ) → k < waiting → id_at ((next + 1) % IDS) (waiting + 1) k ≡ id_at next waiting k
 
--- once the first few are settled, each that is left keeps its id, at a place nearer the front
+-- once the first requests are settled, however many, each request that is left keeps its id, at a place nearer the front
 abbrev pub SettlingKeepsIds : ℕ → ℕ → Type 0
 SettlingKeepsIds next waiting = (count k : ℕ) → count + k < waiting → id_at next (waiting - count) k ≡ id_at next waiting (count + k)
 
--- the id that is heard in a line is that of the reply that the line is by the grammar
+-- the id that is heard in a line is that of the reply that the line is by the grammar; in any other line no id is heard
 pub record HearsByGrammar (line : List ℕ) : Type 0 where
   pub its : (reply : ReplyFields) → IsReply line reply → heard line ≡ reply.id
   pub only : (id : ℕ) → heard line ≡ Some id → (reply : ReplyFields) × IsReply line reply × (reply.id ≡ Some id)

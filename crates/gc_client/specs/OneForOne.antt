@@ -17,10 +17,11 @@ pub record Asked : Type 0 where
   pub target : ℕ
   pub call : Call
 
--- whom and what a settled request asked, and the same of one that waits
+-- whom a settled request was for, and what it asked for
 abbrev pub of_settled : Settlement → Asked
 of_settled s = record { target = s.target; call = s.call }
 
+-- whom a request that waits is for, and what it asks for
 abbrev pub of_pending : Pending → Asked
 of_pending p = record { target = p.target; call = p.call }
 
@@ -34,7 +35,7 @@ pub record Course : Type 0 where
 abbrev pub begun : Course
 begun = record { sent = []; settlements = []; client = fresh }
 
--- the course behind a send, which was refused or wasn't
+-- the course behind a send: where it was refused nothing has changed
 abbrev pub sent_on : Course → ℕ → Call → Option (Sending ById) → Course
 sent_on x target call None = x
 sent_on x target call (Some s) = record { sent = x.sent ++ record { target = target; call = call } ∷ []; settlements = x.settlements; client = s.client }

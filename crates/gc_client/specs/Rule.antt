@@ -55,19 +55,19 @@ IsWidth width = (1 ≤ width) × (width ≤ WINDOW)
 abbrev pub pending_of : ℕ → Call → ℕ → Pending
 pending_of target call deadline = record { target = target; call = call; deadline = deadline; given_up = false }
 
--- given up from now on where its deadline is at most this moment
+-- the request, given up from now on where its deadline is at most this moment
 abbrev pub expired : ℕ → Pending → Pending
 expired now p = record p { given_up = p.given_up || nat_le p.deadline now }
 
--- whether this moment gives it up
+-- whether a request is given up at this moment and wasn't before
 abbrev pub is_expiring : ℕ → Pending → Bool
 is_expiring now p = nat_le p.deadline now && not p.given_up
 
--- the targets of those that this moment gives up, in order
+-- the targets of the requests that are given up at this moment and weren't before, in order
 abbrev pub expiring : ℕ → List Pending → List ℕ
 expiring now ps = map (λ p. p.target) (filter (is_expiring now) ps)
 
--- the deadlines of those that are not given up, in order
+-- the deadlines of the requests that are not given up, in order
 abbrev pub deadlines : List Pending → List ℕ
 deadlines ps = map (λ p. p.deadline) (filter (λ p. not p.given_up) ps)
 
@@ -76,7 +76,7 @@ abbrev pub IsEarliest : List ℕ → Option ℕ → Type 0
 IsEarliest ds None = ds ≡ []
 IsEarliest ds (Some d) = Contains ds d × All (λ e. d ≤ e) ds
 
--- the one at place k is given up
+-- the requests, with the one at place k given up
 abbrev pub given_up_at : ℕ → List Pending → List Pending
 given_up_at k [] = []
 given_up_at zero (p ∷ ps) = record p { given_up = true } ∷ ps
@@ -84,15 +84,15 @@ given_up_at (suc k) (p ∷ ps) = p ∷ given_up_at k ps
 
 -- Settlements.
 
--- settled without an answer
+-- the settlement of a request as lost
 abbrev pub lost : Pending → Settlement
 lost p = record { target = p.target; call = p.call; outcome = Lost }
 
--- settled by this reply line
+-- the settlement of a request by this reply line: late where the request was given up, else answered
 abbrev pub met : Pending → List ℕ → Settlement
 met p line = record { target = p.target; call = p.call; outcome = if p.given_up then Late else Answered line }
 
--- the first k are lost, and the next one is met by this line
+-- the settlements of the first k requests as lost, and of the next one by this line
 abbrev pub settle : ℕ → List ℕ → List Pending → List Settlement
 settle k line [] = []
 settle zero line (p ∷ ps) = met p line ∷ []
@@ -124,7 +124,7 @@ heard line = id_in (reply_at line)
 
 -- The rule.
 
--- a send where the window is full, or has room
+-- what a send gives: none, which is a refusal, where the window is full (true), and else the request's id and the client behind the send
 abbrev pub id_send : ById → ℕ → Call → ℕ → Bool → Option (Sending ById)
 id_send c target call deadline true = None
 id_send c target call deadline false =
@@ -133,16 +133,17 @@ id_send c target call deadline false =
       client = record { next = (c.next + 1) % IDS; waiting = c.waiting ++ pending_of target call deadline ∷ [] };
     })
 
--- a send: refused where as many wait as the window is wide
+-- what a send gives: none, which is a refusal, where as many requests wait as the window is wide, and else as `id_send` has it
 abbrev pub sends : ℕ → ById → ℕ → Call → ℕ → Option (Sending ById)
 sends width c target call deadline = id_send c target call deadline (nat_eq (length c.waiting) width)
 
--- a reply whose id has place k, where that is below the number that wait, or is not
+-- what a reply does whose id has place k: where a request waits there (true) that one and those before it are settled and wait no more, and
+-- else nothing changes
 abbrev pub id_settled : ById → List ℕ → ℕ → Bool → Settled ById
 id_settled c line k false = record { settlements = []; client = c }
 id_settled c line k true = record { settlements = settle k line c.waiting; client = record { next = c.next; waiting = drop (k + 1) c.waiting } }
 
--- a line that comes with this id, or with none
+-- what a line with this id settles, and the client behind it; a line without an id settles nothing
 abbrev pub hears : ById → List ℕ → Option ℕ → Settled ById
 hears c line None = record { settlements = []; client = c }
 hears c line (Some id) = id_settled c line (place_in c id) (nat_lt (place_in c id) (length c.waiting))
@@ -151,6 +152,6 @@ hears c line (Some id) = id_settled c line (place_in c id) (nat_lt (place_in c i
 abbrev pub expires : ById → ℕ → ById
 expires c now = record { next = c.next; waiting = map (expired now) c.waiting }
 
--- a restart: all are lost, and the ids begin anew
+-- a restart: all requests that wait are lost, and the ids begin again at 0
 abbrev pub restarts : ById → Settled ById
 restarts c = record { settlements = map lost c.waiting; client = fresh }

@@ -26,7 +26,7 @@ pub record ReadsAs (call : Call) (line : List ℕ) (reading : Reading) : Type 0 
   pub is_reply : IsReply line reply
   pub is_reading : IsReading call reply reading
 
--- the reading of an answer is what its line says of the call
+-- the reading of an answer is what its line says of the call; of other outcomes nothing is said
 abbrev pub IsWellRead : Call → Outcome → Type 0
 IsWellRead call (Answered reading line) = ReadsAs call line.items reading
 IsWellRead call Late = ⊤

@@ -15,7 +15,7 @@ pub record IsReplyWithId (line : List ℕ) : Type 0 where
 abbrev pub is_ours : List ℕ → Bool
 is_ours line = is_some (heard line)
 
--- the settlements of a client that went on, with these in front
+-- `x`, with these settlements in front of its own
 abbrev pub first : List Settlement → Settled ById → Settled ById
 first settlements x = record { settlements = settlements ++ x.settlements; client = x.client }
 
@@ -24,6 +24,6 @@ abbrev pub hears_all : ById → List (List ℕ) → Settled ById
 hears_all c [] = record { settlements = []; client = c }
 hears_all c (line ∷ lines) = first (hears c line (heard line)).settlements (hears_all (hears c line (heard line)).client lines)
 
--- without the foreign lines of a list, the settlements and the client are the same
+-- a list of lines and that list without its foreign lines give the same settlements and the same client
 abbrev pub IsSilent : ById → List (List ℕ) → Type 0
 IsSilent c lines = hears_all c lines ≡ hears_all c (filter is_ours lines)

@@ -1,4 +1,4 @@
-//! The beginning: null procedures that come before the first command, and go out again with their ids.
+//! The beginning: null procedures before the first command, each of which goes out again with the same id until it is answered.
 
 ghost use Rattle.std.specs.Prelude.{◌≡◌, ◌<◌, ◌≤◌, ◌↔◌, true, false, [], length, drop, Some, None, IfSome, MatchOption};
 ghost use Rattle.gc_lines.specs.Lines.{IsPlain};
@@ -31,7 +31,7 @@ pub struct Beginning {
     answered: usize,
 }
 
-// What isn't answered of the word.
+// A beginning is seen as the ids of the word that aren't answered yet.
 impl Model for Beginning {
     ghost use Rattle.std.specs.Prelude.{◌≤◌, ℕ, List, drop};
     ghost use Rattle.gc_client.specs.Beginning.{the_word};
@@ -51,7 +51,7 @@ impl Beginning {
         Beginning { answered: 0 }
     }
 
-    /// Goes on where another beginning stood, by how many null procedures are answered.
+    /// Goes on where another beginning was, of whose null procedures the first `answered` are answered.
     pub fn resume(answered: usize) -> Beginning
         requires { answered ≤ 8 }
         ensures { result ≡ drop answered the_word }
@@ -74,8 +74,8 @@ impl Beginning {
         self.answered == WORD.len()
     }
 
-    /// The line of the null procedure that is asked for, without CR LF; none once it has begun. It is the same whenever it
-    /// goes out, until an answer came.
+    /// The line of the null procedure that is asked for, without CR LF, and none once all are answered. The line stays the
+    /// same until an answer came.
     pub fn ask(&self) -> Option<Line>
         ensures line { MatchOption result (asks self.now ≡ None) (λ line. asks self.now ≡ Some line.items) }
         ensures plain { IfSome result (λ line. IsPlain line.items) }
@@ -84,7 +84,7 @@ impl Beginning {
         Some(encode_call(Some(*id), &Call::NullProc))
     }
 
-    /// Takes a line that came, without its CR LF, and says whether it answers: a reply with the id of the null procedure
+    /// Takes a line that came, without its CR LF, and says whether the line answers: a reply with the id of the null procedure
     /// that is asked for does, whatever its codes and parameters. Every other line is discarded, also one that is longer
     /// than 512 bytes.
     pub fn hear(&mut self, line: &[u8]) -> bool

@@ -127,7 +127,7 @@ impl<W: Window> Client<W> {
     }
 
     /// Takes the client apart: the window with the requests that wait, the width, and the id that would come next.
-    /// `resume` makes it again of these.
+    /// `resume` makes the client again of these.
     pub fn into_parts(self) -> (W, u8, u8)
         ensures waiting { W.pendings result.0 ≡ self.ids.waiting }
         ensures width { result.1 ≡ self.width }
@@ -142,7 +142,7 @@ impl<W: Window> Client<W> {
 
     // Getters.
 
-    /// How many requests it lets wait.
+    /// How many requests the client lets wait.
     pub fn width(&self) -> u8
         ensures width { result ≡ self.now.width }
         ensures least { 1 ≤ result }
@@ -151,7 +151,7 @@ impl<W: Window> Client<W> {
         self.width
     }
 
-    /// How many requests are not settled.
+    /// How many requests are not settled, those that were given up included.
     pub fn waiting(&self) -> usize
         ensures waiting { result ≡ length self.now.ids.waiting }
         ensures within { result ≤ self.now.width }
@@ -182,7 +182,8 @@ impl<W: Window> Client<W> {
         self.next
     }
 
-    /// The earliest deadline of the requests that wait and aren't given up: how long to wait for a line.
+    /// The earliest deadline of the requests that wait and aren't given up: until then a line may be waited for. `None`: no such
+    /// request waits.
     pub fn next_deadline(&self) -> Option<u64>
         ensures { IsEarliest (deadlines self.now.ids.waiting) result }
     {
@@ -323,7 +324,7 @@ impl<W: Window> Client<W> {
         Ok(())
     }
 
-    /// Settles all that wait as lost, in order, and begins anew at id 0, with the same width.
+    /// Settles all requests that wait as lost, in order, and begins again at id 0, with the same width.
     ///
     /// The caller vouches that no line is under way in either direction. An instrument that still keeps the reply to its
     /// last request would take a new request with that id for a repeat, and not act on it. So either the instrument restarts
@@ -368,7 +369,7 @@ impl<W: Window> Client<W> {
         }
     }
 
-    // Settles the request at place k by its reply, and those before it as lost.
+    // Settles the request at place k by its reply, and those before it as lost: `settled` then has these k + 1 settlements alone.
     #[inline]
     fn settle(
         &mut self,
@@ -393,7 +394,7 @@ impl<W: Window> Client<W> {
     }
 }
 
-// The place of the request that a reply with this id is for, where one waits.
+// The place of the request that waits for a reply with this id. `None`: no request waits for it, or the reply has no id.
 #[inline]
 fn place_of(next: u8, waiting: usize, id: Option<u8>) -> Option<usize>
     requires next { next < IDS }

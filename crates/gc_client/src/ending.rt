@@ -16,7 +16,7 @@ use arrayvec::ArrayVec;
 use gc_catalogue::{Call, Reading, decode_answer, decode_answer_into};
 use gc_lines::{Line, Reply, append};
 
-/// Makes a list of `count` settlements, whatever they say.
+/// Brings a list to `count` settlements, whatever they say.
 #[inline]
 pub(crate) fn make_places(settled: &mut ArrayVec<Settlement, WINDOW>, count: usize)
     requires { count ≤ WINDOW }
@@ -28,8 +28,8 @@ pub(crate) fn make_places(settled: &mut ArrayVec<Settlement, WINDOW>, count: usi
     }
 }
 
-// Appends a settlement, whatever it says: an answer, so that another can be written into its places. It has its own
-// frame, since a settlement is large.
+// Appends a settlement, whatever it says: it is an answer, so that another answer can be written over its parts. The function
+// has a frame of its own, because a settlement is large.
 #[inline(never)]
 fn push_place(settled: &mut ArrayVec<Settlement, WINDOW>)
     requires { array_vec_len settled.old < WINDOW }
@@ -65,7 +65,7 @@ pub(crate) fn lose<W: Window>(
     }
 }
 
-// Writes the settlement of a request that is lost. It has its own frame, since an outcome is large.
+// Writes the settlement of a request that is lost. The function has a frame of its own, because an outcome is large.
 #[inline(never)]
 fn set_lost(p: &Pending, settlement: &mut Settlement)
     ensures { IsSettlement settlement.new (lost p.now) }
@@ -75,7 +75,7 @@ fn set_lost(p: &Pending, settlement: &mut Settlement)
     settlement.outcome = Outcome::Lost;
 }
 
-/// Writes the settlement of a request whose reply came.
+/// Writes the settlement of a request whose reply came: late where the request was given up, else answered.
 #[inline(never)]
 pub(crate) fn meet(p: &Pending, reply: &Reply<'_>, line: &[u8], settlement: &mut Settlement)
     requires reads { reply_at line.now ≡ Ok (reply_seen reply.now) }
@@ -91,7 +91,7 @@ pub(crate) fn meet(p: &Pending, reply: &Reply<'_>, line: &[u8], settlement: &mut
     }
 }
 
-// Writes that a reply came late. It has its own frame, since an outcome is large.
+// Writes that a reply came late. The function has a frame of its own, because an outcome is large.
 #[inline(never)]
 fn set_late(outcome: &mut Outcome)
     ensures { outcome.new ≡ Late }
@@ -99,7 +99,7 @@ fn set_late(outcome: &mut Outcome)
     *outcome = Outcome::Late;
 }
 
-// Writes what a reply in time says. Where an answer stands there already, it goes into the places of that one.
+// Writes the answer that a reply in time gives. Where `outcome` is an answer already, the new one is written over its parts.
 #[inline]
 fn answer(call: &Call, reply: &Reply<'_>, line: &[u8], outcome: &mut Outcome)
     requires { length line.now ≤ 512 }
@@ -115,7 +115,8 @@ fn answer(call: &Call, reply: &Reply<'_>, line: &[u8], outcome: &mut Outcome)
     }
 }
 
-// Writes what a reply in time says, whatever stands there. It has its own frame, since an outcome is large.
+// Writes the answer that a reply in time gives, whatever `outcome` is. The function has a frame of its own, because an outcome
+// is large.
 #[inline(never)]
 fn answer_anew(call: &Call, reply: &Reply<'_>, line: &[u8], outcome: &mut Outcome)
     requires { length line.now ≤ 512 }
@@ -124,7 +125,7 @@ fn answer_anew(call: &Call, reply: &Reply<'_>, line: &[u8], outcome: &mut Outcom
     *outcome = Outcome::Answered(decode_answer(call, reply), line_of(line));
 }
 
-// The line with these bytes.
+// A line of these bytes.
 #[inline]
 fn line_of(bytes: &[u8]) -> Line
     requires { length bytes.now ≤ 512 }

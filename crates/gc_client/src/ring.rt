@@ -28,7 +28,7 @@ impl Model for Ring {
 }
 
 impl Ring {
-    /// Makes an empty window with room for seven. Want of memory comes only where the heap refused that room.
+    /// Makes an empty window with room for seven. It fails only where the heap has no memory for that room.
     pub fn new(alloc: Global) -> Result<Ring, AllocError>
         ensures { IfOk result (λ ring. ring ≡ []) }
     {

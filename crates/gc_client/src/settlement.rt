@@ -20,7 +20,7 @@ pub enum Outcome {
     Lost,
 }
 
-// Lost: what stands in the places of a list that nothing uses yet.
+// Lost: the value in the places of a list that nothing uses yet.
 impl Default for Outcome {
     ghost is_default = { λ outcome. outcome ≡ Lost };
 

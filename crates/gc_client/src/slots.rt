@@ -33,7 +33,7 @@ impl Model for Slots {
     ghost invariant = { λ s. (s.oldest < PLACES) × (s.len ≤ WINDOW) × (length s.places ≡ PLACES) };
 }
 
-// What stands in a place that nothing has used yet.
+// The value of a place that nothing has used yet.
 const VACANT: Pending = Pending {
     target: 0,
     call: Call::NullProc,

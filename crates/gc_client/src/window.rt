@@ -12,7 +12,7 @@ pub const WINDOW: usize = 7;
 pub const IDS: u8 = 8;
 
 /// The requests that wait, oldest first: at most seven.
-/// What stands above sees this list and nothing else of a window.
+/// The client sees this list and nothing else of a window.
 pub trait Window: Drop {
     ghost use Rattle.std.specs.Prelude.{List};
     ghost use Rattle.gc_client.specs.declared.pending.Pending.{Pending};

@@ -22,17 +22,20 @@ AreEnded (Cleared ∷ later) = AreEnded later
 AreEnded (Overlong ∷ later) = AreEnded later
 AreEnded (More ∷ later) = ⊥
 
+-- the frame of a piece is ended, whichever of the three it is
 ended_piece : (a b : Bool) (line : Frame) (later : List Frame) → (AreEnded later → AreEnded (line ∷ later)) → AreEnded later → AreEnded (cond a (cond b Overlong line) Cleared ∷ later)
 unfolding AreEnded
 ended_piece true true line later is h = h
 ended_piece true false line later is h = is h
 ended_piece false b line later is h = h
 
+-- the frames of pieces that line feeds ended are ended
 ended_pieces : (parts : List (List ℕ)) → AreEnded (map frame_of parts)
 unfolding AreEnded
 ended_pieces [] = tt
 ended_pieces (part ∷ later) = ended_piece (ends_in_return part) _ (Line (record { items = take (length part - 1) part })) (map frame_of later) (λ h. h) (ended_pieces later)
 
+-- where all frames of two lists are ended, so are those of the first
 ended_front : (xs ys : List Frame) → AreEnded (xs ++ ys) → AreEnded xs
 unfolding AreEnded
 ended_front [] ys h = tt
@@ -41,7 +44,7 @@ ended_front (Cleared ∷ xs) ys h = ended_front xs ys h
 ended_front (Overlong ∷ xs) ys h = ended_front xs ys h
 ended_front (More ∷ xs) ys h = h
 
--- a frame has a byte at least
+-- there are no more pieces than bytes
 few_pieces : (before bytes : List ℕ) → length (pieces_behind before bytes) ≤ length bytes
 few_pieces before [] = omega arith
 few_pieces before (b ∷ bs) = elim (is_line_feed b) as (λ t. length (cond t (before ∷ pieces_behind [] bs) (pieces_behind (before ++ b ∷ []) bs)) ≤ length (b ∷ bs)) [
@@ -53,6 +56,7 @@ length-mapped : {X Y : Type 0} (f : X → Y) (xs : List X) → length (map f xs)
 length-mapped f [] = refl
 length-mapped f (x ∷ xs) = ap suc (length-mapped f xs)
 
+-- there are no more frames than bytes
 few_frames : (given : List ℕ) → length (frames given) ≤ length given
 few_frames given = omega (arith, length-mapped frame_of (pieces_behind [] given), few_pieces [] given)
 
@@ -62,6 +66,7 @@ record Judged (n : ℕ) (seen : List Frame) (texts : List (List ℕ)) : Type 0 w
   are : AreVerdicts seen said
   numbered : texts ≡ lines_from (n + 1) said
 
+-- where a frame was judged, and then those behind it, all of these frames were judged
 judged_next : (s u : Judge) (frame : Frame) (later : List Frame) (v : Verdict) (text : Option (List ℕ)) (rest texts : List (List ℕ)) (n : ℕ) → s.frames ≡ n → n + 1 < 2 ^ 64
     → IsVerdict frame v → u.frames ≡ min (s.frames + 1) (2 ^ 64 - 1) → text ≡ Some (verdict_line u.frames v) → texts ≡ option_to_list text ++ rest
     → (u.frames ≡ n + 1 → Judged (n + 1) later rest) → Judged n (frame ∷ later) texts
@@ -74,6 +79,7 @@ judged_next s u frame later v text rest texts n at few is counts told are next =
       numbered = are ∙ ap (λ (o : Option (List ℕ)). option_to_list o ++ rest) told ∙ ap (λ (m : ℕ). verdict_line m v ∷ rest) more ∙ ap (λ (ts : List (List ℕ)). verdict_line (n + 1) v ∷ ts) k.numbered;
     }
 
+-- frames that were judged in order got the lines of their verdicts
 judged : (s t : Judge) (seen : List Frame) (texts : List (List ℕ)) (n : ℕ) → s.frames ≡ n → n + length seen < 2 ^ 64 → AreEnded seen
     → AnswersInOrder Judge JudgesFrame s seen t texts → Judged n seen texts
 unfolding AreEnded
@@ -86,11 +92,13 @@ judged s t (Overlong ∷ later) texts n at few ended h = judged_next s h.0 Overl
     (λ more. judged h.0 t later h.2 (n + 1) more (omega (arith, few)) ended h.4)
 judged s t (More ∷ later) texts n at few ended h = absurd ended
 
+-- frames that were judged from the first on got the lines of their verdicts
 lines_of : (s t : Judge) (seen : List Frame) (texts : List (List ℕ)) → s.frames ≡ 0 → length seen < 2 ^ 64 → AreEnded seen → AnswersInOrder Judge JudgesFrame s seen t texts → AreLinesOf seen texts
 lines_of s t seen texts at few ended h =
     let k = judged s t seen texts 0 at (omega (arith, few)) ended h in
     record { said = k.said; are = k.are; numbered = k.numbered }
 
+-- where all frames of the bytes were judged, and their lines went out, `ChecksAll` holds
 all_checked : (s t : Judge) (given : List ℕ) (a b : Option (List ℕ)) (count : ℕ) → s.frames ≡ 0 → length given < 2 ^ 64
     → AnswersAll JudgesFrame s t (frames given) a b 0 count → ChecksAll given a b count
 all_checked s t given a b count at few all = record {
@@ -100,6 +108,7 @@ all_checked s t given a b count at few all = record {
   took = all.took;
 }
 
+-- where the first frames of the bytes were judged, and of the last line a front went out, `ChecksPart` holds
 part_checked : (s t : Judge) (given : List ℕ) (a b : Option (List ℕ)) (count bytes : ℕ) → s.frames ≡ 0 → length given < 2 ^ 64
     → AnswersPart JudgesFrame s t (frames given) a b 0 count bytes → ChecksPart given a b count bytes
 part_checked s t given a b count bytes at few part =
@@ -121,7 +130,7 @@ part_checked s t given a b count bytes at few part =
       took = part.took;
     }
 
--- the whole result
+-- what went out of the lines of the frames that were judged, by the result, is what `Checks` says
 pub checked : (s t : Judge) (given : List ℕ) (a b : Option (List ℕ)) (r : Result Served ServeFault) → s.frames ≡ 0 → length given < 2 ^ 64
     → AnswersFrames JudgesFrame s t (frames given) a b r → Checks given a b r
 checked s t given a b (Ok served) at few h = all_checked s t given a b served.replies at few h
@@ -143,7 +152,7 @@ judged_frame s u Cleared v is counts = (v, is, counts, refl)
 judged_frame s u Overlong v is counts = (v, is, counts, refl)
 judged_frame s u More v is counts = absurd is
 
--- the parts of a line, one appended behind the other
+-- the parts of a line, appended one behind the other, are the line
 pub line_of_parts : (old a b c d digits verdict : List ℕ) → a ≡ old ++ digits → b ≡ a ++ 32 ∷ [] → c ≡ b ++ verdict → d ≡ c ++ 10 ∷ [] → d ≡ old ++ (digits ++ 32 ∷ [] ++ verdict ++ 10 ∷ [])
 line_of_parts old a b c d digits verdict first second third last =
     let whole : d ≡ old ++ digits ++ 32 ∷ [] ++ verdict ++ 10 ∷ [] = last

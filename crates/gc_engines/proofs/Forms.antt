@@ -10,7 +10,7 @@ use Rattle.gc_texts.specs.Procedures.{IsNumber, IsProcedure}
 use Rattle.gc_texts.proofs.Cutting.{cut_found, digits_lack_spaces}
 use Rattle.gc_engines.specs.Schedule.{IsNumbered, IsRequested, IsSend, IsEvent, IsCounted}
 
--- a number behind a word that the line begins with
+-- where a line begins with a word, it is that word and a number exactly where the rest is a number
 pub numbered_is : (word line rest : List ℕ) (max : ℕ) (r : Option ℕ) → line ≡ word ++ rest
     → MatchOption r ((n : ℕ) → IsNumber rest n max → ⊥) (λ n. IsNumber rest n max)
     → MatchOption r ((n : ℕ) → IsNumbered word line n max → ⊥) (λ n. IsNumbered word line n max)
@@ -21,34 +21,39 @@ pub some_is : (a b : List ℕ) → Some a ≡ Some b → a ≡ b
 some_is a b e = cc
 
 module _ (text : List ℕ) (t : ℕ) (call : Call) (d : ℕ) (r : IsRequested text t call d) where
+  -- the first space stands behind the target
   first_cut : (target : List ℕ) (rest : Option (List ℕ)) → Cuts 32 text target rest → (target ≡ r.target_text) × (rest ≡ Some (r.deadline_text ++ 32 ∷ r.procedure))
   first_cut target rest cut = cut_found 32 text target rest r.target_text (r.deadline_text ++ 32 ∷ r.procedure) cut r.text_is (digits_lack_spaces r.target_text r.target_is.names.digits)
 
+  -- the second space stands behind the deadline
   second_cut : (target rest deadline : List ℕ) (behind : Option (List ℕ)) → Cuts 32 text target (Some rest) → Cuts 32 rest deadline behind → (deadline ≡ r.deadline_text) × (behind ≡ Some r.procedure)
   second_cut target rest deadline behind cut next =
       let first = first_cut target (Some rest) cut in
       cut_found 32 rest deadline behind r.deadline_text r.procedure next (some_is rest (r.deadline_text ++ 32 ∷ r.procedure) first.1) (digits_lack_spaces r.deadline_text r.deadline_is.names.digits)
 
-  -- two spaces are there
+  -- what is requested has a first space
   pub no_first_space : (target : List ℕ) → Cuts 32 text target None → ⊥
   no_first_space target cut = let first = first_cut target None cut in let bad : None ≡ Some (r.deadline_text ++ 32 ∷ r.procedure) = first.1 in cc
 
+  -- what is requested has a second space
   pub no_second_space : (target rest deadline : List ℕ) → Cuts 32 text target (Some rest) → Cuts 32 rest deadline None → ⊥
   no_second_space target rest deadline cut next = let second = second_cut target rest deadline None cut next in let bad : None ≡ Some r.procedure = second.1 in cc
 
-  -- and a target, a deadline and a call stand between and behind them
+  -- what stands before the first space is a target
   pub has_target : (target rest : List ℕ) → Cuts 32 text target (Some rest) → ((n : ℕ) → IsNumber target n 4294967295 → ⊥) → ⊥
   has_target target rest cut none = none t (subst (λ (ds : List ℕ). IsNumber ds t 4294967295) (sym (first_cut target (Some rest) cut).0) r.target_is)
 
+  -- what stands between the spaces is a deadline
   pub has_deadline : (target rest deadline : List ℕ) (behind : Option (List ℕ)) → Cuts 32 text target (Some rest) → Cuts 32 rest deadline behind
       → ((n : ℕ) → IsNumber deadline n 18446744073709551615 → ⊥) → ⊥
   has_deadline target rest deadline behind cut next none = none d (subst (λ (ds : List ℕ). IsNumber ds d 18446744073709551615) (sym (second_cut target rest deadline behind cut next).0) r.deadline_is)
 
+  -- what stands behind the second space is a procedure and its parameters
   pub has_procedure : (target rest deadline procedure : List ℕ) → Cuts 32 text target (Some rest) → Cuts 32 rest deadline (Some procedure) → ((c : Call) → IsProcedure procedure c → ⊥) → ⊥
   has_procedure target rest deadline procedure cut next none =
       none call (subst (λ (p : List ℕ). IsProcedure p call) (sym (some_is procedure r.procedure (second_cut target rest deadline (Some procedure) cut next).1)) r.procedure_is)
 
--- `send`, and what is requested behind it
+-- where a line begins with `send `, it sends exactly what is requested behind that, if anything is
 pub send_is : (word line rest : List ℕ) (o : Option (ℕ × Call × ℕ)) → word ≡ codes "send " → line ≡ word ++ rest
     → MatchOption o ((t : ℕ) (call : Call) (d : ℕ) → IsRequested rest t call d → ⊥)
     (λ r. IsRequested rest r.0 r.1 r.2) → MatchOption o ((t : ℕ) (call : Call) (d : ℕ) → IsSend line t call d → ⊥) (λ r. IsSend line r.0 r.1 r.2)
@@ -56,7 +61,7 @@ send_is word line rest None same e none =
     λ t call d sent. none t call d (subst (λ (x : List ℕ). IsRequested x t call d) (append_cancel_left (codes "send ") sent.rest rest (sym sent.line_is ∙ e ∙ ap (λ w. w ++ rest) same)) sent.requested)
 send_is word line rest (Some r) same e requested = record { rest = rest; line_is = e ∙ ap (λ w. w ++ rest) same; requested = requested }
 
--- the line has the form of no event that is words and a number
+-- a line that is none of the seven words with a number has the form of no event that is words and a number
 pub no_numbered :
     (line : List ℕ) →
     ((n : ℕ) → IsNumbered (codes "up bytes ") line n 4294967295 → ⊥) →

@@ -49,6 +49,7 @@ joined k None n =
     if k == 1 then UpDeliver else if k == 2 then UpLose n else if k == 3 then UpRepeat n else if k == 4 then DownDeliver else if k == 5 then DownLose n
     else if k == 6 then DownRepeat n else if k == 7 then Expire n else if k == 8 then RestartClient else if k == 10 then UpBytes n else if k == 11 then DownBytes n else RestartInstrument
 
+-- an event is what its three parts make
 joined_is : (e : Event) → joined (kind e) (sends e) (count e) ≡ e
 joined_is (Send target call deadline) = refl
 joined_is UpDeliver = refl
@@ -63,7 +64,7 @@ joined_is RestartInstrument = refl
 joined_is (UpBytes n) = refl
 joined_is (DownBytes n) = refl
 
--- the kind that a line's bytes tell: `send`, `expire`, `up` and `down` with the word behind them, and `restart` with its own
+-- the kind of event that a line's bytes show: `send`, `expire`, `up` and `down` with the word behind them, and `restart` with its own
 abbrev way_kind : ℕ → ℕ → ℕ → ℕ
 way_kind from bytes b = if b == 100 then from else if b == 108 then from + 1 else if b == 98 then bytes else from + 2
 
@@ -72,6 +73,7 @@ kind_in line =
     if get_or line 0 0 == 115 then 0 else if get_or line 0 0 == 101 then 7 else if get_or line 0 0 == 117 then way_kind 1 10 (get_or line 3 0)
     else if get_or line 0 0 == 100 then way_kind 4 11 (get_or line 5 0) else if get_or line 8 0 == 99 then 8 else 9
 
+-- an event has the kind that its line's bytes show
 kind_is : (line : List ℕ) (e : Event) → IsEvent line e → kind_in line ≡ kind e
 kind_is line (Send target call deadline) h = ap kind_in h.line_is
 kind_is line UpDeliver h = ap kind_in h
@@ -92,6 +94,7 @@ count_in k line =
     if k == 2 then number (drop 8 line) else if k == 3 then number (drop 10 line) else if k == 5 then number (drop 10 line)
     else if k == 6 then number (drop 12 line) else if k == 7 then number (drop 7 line) else if k == 10 then number (drop 9 line) else if k == 11 then number (drop 11 line) else 0
 
+-- an event has the number that stands behind the words of its kind
 count_is : (line : List ℕ) (e : Event) → IsEvent line e → count_in (kind e) line ≡ count e
 count_is line (Send target call deadline) h = refl
 count_is line UpDeliver h = refl
@@ -106,7 +109,7 @@ count_is line RestartInstrument h = refl
 count_is line (UpBytes n) h = ap (count_in 10) h.line_is ∙ sym h.number.names.value
 count_is line (DownBytes n) h = ap (count_in 11) h.line_is ∙ sym h.number.names.value
 
--- one target, call and deadline in what is requested
+-- a text asks for one target, one call and one deadline at most
 one_requested : (text : List ℕ) (t u : ℕ) (c d : Call) (m n : ℕ) → IsRequested text t c m → IsRequested text u d n → (t ≡ u) × (c ≡ d) × (m ≡ n)
 one_requested text t u c d m n r s =
     let first = one_front 32 r.target_text s.target_text (r.deadline_text ++ 32 ∷ r.procedure) (s.deadline_text ++ 32 ∷ s.procedure) (sym r.text_is ∙ s.text_is)
@@ -122,14 +125,17 @@ one_requested text t u c d m n r s =
 abbrev sent : ℕ → Call → ℕ → Option (ℕ × Call × ℕ)
 sent t c m = Some (t, c, m)
 
+-- requests with one target, one call and one deadline are one
 some_three : (t u : ℕ) (c d : Call) (m n : ℕ) → (t ≡ u) × (c ≡ d) × (m ≡ n) → sent t c m ≡ sent u d n
 some_three t u c d m n h = rw (h.0, h.1, h.2) refl
 
+-- a line sends one request at most
 one_send : (line : List ℕ) (t u : ℕ) (c d : Call) (m n : ℕ) → IsSend line t c m → IsSend line u d n → sent t c m ≡ sent u d n
 one_send line t u c d m n x y =
     let rests : x.rest ≡ y.rest = append_cancel_left (codes "send ") x.rest y.rest (sym x.line_is ∙ y.line_is) in
     some_three t u c d m n (one_requested y.rest t u c d m n (subst (λ (r : List ℕ). IsRequested r t c m) rests x.requested) y.requested)
 
+-- an event that isn't a send sends nothing
 sends_nothing : (e : Event) (k : ℕ) → kind e ≡ k + 1 → sends e ≡ None
 sends_nothing (Send target call deadline) k h = absurd (omega (arith, h))
 sends_nothing UpDeliver k h = refl
@@ -144,6 +150,7 @@ sends_nothing RestartInstrument k h = refl
 sends_nothing (UpBytes n) k h = refl
 sends_nothing (DownBytes n) k h = refl
 
+-- the event of a `send` line sends what the line says
 sends_this : (line : List ℕ) (t : ℕ) (c : Call) (m : ℕ) (e : Event) → IsSend line t c m → IsEvent line e → 0 ≡ kind e → sent t c m ≡ sends e
 sends_this line t c m (Send u d n) x y h = one_send line t u c d m n x y
 sends_this line t c m UpDeliver x y h = absurd (omega (arith, h))
@@ -158,6 +165,7 @@ sends_this line t c m RestartInstrument x y h = absurd (omega (arith, h))
 sends_this line t c m (UpBytes n) x y h = absurd (omega (arith, h))
 sends_this line t c m (DownBytes n) x y h = absurd (omega (arith, h))
 
+-- two events of one line and one kind send the same
 one_sent : (line : List ℕ) (a b : Event) → IsEvent line a → IsEvent line b → kind a ≡ kind b → sends a ≡ sends b
 one_sent line (Send t c m) b x y h = sends_this line t c m b x y h
 one_sent line UpDeliver b x y h = sym (sends_nothing b 0 (sym h))
@@ -172,16 +180,17 @@ one_sent line RestartInstrument b x y h = sym (sends_nothing b 8 (sym h))
 one_sent line (UpBytes n) b x y h = sym (sends_nothing b 9 (sym h))
 one_sent line (DownBytes n) b x y h = sym (sends_nothing b 10 (sym h))
 
+-- events of one kind, one request and one number are one
 same_joined : (k l : ℕ) (s r : Option (ℕ × Call × ℕ)) (m n : ℕ) → k ≡ l → s ≡ r → m ≡ n → joined k s m ≡ joined l r n
 same_joined k l s r m n e f g = ap (λ x. joined x s m) e ∙ ap (λ x. joined l x m) f ∙ ap (λ x. joined l r x) g
 
--- a line has the form of one event
+-- a line has the form of one event at most
 one_event : (line : List ℕ) (a b : Event) → IsEvent line a → IsEvent line b → a ≡ b
 one_event line a b x y =
     let kinds : kind a ≡ kind b = sym (kind_is line a x) ∙ kind_is line b y in
     let counts : count a ≡ count b = sym (count_is line a x) ∙ ap (λ k. count_in k line) kinds ∙ count_is line b y in
     sym (joined_is a) ∙ same_joined (kind a) (kind b) (sends a) (sends b) (count a) (count b) kinds (one_sent line a b x y kinds) counts ∙ joined_is b
 
--- a text is the schedule of one list of events
+-- a text is the schedule of one list of events at most
 pub one_schedule : (text : List ℕ) (xs ys : List Event) → IsSchedule text xs → IsSchedule text ys → xs ≡ ys
 one_schedule text xs ys h k = one_list IsEvent one_event (filter is_kept (text_lines text)) xs ys h k

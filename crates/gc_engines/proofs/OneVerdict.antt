@@ -16,23 +16,26 @@ use Rattle.gc_engines.specs.Verdicts.{IsRequestVerdict, reads, refuses, BeginsAs
 use Rattle.gc_engines.specs.declared.verdict.Verdict.{Verdict}
 use Rattle.gc_engines.specs.declared.verdict.Verdict.TheVariants as verdict
 
--- a list of faults has one head
+-- a result has one fault
 one_fault : {A : Type 0} (r : Result A LineFault) (e f : LineFault) → r ≡ Err e → r ≡ Err f → e ≡ f
 one_fault r e f is other = cc
 
 never : {A : Type 0} (r : Result A LineFault) (x : A) (f : LineFault) → r ≡ Ok x → r ≡ Err f → ⊥
 never r x f is other = cc
 
--- the fourth letter tells a request from a reply
+-- the fourth letter of a request isn't that of a reply
 other_letter : (xs ys : List ℕ) → 81 ∷ 44 ∷ xs ≡ 80 ∷ 44 ∷ ys → ⊥
 other_letter xs ys e = let same : ◌≡◌ {A = ℕ} 81 80 = ap (λ (zs : List ℕ). slice_index zs 0) e in omega arith
 
+-- a request doesn't begin as a reply
 no_both : (line : List ℕ) (q : RequestFields) → IsRequest line q → BeginsAsReply line → ⊥
 no_both line q is begins = other_letter _ _ (ap (λ (xs : List ℕ). drop 3 xs) (sym is.whole ∙ begins.1))
 
+-- a reply begins as one
 begins : (line : List ℕ) (r : ReplyFields) → IsReply line r → BeginsAsReply line
 begins line r is = (_, is.whole)
 
+-- a request has one verdict at most
 one_of_request : (q : RequestFields) (v w : Verdict) → IsRequestVerdict q v → IsRequestVerdict q w → v ≡ w
 one_of_request q v w (reads c is says) (reads d other tells) = says ∙ sym tells
 one_of_request q v w (reads c is says) (refuses e other tells) = absurd (no_refusal q.rpc q.params c e is other)
@@ -40,6 +43,7 @@ one_of_request q v w (refuses e is says) (reads c other tells) = absurd (no_refu
 one_of_request q v w (refuses e is says) (refuses f other tells) =
     says ∙ ap (λ (g : CallFault). verdict.RequestFault q.rpc g) (one_refusal q.rpc q.params e f is other) ∙ sym tells
 
+-- a line has one verdict at most
 one_of_line : (line : List ℕ) (v w : Verdict) → IsLineVerdict line v → IsLineVerdict line w → v ≡ w
 one_of_line line v w (request q is says) (request p other tells) = one_of_request q v w says (subst (λ (f : RequestFields). IsRequestVerdict f w) (one_request line p q other is) tells)
 one_of_line line v w (request q is says) (reply r other tells) = absurd (no_both line q is (begins line r other))
@@ -60,12 +64,14 @@ one_of_line line v w (no_request e none bad says) (no_reply f so worse tells) = 
 one_of_line line v w (no_request e none bad says) (no_request f nothing worse tells) =
     says ∙ ap (λ (g : LineFault). verdict.Fault g) (one_fault (request_at line) e f (request_bad line e bad) (request_bad line f worse)) ∙ sym tells
 
+-- a frame has one verdict at most
 one_of_frame : (seen : Frame) (v w : Verdict) → IsVerdict seen v → IsVerdict seen w → v ≡ w
 one_of_frame (Line line) v w says tells = one_of_line line.items v w says tells
 one_of_frame Cleared v w says tells = says ∙ sym tells
 one_of_frame Overlong v w says tells = says ∙ sym tells
 one_of_frame More v w says tells = absurd says
 
+-- frames have one list of verdicts at most
 one_of_frames : (seen : List Frame) (vs ws : List Verdict) → AreVerdicts seen vs → AreVerdicts seen ws → vs ≡ ws
 one_of_frames [] [] [] says tells = refl
 one_of_frames [] [] (w ∷ ws) says tells = absurd tells
@@ -75,8 +81,10 @@ one_of_frames (frame ∷ later) (v ∷ vs) [] says tells = absurd tells
 one_of_frames (frame ∷ later) (v ∷ vs) (w ∷ ws) says tells =
     ap (λ (x : Verdict). x ∷ vs) (one_of_frame frame v w says.0 tells.0) ∙ ap (λ (xs : List Verdict). w ∷ xs) (one_of_frames later vs ws says.1 tells.1)
 
+-- a stream has one list of verdicts' lines at most
 one_of_stream : (bytes : List ℕ) (xs ys : List (List ℕ)) → AreVerdictLines bytes xs → AreVerdictLines bytes ys → xs ≡ ys
 one_of_stream bytes xs ys says tells = says.numbered ∙ ap (λ (vs : List Verdict). lines_from 1 vs) (one_of_frames (frames bytes) says.said tells.said says.are tells.are) ∙ sym tells.numbered
 
+-- the law: a frame has one verdict at most, and a stream one list of verdicts' lines
 pub one_verdict : OneVerdict
 one_verdict = record { frame = one_of_frame; stream = one_of_stream }

@@ -18,7 +18,7 @@ use Rattle.gc_engines.specs.declared.scene_line.SceneLine.{SceneLine}
 use Rattle.gc_engines.specs.declared.scene_line.SceneLine.TheVariants as says
 use Rattle.gc_engines.proofs.Forms.{some_is}
 
--- `target`, and three decimals behind it
+-- where a line begins with `target `, it is a target exactly where the rest is three decimals
 pub target_is : (line rest : List ℕ) (o : Option Target) → line ≡ codes "target " ++ rest
     → MatchOption o ((t : Target) → IsPrism rest t → ⊥) (λ t. IsPrism rest t) → MatchOption o ((t : Target) → IsTarget line t → ⊥) (λ t. IsTarget line t)
 target_is line rest None e none =
@@ -26,27 +26,32 @@ target_is line rest None e none =
 target_is line rest (Some t) e prism = record { words = rest; line_is = e; prism = prism }
 
 module _ (words : List ℕ) (t : Target) (p : IsPrism words t) where
+  -- the first space stands behind HZ
   first_cut : (hz : List ℕ) (rest : Option (List ℕ)) → Cuts 32 words hz rest → (hz ≡ p.hz_text) × (rest ≡ Some (p.v_text ++ 32 ∷ p.distance_text))
   first_cut hz rest cut = cut_found 32 words hz rest p.hz_text (p.v_text ++ 32 ∷ p.distance_text) cut p.words_are p.hz_lacks
 
+  -- the second space stands behind V
   second_cut : (hz rest v : List ℕ) (behind : Option (List ℕ)) → Cuts 32 words hz (Some rest) → Cuts 32 rest v behind → (v ≡ p.v_text) × (behind ≡ Some p.distance_text)
   second_cut hz rest v behind cut next =
       cut_found 32 rest v behind p.v_text p.distance_text next (some_is rest (p.v_text ++ 32 ∷ p.distance_text) (first_cut hz (Some rest) cut).1) p.v_lacks
 
-  -- two spaces are there
+  -- three decimals have a first space
   pub no_first_space : (hz : List ℕ) → Cuts 32 words hz None → ⊥
   no_first_space hz cut = let bad : None ≡ Some (p.v_text ++ 32 ∷ p.distance_text) = (first_cut hz None cut).1 in cc
 
+  -- three decimals have a second space
   pub no_second_space : (hz rest v : List ℕ) → Cuts 32 words hz (Some rest) → Cuts 32 rest v None → ⊥
   no_second_space hz rest v cut next = let bad : None ≡ Some p.distance_text = (second_cut hz rest v None cut next).1 in cc
 
-  -- and decimals before, between and behind them
+  -- what stands before the first space is a decimal
   pub has_hz : (hz rest : List ℕ) → Cuts 32 words hz (Some rest) → ((d : Decimal) → Spells hz d.digits d.scale → ⊥) → ⊥
   has_hz hz rest cut none = none t.hz (subst (λ (x : List ℕ). Spells x t.hz.digits t.hz.scale) (sym (first_cut hz (Some rest) cut).0) p.hz_is)
 
+  -- what stands between the spaces is a decimal
   pub has_v : (hz rest v : List ℕ) (behind : Option (List ℕ)) → Cuts 32 words hz (Some rest) → Cuts 32 rest v behind → ((d : Decimal) → Spells v d.digits d.scale → ⊥) → ⊥
   has_v hz rest v behind cut next none = none t.v (subst (λ (x : List ℕ). Spells x t.v.digits t.v.scale) (sym (second_cut hz rest v behind cut next).0) p.v_is)
 
+  -- what stands behind the second space is a decimal
   pub has_distance : (hz rest v distance : List ℕ) → Cuts 32 words hz (Some rest) → Cuts 32 rest v (Some distance) → ((d : Decimal) → Spells distance d.digits d.scale → ⊥) → ⊥
   has_distance hz rest v distance cut next none =
       none t.distance (subst (λ (x : List ℕ). Spells x t.distance.digits t.distance.scale) (sym (some_is distance p.distance_text (second_cut hz rest v (Some distance) cut next).1)) p.distance_is)
@@ -57,16 +62,18 @@ head (says.Serial n) = 115
 head (says.Name bytes) = 110
 head (says.Target target) = 116
 
+-- a line begins with the first letter of its word
 head_is : (line : List ℕ) (s : SceneLine) → IsSceneLine line s → get_or line 0 0 ≡ head s
 head_is line (says.Serial n) h = ap (λ l. get_or l 0 0) h.line_is
 head_is line (says.Name bytes) h = ap (λ l. get_or l 0 0) h.line_is
 head_is line (says.Target target) h = ap (λ l. get_or l 0 0) h.line_is
 
+-- two targets with one direction and one distance are one
 same_target : (t u : Target) → t.hz ≡ u.hz → t.v ≡ u.v → t.distance ≡ u.distance → t ≡ u
 same_target t u e f g =
     ap (λ x. record { hz = x; v = t.v; distance = t.distance }) e ∙ ap (λ x. record { hz = u.hz; v = x; distance = t.distance }) f ∙ ap (λ x. record { hz = u.hz; v = u.v; distance = x }) g
 
--- three words are one target
+-- three words say one target at most
 one_prism : (words : List ℕ) (t u : Target) → IsPrism words t → IsPrism words u → t ≡ u
 one_prism words t u p q =
     let first = one_front 32 p.hz_text q.hz_text (p.v_text ++ 32 ∷ p.distance_text) (q.v_text ++ 32 ∷ q.distance_text) (sym p.words_are ∙ q.words_are) p.hz_lacks q.hz_lacks in
@@ -76,19 +83,22 @@ one_prism words t u p q =
     (spells_unique q.v_text t.v u.v (subst (λ (x : List ℕ). Spells x t.v.digits t.v.scale) second.0 p.v_is) q.v_is)
     (spells_unique q.distance_text t.distance u.distance (subst (λ (x : List ℕ). Spells x t.distance.digits t.distance.scale) second.1 p.distance_is) q.distance_is)
 
+-- a line says one serial number at most
 one_serial : (line : List ℕ) (m n : ℤ) → IsSerial line m → IsSerial line n → m ≡ n
 one_serial line m n x y =
     let digits : x.digits ≡ y.digits = append_cancel_left (codes "serial ") x.digits y.digits (sym x.line_is ∙ y.line_is) in
     one_whole y.digits m n (subst (λ (ds : List ℕ). NamesWhole ds m) digits x.number) y.number
 
+-- a line says one target at most
 one_target : (line : List ℕ) (t u : Target) → IsTarget line t → IsTarget line u → t ≡ u
 one_target line t u x y =
     let words : x.words ≡ y.words = append_cancel_left (codes "target ") x.words y.words (sym x.line_is ∙ y.line_is) in
     one_prism y.words t u (subst (λ (ws : List ℕ). IsPrism ws t) words x.prism) y.prism
 
--- a line has one form
+-- a line says one thing at most
 one_line : (line : List ℕ) (a b : SceneLine) → IsSceneLine line a → IsSceneLine line b → a ≡ b
 one_line line a b x y = by_kind a b x y (sym (head_is line a x) ∙ head_is line b y) where
+  -- two lines of one kind say one thing
   by_kind : (a b : SceneLine) → IsSceneLine line a → IsSceneLine line b → head a ≡ head b → a ≡ b
   by_kind (says.Serial m) (says.Serial n) x y h = ap says.Serial (one_serial line m n x y)
   by_kind (says.Serial m) (says.Name cs) x y h = absurd (omega (arith, h))
@@ -100,13 +110,15 @@ one_line line a b x y = by_kind a b x y (sym (head_is line a x) ∙ head_is line
   by_kind (says.Target t) (says.Name cs) x y h = absurd (omega (arith, h))
   by_kind (says.Target t) (says.Target u) x y h = ap says.Target (one_target line t u x y)
 
+-- a text says one list of things at most
 one_lines : (text : List ℕ) (xs ys : List SceneLine) → IsText IsSceneLine text xs → IsText IsSceneLine text ys → xs ≡ ys
 one_lines text xs ys h k = one_list IsSceneLine one_line (filter is_kept (text_lines text)) xs ys h k
 
--- a text is one scene, or it is too large
+-- a text sets up one instrument at most
 pub one_state : (text : List ℕ) (s t : State) → IsScene text s → IsScene text t → s ≡ t
 one_state text s t x y = x.opens ∙ ap scene_opening (one_lines text x.lines y.lines x.are y.are) ∙ sym y.opens
 
+-- a scene isn't one with too many targets
 pub no_full : (text : List ℕ) (s : State) → IsScene text s → IsFullScene text → ⊥
 no_full text s x full =
     let same : length (targets_of x.lines) ≡ length (targets_of full.lines) = ap (λ ls. length (targets_of ls)) (one_lines text x.lines full.lines x.are full.are) in

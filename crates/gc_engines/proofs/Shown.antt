@@ -13,13 +13,16 @@ use Rattle.gc_texts.specs.Settlements.{settlement_lines}
 use Rattle.gc_engines.specs.Reports.{totals_text, report_text}
 use Rattle.gc_engines.specs.Drill.{wire_text, drill_text_on}
 
+-- a text made of six counts is the same where the counts are
 six : (f : ℕ → ℕ → ℕ → ℕ → ℕ → ℕ → List ℕ) (a b c d e g a' b' c' d' e' g' : ℕ) → a ≡ a' → b ≡ b' → c ≡ c' → d ≡ d' → e ≡ e' → g ≡ g' → f a b c d e g ≡ f a' b' c' d' e' g'
 six f a b c d e g a' b' c' d' e' g' ea eb ec ed ee eg = cc
 
+-- two texts are the same where their settlements and their totals are
 totals_where : (totals : Bool) (s t x y : List ℕ) → s ≡ t → x ≡ y → s ++ (if totals then x else []) ≡ t ++ (if totals then y else [])
 totals_where true s t x y es ex = cc
 totals_where false s t x y es ex = ap (λ l. l ++ []) es
 
+-- the text of a report is that of the run that it shows
 pub text_shown : (r : Report) (w : Wire State) (totals : Bool) → IsReport r w → report_text r totals ≡ wire_text w totals
 text_shown r w totals is =
     let sent : length r.sent ≡ length w.sent = sym (length-map r.sent sent_seen) ∙ ap length is.sent in
@@ -31,10 +34,11 @@ text_shown r w totals is =
     (length w.made) (length w.settled) w.refused w.idle
     sent (ap length is.executed) made settled is.refused is.idle)
 
+-- what a drill writes is the text of the wire that its events come to
 text_of_run : (opening : State) (width : ℕ) (events : List Event) (totals : Bool) → drill_text_on opening width events totals ≡ wire_text (played width opening events).wire totals
 text_of_run opening width events totals = unfold drill_text_on in refl
 
--- what is written of a report of an instrument's run
+-- the text of a report of an instrument's run is what a drill on that instrument writes
 pub drill_shown : (opening : State) (width : ℕ) (events : List Event) (totals : Bool) (r : Report) → IsReport r (played width opening events).wire
     → report_text r totals ≡ drill_text_on opening width events totals
 drill_shown opening width events totals r is = text_shown r (played width opening events).wire totals is ∙ sym (text_of_run opening width events totals)

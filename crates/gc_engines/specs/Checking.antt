@@ -31,14 +31,14 @@ pub record ChecksPart (given : List ℕ) (old new : Option (List ℕ)) (count by
   pub not_all : bytes < length line
   pub took : Appends old new (all_of whole ++ take bytes line)
 
--- what went out of the frames of these bytes, by the result
+-- how much of the verdicts on the frames of these bytes went out, by the result: all of them, or at a failed write the front of them
 abbrev pub Checks : List ℕ → Option (List ℕ) → Option (List ℕ) → Result Served ServeFault → Type 0
 Checks given old new (Ok served) = ChecksAll given old new served.replies
 Checks given old new (Err (Read count)) = ChecksAll given old new count
 Checks given old new (Err (Write count bytes)) = ChecksPart given old new count bytes
 Checks given old new (Err (TooManyReads count)) = ChecksAll given old new count
 
--- a check that may make so many reads took the ports from old to new, and gave this result
+-- a check of at most `most` reads took the ports from old to new, and gave this result
 pub record IsChecking (old new : Ports) (most : ℕ) (result : Result Served ServeFault) : Type 0 where
   -- the sink took the lines of the verdicts on the bytes that the source gave, or the part of them that the fault says
   pub checks : (given : List ℕ) × Consumes old.remaining new.remaining given
@@ -46,7 +46,8 @@ pub record IsChecking (old new : Ports) (most : ℕ) (result : Result Served Ser
   -- why it ended; over ports that hadn't failed before, each result comes exactly where its cause is
   pub ended : HasEnded old new most result
 
--- No part of a promise: what is kept from one frame to the next is how many there were, as far as 64 bits count.
+-- what the judge writes of a frame: the line of its verdict, numbered by a count that grows as far as 64 bits go; nothing of a frame that no
+-- line feed has ended. No part of a promise
 abbrev pub JudgesFrame : Judge → Frame → Judge → Option (List ℕ) → Type 0
 JudgesFrame before More after text = (after ≡ before) × (text ≡ None)
 JudgesFrame before frame after text = (v : Verdict) × IsVerdict frame v × (after.frames ≡ min (before.frames + 1) (2 ^ 64 - 1)) × (text ≡ Some (verdict_line after.frames v))

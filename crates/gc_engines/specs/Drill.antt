@@ -20,11 +20,11 @@ totals_line w = totals_text (length w.sent) (length w.executed) (length w.made) 
 abbrev pub wire_text : Wire State → Bool → List ℕ
 wire_text w totals = settlement_lines w.settled ++ (if totals then totals_line w else [])
 
--- what is written for events that are played on an instrument that starts so, with a window of this width
+-- what is written of events that are played on an instrument with this opening state, with a window of this width
 unfoldable pub drill_text_on : State → ℕ → List Event → Bool → List ℕ
 drill_text_on opening width events totals = wire_text (played width opening events).wire totals
 
--- what is written for events that are played on the simulator
+-- what is written of events that are played on the simulator, with a window of this width
 abbrev pub drill_text : ℕ → List Event → Bool → List ℕ
 drill_text width events totals = drill_text_on simulator_opening width events totals
 
@@ -32,7 +32,8 @@ drill_text width events totals = drill_text_on simulator_opening width events to
 abbrev pub TookPart : Option (List ℕ) → Option (List ℕ) → List ℕ → Type 0
 TookPart old new text = (n : ℕ) × (n < length text) × Appends old new (take n text)
 
--- what became of the bytes that were given, played on an instrument that starts so with a window of this width, and what a sink took
+-- these bytes were given as a schedule, to be played on an instrument with this opening state and a window of this width: why that ended, and
+-- what a sink took, by the result
 abbrev pub DrillsOn : State → ℕ → List ℕ → Bool → Option (List ℕ) → Option (List ℕ) → Result (Unit {0}) RunFault → Type 0
 DrillsOn opening width given totals old new (Ok _) = (length given ≤ TEXT_LIMIT) × ((events : List Event) × IsSchedule given events × Appends old new (drill_text_on opening width events totals))
 DrillsOn opening width given totals old new (Err Read) = (length given ≤ TEXT_LIMIT) × (new ≡ old)
@@ -43,23 +44,23 @@ DrillsOn opening width given totals old new (Err Output) = (length given ≤ TEX
     × ((events : List Event) × IsSchedule given events × TookPart old new (drill_text_on opening width events totals))
 DrillsOn opening width given totals old new (Err _) = ⊥
 
--- the same, with the simulator
+-- the same as `DrillsOn`, with the simulator
 abbrev pub Drills : ℕ → List ℕ → Bool → Option (List ℕ) → Option (List ℕ) → Result (Unit {0}) RunFault → Type 0
 Drills width given totals old new result = DrillsOn simulator_opening width given totals old new result
 
--- whether the source was read to its end
+-- whether a drill with this result has read its source to the end: it has where the schedule was played, or has a faulty line
 abbrev pub is_read_whole : Result (Unit {0}) RunFault → Bool
 is_read_whole (Ok _) = true
 is_read_whole (Err (Schedule n)) = true
 is_read_whole (Err Output) = true
 is_read_whole (Err _) = false
 
--- whether the source has failed once the drill ended so; `failed` says whether it had before
+-- whether the source has failed behind a drill with this result; `failed` says whether it had before
 abbrev pub source_failed : Result (Unit {0}) RunFault → Bool → Bool
 source_failed (Err Read) failed = true
 source_failed _ failed = failed
 
--- whether the sink has failed once the drill ended so
+-- whether the sink has failed behind a drill with this result; `failed` says whether it had before
 abbrev pub sink_failed : Result (Unit {0}) RunFault → Bool → Bool
 sink_failed (Err Output) failed = true
 sink_failed _ failed = failed

@@ -27,7 +27,7 @@ ends_cleared bytes = nat_lt 0 (length bytes) && (get_or bytes (length bytes - 1)
 abbrev pub part_verdict : List ℕ → List ℕ
 part_verdict bytes = if ends_cleared bytes then verdict_text verdict.Cleared else codes "part"
 
--- what is said of the bytes of a log line; what became of the connection is told as it stands in the log
+-- what is said of the bytes of a log line, by its mark; the words of a line on the connection stand as in the log
 abbrev pub IsSaid : LogMark → List ℕ → List ℕ → Type 0
 IsSaid mark.Went bytes text = IsWholeVerdict bytes text
 IsSaid mark.WentPart bytes text = text ≡ part_verdict bytes
@@ -42,26 +42,28 @@ pub data IsLogVerdict (line text : List ℕ) : Type 0 where
   unread : (length line ≤ 2100 → (moment : List ℕ) (mark : LogMark) (bytes : List ℕ) → length bytes ≤ 514 → IsLogLine line moment mark bytes → ⊥)
       → text ≡ codes "no log line\n" → IsLogVerdict line text
 
--- what is written of lines, of each in order
+-- these texts are written of these lines, one for one
 abbrev pub AreSaid : List (List ℕ) → List (List ℕ) → Type 0
 AreSaid [] [] = Unit {0}
 AreSaid [] (t ∷ ts) = ⊥
 AreSaid (l ∷ ls) [] = ⊥
 AreSaid (l ∷ ls) (t ∷ ts) = IsLogVerdict l t × AreSaid ls ts
 
--- what is kept of the bytes since the last line feed: all of them, or that they are more than a log line has
+-- what is kept of the bytes since the last line feed: all of them, or the mark that they are more than 2100
 pub record KeepsLine (kept : Underway) (rest : List ℕ) : Type 0 where
   pub whole : kept.is_long ≡ false → rest ≡ kept.bytes.items
   pub long : kept.is_long ≡ true → 2100 < length rest
 
--- some bytes came behind others that no line feed has ended: what is said of each line that ends in them went out
+-- a piece came behind bytes that no line feed had ended: what is said of each line that ends in the piece went out, and the count grew by
+-- these lines
 pub record SaysAll (rest piece : List ℕ) (old new : Option (List ℕ)) (before count : ℕ) : Type 0 where
   pub texts : List (List ℕ)
   pub are : AreSaid (pieces_behind rest piece) texts
   pub took : Appends old new (all_of texts)
   pub counts : count ≡ before + length texts
 
--- what is said of the first of these lines went out, and of one more the first bytes, which aren't all of it
+-- a piece came behind bytes that no line feed had ended: what is said of the first lines that end in the piece went out whole, and the
+-- count grew by these; of what is said of one more the first bytes went out, which aren't all of it
 pub record SaysPart (rest piece : List ℕ) (old new : Option (List ℕ)) (before count bytes : ℕ) : Type 0 where
   pub seen : List (List ℕ)
   pub later : List (List ℕ)
@@ -73,14 +75,15 @@ pub record SaysPart (rest piece : List ℕ) (old new : Option (List ℕ)) (befor
   pub not_all : bytes < length line
   pub took : Appends old new (all_of whole ++ take bytes line)
 
--- what went out of the lines of a log, by the result; a line is what a line feed ends
+-- how much of what is said of the lines of a log went out, by the result: all of it, or at a failed write the front of it. Bytes behind
+-- the last line feed are no line
 abbrev pub ChecksLog : List ℕ → Option (List ℕ) → Option (List ℕ) → Result Served ServeFault → Type 0
 ChecksLog given old new (Ok served) = SaysAll [] given old new 0 served.replies
 ChecksLog given old new (Err (Read count)) = SaysAll [] given old new 0 count
 ChecksLog given old new (Err (Write count bytes)) = SaysPart [] given old new 0 count bytes
 ChecksLog given old new (Err (TooManyReads count)) = SaysAll [] given old new 0 count
 
--- a check of a log that may make so many reads took the ports from old to new, and gave this result
+-- a check of a log in at most `most` reads took the ports from old to new, and gave this result
 pub record IsCheckingLog (old new : Ports) (most : ℕ) (result : Result Served ServeFault) : Type 0 where
   -- the sink took what is said of the lines of the bytes that the source gave, or the part of it that the fault says
   pub checks : (given : List ℕ) × Consumes old.remaining new.remaining given × (length given ≤ 256 * (new.reads - old.reads)) × ChecksLog given old.taken new.taken result

@@ -43,7 +43,7 @@ pub record IsTarget (line : List ℕ) (target : Target) : Type 0 where
   pub line_is : line ≡ codes "target " ++ words
   pub prism : IsPrism words target
 
--- the line has the form of what it says
+-- the line says this serial number, this name or this target, in its form
 abbrev pub IsSceneLine : List ℕ → SceneLine → Type 0
 IsSceneLine line (says.Serial n) = IsSerial line n
 IsSceneLine line (says.Name bytes) = IsName line bytes
@@ -88,7 +88,7 @@ pub record IsFullScene (text : List ℕ) : Type 0 where
   pub are : IsText IsSceneLine text lines
   pub many : 32 < length (targets_of lines)
 
--- why no instrument came of a text
+-- why a text sets up no instrument: it is a scene of too many targets, or no text of such lines, or memory was refused
 abbrev pub SceneFault : List ℕ → RunFault → Type 0
 SceneFault text SceneFull = (length text ≤ TEXT_LIMIT) × IsFullScene text
 SceneFault text fault = TextFault IsSceneLine text fault

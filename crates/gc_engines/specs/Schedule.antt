@@ -6,7 +6,7 @@ use Rattle.gc_texts.specs.Procedures.{IsNumber, IsProcedure}
 use Rattle.gc_world.specs.declared.event.Event.{Event}
 use Rattle.gc_world.specs.declared.event.Event.TheVariants.{Send, UpDeliver, UpBytes, UpLose, UpRepeat, DownDeliver, DownBytes, DownLose, DownRepeat, Expire, RestartClient, RestartInstrument}
 
--- a word, and behind it a number of at most max
+-- a line is this word, and behind it this number of at most max
 pub record IsNumbered (word line : List ℕ) (n max : ℕ) : Type 0 where
   pub digits : List ℕ
   pub line_is : line ≡ word ++ digits

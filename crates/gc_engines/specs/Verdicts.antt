@@ -15,7 +15,7 @@ use Rattle.gc_catalogue.specs.declared.fault.CallFault.{CallFault}
 use Rattle.gc_engines.specs.declared.verdict.Verdict.{Verdict}
 use Rattle.gc_engines.specs.declared.verdict.Verdict.TheVariants as verdict
 
--- what is said of a request
+-- the verdict on a request
 pub data IsRequestVerdict (q : RequestFields) (v : Verdict) : Type 0 where
   -- its call reads
   reads : (call : Call) → IsCall q.rpc q.params call → v ≡ verdict.Request q.rpc → IsRequestVerdict q v
@@ -26,7 +26,7 @@ pub data IsRequestVerdict (q : RequestFields) (v : Verdict) : Type 0 where
 abbrev pub BeginsAsReply : List ℕ → Type 0
 BeginsAsReply line = (rest : List ℕ) × (line ≡ reply_signature ++ rest)
 
--- what is said of a line
+-- the verdict on a line
 pub data IsLineVerdict (line : List ℕ) (v : Verdict) : Type 0 where
   -- it reads as a request
   request : (q : RequestFields) → IsRequest line q → IsRequestVerdict q v → IsLineVerdict line v
@@ -34,10 +34,10 @@ pub data IsLineVerdict (line : List ℕ) (v : Verdict) : Type 0 where
   reply : (r : ReplyFields) → IsReply line r → v ≡ verdict.Reply r.rc_com r.rc → IsLineVerdict line v
   -- it begins as a reply, and the first field that is bad in a reply is named
   no_reply : (fault : LineFault) → BeginsAsReply line → FirstBadOfReply line fault → v ≡ verdict.Fault fault → IsLineVerdict line v
-  -- it doesn't, and the first field that is bad in a request is named
+  -- it begins otherwise, and the first field that is bad in a request is named
   no_request : (fault : LineFault) → ¬ BeginsAsReply line → FirstBadOfRequest line fault → v ≡ verdict.Fault fault → IsLineVerdict line v
 
--- what is said of a frame: nothing where no line feed has ended it, and a stream has no such frame
+-- the verdict on a frame: none where no line feed has ended it, and a stream has no such frame
 abbrev pub IsVerdict : Frame → Verdict → Type 0
 IsVerdict (Line line) v = IsLineVerdict line.items v
 IsVerdict Cleared v = v ≡ verdict.Cleared
@@ -51,7 +51,7 @@ AreVerdicts [] (v ∷ vs) = ⊥
 AreVerdicts (frame ∷ later) [] = ⊥
 AreVerdicts (frame ∷ later) (v ∷ vs) = IsVerdict frame v × AreVerdicts later vs
 
--- a verdict in words; a fault is told by its number
+-- a verdict as it is printed, a fault by its number
 abbrev pub verdict_text : Verdict → List ℕ
 verdict_text verdict.Cleared = codes "cleared"
 verdict_text verdict.Overlong = codes "overlong"

@@ -7,7 +7,7 @@ ghost use Rattle.gc_lines.specs.Answering.{ports_of};
 use crate::verdict::{push_decimal, push_verdict, verdict_of};
 use gc_lines::{Answers, Lent, Outgoing, ServeFault, Served, Sink, Source, answer_frames};
 
-// Judges frames, and counts them. The count stays at 2^64 - 1, which no run reaches: it makes less than 2^32 reads of 256 bytes.
+// Judges frames, and counts them. The count would stay at 2^64 - 1, which no run reaches in fewer than 2^32 reads of 256 bytes.
 #[derive(Drop)]
 struct Judge {
     frames: u64,
@@ -18,7 +18,7 @@ impl Answers for Judge {
 
     ghost answers = { JudgesFrame };
 
-    // Appends the frame's number and its verdict, where a line feed has ended it.
+    // Appends the line with the frame's number and its verdict, and returns true, where a line feed has ended the frame.
     fn answer(&mut self, frame: Lent<'_>, text: &mut Outgoing) -> bool {
         let Some(verdict) = verdict_of(frame) else {
             return false;
@@ -46,11 +46,12 @@ impl Answers for Judge {
 /// | any other line | `fault F`, F being its fault as a request, 1 to 4 |
 ///
 /// Bytes behind the last line feed get no line. `replies` in an answer counts the lines that went out whole. The lines of one
-/// read go out together, before the next read. It takes no memory. N can't pass 2^40, since each frame has a byte at least and
-/// there are less than 2^32 reads.
+/// read go out together, before the next read. It takes no memory. N can't pass 2^40, because each frame has at least one byte and
+/// there are fewer than 2^32 reads.
 ///
-/// [`Served`] comes exactly where the last read was the end. Over ports that hadn't failed before, 42 comes exactly where the
-/// source failed, 43 exactly where the sink did, and 44 exactly where all reads were answered and none was the end.
+/// It returns [`Served`] exactly where the last read was the end. Over ports that hadn't failed before, it fails with `Read` (42)
+/// exactly where the source failed, with `Write` (43) exactly where the sink did, and with `TooManyReads` (44) exactly where all
+/// reads were answered and none was the end.
 pub fn run_check<S: Source, K: Sink>(
     source: &mut S,
     sink: &mut K,

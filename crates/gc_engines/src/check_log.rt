@@ -19,7 +19,7 @@ const PIECE: usize = 256;
 // The bytes of the longest line of a log, without its line feed, and some to spare.
 const LOG_LINE_MOST: usize = 2100;
 
-// What is kept since the last line feed: the first bytes, and whether more came than a log line has.
+// What came since the last line feed: the first bytes, and whether more came than a log line has.
 #[derive(Drop)]
 struct Underway {
     bytes: ArrayVec<u8, LOG_LINE_MOST>,
@@ -37,7 +37,7 @@ impl Underway {
         }
     }
 
-    // Keeps one more byte.
+    // Keeps one more byte. Where there is no room for it, the byte is dropped, and the line is noted as too long.
     fn keep(&mut self, b: u8)
         ensures { (rest : List ℕ) → KeepsLine self.old rest → KeepsLine self.new (rest ++ b ∷ []) }
     {
@@ -62,8 +62,9 @@ impl Underway {
 /// Of a line that is none of a log it writes `no log line`. Bytes behind the last line feed get no line. `replies` in an answer
 /// counts the lines that went out whole. It takes no memory.
 ///
-/// [`Served`] comes exactly where the last read was the end. Over ports that hadn't failed before, 42 comes exactly where the
-/// source failed, 43 exactly where the sink did, and 44 exactly where all reads were answered and none was the end.
+/// It returns [`Served`] exactly where the last read was the end. Over ports that hadn't failed before, it fails with `Read` (42)
+/// exactly where the source failed, with `Write` (43) exactly where the sink did, and with `TooManyReads` (44) exactly where all
+/// reads were answered and none was the end.
 pub fn run_check_log<S: Source, K: Sink>(
     source: &mut S,
     sink: &mut K,
@@ -91,7 +92,8 @@ pub fn run_check_log<S: Source, K: Sink>(
     Err(ServeFault::TooManyReads { replies })
 }
 
-// Checks the lines that end in a piece.
+// Checks the lines that end in a piece, and adds to `replies` how many lines went out whole. `Err(n)`: the sink took the first
+// n bytes of one more line, which aren't all, and failed.
 fn check_piece<K: Sink>(
     kept: &mut Underway,
     replies: &mut u64,
@@ -113,7 +115,8 @@ fn check_piece<K: Sink>(
     Ok(())
 }
 
-// Takes one more byte, and writes what is said of the line that it ends.
+// Takes one more byte. Where it ends a line, a line with what is said of that one is written. `Err(n)`: the sink took the first
+// n bytes of the line written, which aren't all, and failed.
 fn check_byte<K: Sink>(
     kept: &mut Underway,
     replies: &mut u64,
@@ -140,7 +143,7 @@ fn check_byte<K: Sink>(
     Ok(())
 }
 
-// What is written of the line that is kept.
+// What is written of the line that is kept, with a line feed.
 fn said_of(kept: &Underway) -> Outgoing
     ensures { (rest : List ℕ) → KeepsLine kept.now rest → IsLogVerdict rest result.items }
 {
@@ -153,7 +156,7 @@ fn said_of(kept: &Underway) -> Outgoing
     }
 }
 
-// Writes that a line is no line of a log.
+// What is written of a line that is no line of a log.
 fn unread() -> Outgoing
     ensures { result.items ≡ codes "no log line\n" }
 {
@@ -162,7 +165,7 @@ fn unread() -> Outgoing
     text
 }
 
-// The verdict on a line of a log: its moment and mark, and what is said of its bytes.
+// What is written of a line of a log, with a line feed: its moment and mark, and what is said of its bytes.
 fn told(line: &LogLine<'_>) -> Outgoing
     requires { length line.now.moment.now ≤ 2100 }
     ensures room { length line.now.bytes.items ≤ 514 }

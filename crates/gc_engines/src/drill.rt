@@ -34,8 +34,8 @@ pub fn run_drill_on<S: Source, K: Sink>(
     requires least { 1 ≤ width }
     requires most { width ≤ WINDOW }
 
-    // What the bytes were that the source gave, and what the sink took of their schedule's output. Each read gave a byte at
-    // least, except a last one that was the end. Behind the end nothing was read.
+    // Which bytes the source gave, and how much of their schedule's output the sink took. Each read gave at least one byte,
+    // except a last one that was the end. Behind the end nothing was read.
     ensures drills { (given : List ℕ) × Consumes (S.remaining source.old) (S.remaining source.new) given
         × (S.reads source.new ≤ S.reads source.old + length given + end_reads (S.ended source.new))
         × DrillsOn instrument width given totals (K.taken sink.old) (K.taken sink.new) result }
@@ -47,7 +47,7 @@ pub fn run_drill_on<S: Source, K: Sink>(
     ensures whole { is_read_whole result ≡ true
         → IsAtEnd (S.remaining source.new) × (S.ended source.new ≡ true) × (S.reads source.old < S.reads source.new) }
 
-    // Memory is wanted only behind a read that was answered.
+    // `Memory` comes only behind a read that was answered.
     ensures memory { result ≡ Err RunFault.Memory → S.reads source.old < S.reads source.new }
 
     // `Read` exactly where the source failed, and `Output` exactly where the sink did.
@@ -108,7 +108,8 @@ pub fn run_drill<S: Source, K: Sink>(
     run_drill_width(alloc, source, sink, totals, WINDOW as u8)
 }
 
-// What is written for events that are played.
+// The text that is written of these events, played on the instrument. `Err`: memory was refused.
+#[inline(never)]
 fn output_of(
     alloc: Global,
     instrument: Instrument,

@@ -1,4 +1,4 @@
-//! One line of a schedule, read: the only place that knows the words of a schedule's events.
+//! The reading of one line of a schedule. The words of a schedule's events are known here alone.
 
 ghost use Rattle.std.specs.Prelude.{◌≡◌, ◌≢◌, ◌≤◌, ◌↔◌, IsTrue, ℕ, List, length, take, drop, ◌++◌, ◌∷◌, IfSome, IfNone, MatchOption, Option};
 ghost use Rattle.gc_texts.specs.Procedures.{IsNumber, IsProcedure};
@@ -13,14 +13,15 @@ use gc_world::Event;
 // The greatest place of a line under way, and the greatest count of bytes.
 const COUNT_MAX: u64 = 4294967295;
 
-// What stands behind a word, where the line begins with it.
+// What stands behind a word at the front of a line, as in gc_texts, where it is private. `None`: the line doesn't begin with
+// the word.
 pub(crate) fn behind<'a>(word: &[u8], line: &'a [u8]) -> Option<&'a [u8]>
     ensures { MatchOption result ((rest : List ℕ) → line.now ≡ word.now ++ rest → ⊥) (λ rest. line.now ≡ word.now ++ rest.now) }
 {
     line.strip_prefix(word)
 }
 
-// The number behind a word, where the line is that word and a number.
+// The number behind a word. `None`: the line isn't that word and a number of at most `max`.
 fn numbered(word: &[u8], line: &[u8], max: u64) -> Option<u64>
     ensures { MatchOption result ((n : ℕ) → IsNumbered word.now line.now n max → ⊥) (λ n. IsNumbered word.now line.now n max) }
 {
@@ -30,7 +31,7 @@ fn numbered(word: &[u8], line: &[u8], max: u64) -> Option<u64>
     }
 }
 
-// `T D RPC` or `T D RPC PARAMS`: a target, a deadline and a call.
+// Reads `T D RPC` or `T D RPC PARAMS`, and returns the target T, the call and the deadline D. `None`: the text has no such form.
 fn read_requested(text: &[u8]) -> Option<(u32, Call, u64)>
     ensures { MatchOption result ((t : ℕ) (call : Call) (d : ℕ) → IsRequested text.now t call d → ⊥) (λ r. IsRequested text.now r.0 r.1 r.2) }
 {
@@ -52,7 +53,8 @@ fn read_requested(text: &[u8]) -> Option<(u32, Call, u64)>
     }
 }
 
-// `send T D RPC` or `send T D RPC PARAMS`.
+// Reads `send T D RPC` or `send T D RPC PARAMS`, and returns the target T, the call and the deadline D. `None`: the line has no
+// such form.
 fn read_send(line: &[u8]) -> Option<(u32, Call, u64)>
     ensures { MatchOption result ((t : ℕ) (call : Call) (d : ℕ) → IsSend line.now t call d → ⊥) (λ r. IsSend line.now r.0 r.1 r.2) }
 {
@@ -69,7 +71,7 @@ fn is_plain(words: &[u8], line: &[u8]) -> bool
     line == words
 }
 
-// The events that are words and a number.
+// Reads an event that is words and a number. `None`: the line is no such event.
 fn read_numbered(line: &[u8]) -> Option<Event>
     ensures { MatchOption result ((event : Event) → IsCounted event → IsEvent line.now event → ⊥) (λ event. IsEvent line.now event) }
 {
@@ -97,7 +99,7 @@ fn read_numbered(line: &[u8]) -> Option<Event>
     None
 }
 
-// The events that are words alone.
+// Reads an event that is words alone. `None`: the line is no such event.
 fn read_words(line: &[u8]) -> Option<Event>
     ensures { MatchOption result ((event : Event) → IsWords event → IsEvent line.now event → ⊥) (λ event. IsEvent line.now event) }
 {
@@ -124,13 +126,13 @@ impl LineForm for EventForm {
 
     ghost form = { IsEvent };
 
-    // The event that a line is.
+    // The event that a line is, if it is one.
     fn read(line: &[u8]) -> Option<Event> {
         read_event(line)
     }
 }
 
-// Reads one line of a schedule; none where it has the form of no event.
+// Reads one line of a schedule. `None`: it has the form of no event.
 fn read_event(line: &[u8]) -> Option<Event>
     ensures { MatchOption result ((event : Event) → IsEvent line.now event → ⊥) (λ event. IsEvent line.now event) }
 {

@@ -9,7 +9,7 @@ use gc_world::Report;
 use itoa::Buffer;
 use std::alloc::{AllocError, Global};
 
-/// The lines of a report's settlements, and with `totals` the line of totals behind them.
+/// The lines of a report's settlements, and with `totals` the line of totals behind them. It fails where memory was refused.
 pub(crate) fn text_of(alloc: Global, report: &Report, totals: bool) -> Result<Vec<u8>, AllocError>
     ensures { IfOk result (λ text. text.items ≡ report_text report.now totals) }
 {
@@ -21,7 +21,7 @@ pub(crate) fn text_of(alloc: Global, report: &Report, totals: bool) -> Result<Ve
     Ok(text)
 }
 
-// Appends the line of totals.
+// Appends the line of totals: six counts, each behind its word. It fails where memory was refused.
 fn append_totals(text: &mut Vec<u8>, report: &Report) -> Result<(), AllocError>
     ensures { OnOk result (text.new.items ≡ text.old.items ++ totals_text (length report.now.sent) (length report.now.executed) (length report.now.made) (length report.now.settled) report.now.refused_sends report.now.idle_events) }
 {
@@ -34,7 +34,7 @@ fn append_totals(text: &mut Vec<u8>, report: &Report) -> Result<(), AllocError>
     text.extend_from_slice(b"\n")
 }
 
-// Appends a word and a number behind it.
+// Appends a word and a number behind it. It fails where memory was refused.
 fn append_number(text: &mut Vec<u8>, word: &[u8], n: usize) -> Result<(), AllocError>
     ensures { OnOk result (text.new.items ≡ text.old.items ++ (word.now ++ decimal n)) }
 {

@@ -25,7 +25,7 @@ const MOST_TARGETS: usize = 32;
 ///
 /// `InputTooLong` refuses a text of more than 65,536 bytes, before any line is looked at. `Schedule` names the first line that
 /// has no form, counted from 1. `SceneFull` refuses more than 32 targets, where each line has a form. `Memory` comes only where
-/// a growth was refused, behind a line that has a form.
+/// a growth was refused, at a line that has a form.
 pub fn read_scene(alloc: Global, text: &[u8]) -> Result<Instrument, RunFault>
     ensures found { IfOk result (λ instrument. IsScene text.now instrument) }
     ensures fits { IfOk result (λ instrument. IsFittingState instrument) }
@@ -43,7 +43,7 @@ pub fn read_scene(alloc: Global, text: &[u8]) -> Result<Instrument, RunFault>
     }
 }
 
-// The instrument that these lines set up.
+// The instrument that these lines set up. It fails where they have more than 32 targets.
 fn set_up(lines: &[SceneLine]) -> Result<Instrument, SceneFull>
     ensures opens { IfOk result (λ instrument. instrument ≡ scene_opening lines.now) }
     ensures fits { IfOk result (λ instrument. IsFittingState instrument) }
@@ -83,7 +83,7 @@ fn name_of(lines: &[SceneLine]) -> Text
     name
 }
 
-// The simulator's name.
+// The simulator's name, as gc_instrument, too, makes it for itself.
 fn simulator_name() -> Text
     ensures { result ≡ simulator_opening.name }
 {
@@ -93,7 +93,7 @@ fn simulator_name() -> Text
     }
 }
 
-// The targets of these lines, in order; none where they are more than an instrument has.
+// The targets of these lines, in order. `None`: they are more than an instrument has.
 fn targets_of(lines: &[SceneLine]) -> Option<ArrayVec<Target, MOST_TARGETS>>
     ensures { MatchOption result (32 < length (targets_of lines.now)) (λ targets. targets.items ≡ targets_of lines.now) }
 {

@@ -1,17 +1,15 @@
-//! One line of a scene, read: the only place that knows the words of a scene.
+//! The reading of one line of a scene. The words of a scene are known here alone.
 
 ghost use Rattle.std.specs.Prelude.{◌≡◌, ℕ, ℤ, List, MatchOption};
-ghost use Rattle.gc_values.specs.Spelling.{Spells};
 ghost use Rattle.gc_values.specs.Text.{IsText};
 ghost use Rattle.gc_values.specs.Whole.{NamesWhole, FitsLong};
-ghost use Rattle.gc_values.specs.declared.decimal.Decimal.{Decimal};
 ghost use Rattle.gc_instrument.specs.declared.target.Target.{Target};
 ghost use Rattle.gc_engines.specs.Scenes.{IsSerial, IsName, IsPrism, IsTarget, IsSceneLine};
 
 use crate::event::behind;
 use gc_instrument::Target;
-use gc_texts::{LineForm, cut_at};
-use gc_values::{Decimal, Text, read_long};
+use gc_texts::{LineForm, cut_at, read_double};
+use gc_values::{Text, read_long};
 
 /// What a line of a scene says of the instrument.
 #[derive(Clone, Copy, Debug, PartialEq, Eq)]
@@ -32,13 +30,13 @@ impl LineForm for SceneForm {
 
     ghost form = { IsSceneLine };
 
-    // What a line says of the instrument.
+    // What a line says of the instrument, if it has a form.
     fn read(line: &[u8]) -> Option<SceneLine> {
         read_scene_line(line)
     }
 }
 
-// Reads one line of a scene; none where it has no form.
+// Reads one line of a scene. `None`: it has no form.
 fn read_scene_line(line: &[u8]) -> Option<SceneLine>
     ensures { MatchOption result ((says : SceneLine) → IsSceneLine line.now says → ⊥) (λ says. IsSceneLine line.now says) }
 {
@@ -54,7 +52,7 @@ fn read_scene_line(line: &[u8]) -> Option<SceneLine>
     }
 }
 
-// `serial N`.
+// Reads `serial N`: a serial number. `None`: the line has no such form.
 fn read_serial(line: &[u8]) -> Option<i32>
     ensures { MatchOption result ((n : ℤ) → IsSerial line.now n → ⊥) (λ n. IsSerial line.now n) }
 {
@@ -64,7 +62,7 @@ fn read_serial(line: &[u8]) -> Option<i32>
     }
 }
 
-// A whole number of 32 bits.
+// Reads a whole number of 32 bits. `None`: the digits write none.
 fn long_of(digits: &[u8]) -> Option<i32>
     ensures { MatchOption result ((n : ℤ) → NamesWhole digits.now n → FitsLong n → ⊥) (λ n. NamesWhole digits.now n × FitsLong n) }
 {
@@ -74,7 +72,7 @@ fn long_of(digits: &[u8]) -> Option<i32>
     }
 }
 
-// `name TEXT`.
+// Reads `name TEXT`: an instrument's name. `None`: the line has no such form.
 fn read_name(line: &[u8]) -> Option<Text>
     ensures { MatchOption result ((bytes : List ℕ) → IsName line.now bytes → ⊥) (λ bytes. IsName line.now bytes) }
 {
@@ -84,7 +82,7 @@ fn read_name(line: &[u8]) -> Option<Text>
     }
 }
 
-// The bytes of a name.
+// The text that these bytes are. `None`: there are too many, or one may not stand in a text.
 fn text_of(bytes: &[u8]) -> Option<Text>
     ensures { MatchOption result (IsText bytes.now → ⊥) (λ name. (name ≡ bytes.now) × IsText bytes.now) }
 {
@@ -94,7 +92,7 @@ fn text_of(bytes: &[u8]) -> Option<Text>
     }
 }
 
-// `target HZ V DISTANCE`.
+// Reads `target HZ V DISTANCE`: a target. `None`: the line has no such form.
 fn read_target(line: &[u8]) -> Option<Target>
     ensures { MatchOption result ((target : Target) → IsTarget line.now target → ⊥) (λ target. IsTarget line.now target) }
 {
@@ -104,7 +102,7 @@ fn read_target(line: &[u8]) -> Option<Target>
     }
 }
 
-// `HZ V DISTANCE`.
+// Reads `HZ V DISTANCE`: where a target stands. `None`: the words have no such form.
 fn read_prism(words: &[u8]) -> Option<Target>
     ensures { MatchOption result ((target : Target) → IsPrism words.now target → ⊥) (λ target. IsPrism words.now target) }
 {
@@ -114,22 +112,12 @@ fn read_prism(words: &[u8]) -> Option<Target>
     let Some(distance) = distance else {
         return None
     };
-    let Some(hz) = decimal_of(hz) else {
+    let Some(hz) = read_double(hz) else {
         return None
     };
-    let Some(v) = decimal_of(v) else { return None };
-    match decimal_of(distance) {
+    let Some(v) = read_double(v) else { return None };
+    match read_double(distance) {
         Some(distance) => Some(Target { hz, v, distance }),
         None => None,
-    }
-}
-
-// A decimal, which is an angle or a distance.
-fn decimal_of(text: &[u8]) -> Option<Decimal>
-    ensures { MatchOption result ((d : Decimal) → Spells text.now d.digits d.scale → ⊥) (λ d. Spells text.now d.digits d.scale) }
-{
-    match Decimal::read(text) {
-        Ok(d) => Some(d),
-        Err(_) => None,
     }
 }

@@ -1,4 +1,4 @@
-//! What is said of each frame of a recording: the verdicts, how they are found and how they read.
+//! What is said of each frame of a recording: the verdicts, how they are found, and how they are printed.
 
 ghost use Rattle.std.specs.Prelude.{◌≡◌, ◌+◌, ◌≤◌, ◌++◌, length, MatchOption};
 ghost use Rattle.gc_lines.specs.Lent.{lent_seen};

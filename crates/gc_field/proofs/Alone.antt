@@ -13,31 +13,35 @@ use Rattle.gc_field.specs.Alone.{IsBookedUnexecuted, two_at_once}
 use Rattle.gc_field.specs.Made.{WasMadeOn, wire_behind}
 
 module _ (s : State) (line : List ℕ) where
-  -- the second request alone is under way
+  -- the world in which the second request alone is under way
   abbrev out : World ById State
   out = moved ends (by_ids 7 ends) (Sends 1 NullProc 9 ∷ Sends 2 NullProc 9 ∷ OnLine (Up_lose 0) ∷ []) (ids_open s)
 
-  -- the instrument did this with it
+  -- the world once the second request reached an instrument that did this with it
   abbrev reached : Handed State → World ById State
   reached h = on_wire out (replied out.wire 1 [] h)
 
-  -- what is kept for it
+  -- what the instrument does with a request whose reply it keeps: it sends the line again
   abbrev again : Handed State
   again = record { state = s; reply = line; executed = false }
 
+  -- the world once the reply of an instrument that did this came
   abbrev came : Handed State → World ById State
   came h = down_delivered (by_ids 7 ends) (reached h) (reached h).wire.down
 
+  -- the world once a line came in which this id is read
   abbrev heard_as : Option ℕ → World ById State
   heard_as o = with_settled (record (reached again).wire { down = [] }) (hears (reached again).client line o)
 
+  -- where the instrument keeps a reply with id 1, it sends that reply again for a request with that id
   handed_is : kept_line (kept_of s) (Some 1) ≡ Some line → ends.handed s 1 NullProc ≡ again
   handed_is k = keeper.again s 1 NullProc line k
 
+  -- the line that is kept has id 1
   heard_is : IsFittingState s → kept_line (kept_of s) (Some 1) ≡ Some line → ends.heard line ≡ Some 1
   heard_is fits k = ap (λ (h : Handed State). ends.heard h.reply) (sym (handed_is k)) ∙ exchange.reads s 1 NullProc fits (lit< tt)
 
-  -- only one request reaches it
+  -- only one request reaches the instrument by these moves
   only : (front later : List (Move State)) → two_at_once line ≡ front ++ OnLine Up_deliver ∷ later → front ≡ Sends 1 NullProc 9 ∷ Sends 2 NullProc 9 ∷ OnLine (Up_lose 0) ∷ []
   only [] later e = let never : ⊥ = cc in absurd never
   only (a ∷ []) later e = let never : ⊥ = cc in absurd never
@@ -47,11 +51,12 @@ module _ (s : State) (line : List ℕ) where
   only (a ∷ b ∷ c ∷ d ∷ f ∷ []) later e = let never : ⊥ = cc in absurd never
   only (a ∷ b ∷ c ∷ d ∷ f ∷ g ∷ front) later e = let never : ⊥ = cc in absurd never
 
+  -- the id of the first of these requests
   abbrev first_id : List (Numbered Request) → ℕ
   first_id [] = 0
   first_id (x ∷ rest) = x.line.id
 
-  -- and that isn't executed
+  -- the line wasn't made on executing the second request
   unmade : kept_line (kept_of s) (Some 1) ≡ Some line → WasMadeOn WINDOW ends s (two_at_once line) 1 NullProc line → ⊥
   unmade k h =
       let here = only h.front h.later h.split in
@@ -62,6 +67,7 @@ module _ (s : State) (line : List ℕ) where
       sym (ap (λ (h : Handed State). h.executed) (handed_is k)) ∙ subst (λ i. (ends.handed s i NullProc).executed ≡ true) (sym id) executed in
       cc
 
+  -- the reply that is kept is booked for the second request
   pub booked : IsFittingState s → kept_line (kept_of s) (Some 1) ≡ Some line → IsBookedUnexecuted s line
   booked fits k =
       record {

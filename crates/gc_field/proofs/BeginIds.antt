@@ -11,8 +11,8 @@ pub record Sent : Type 0 where
   pub id : ℕ
   pub old : Bool
 
--- all there is: the requests and the replies under way, the front of each queue first; the id of the reply that the instrument keeps; and
--- of the word what isn't answered yet (nothing: it has begun)
+-- the state of a beginning: the requests and the replies under way, the front of each queue first; the id of the reply that the
+-- instrument keeps; and the ids of the word that aren't answered. If none is left, it has begun
 pub record Model : Type 0 where
   pub up : List Sent
   pub down : List Sent
@@ -37,28 +37,31 @@ pub data Move : Type 0 where
   -- the instrument starts anew, whatever is under way
   Anew : Move
 
--- what is left of the word once a reply with this id came: its first id is answered by that, and any other reply is dropped
+-- the ids that are left of the word once a reply with this id came: the reply answers the first of them if it has that id, and else is
+-- dropped
 abbrev pub heard : List ℕ → ℕ → List ℕ
 heard [] id = []
 heard (asked ∷ rest) id = left_by_one (nat_eq id asked) asked rest
 
--- the beginner asks, while it has not begun
+-- the state once the beginner asked, while ids are left
 abbrev pub asks : Model → List ℕ → Model
 asks s [] = s
 asks s (asked ∷ rest) = record s { up = s.up ++ record { id = asked; old = false } ∷ [] }
 
--- the instrument replies with the id of the request: by the reply that it keeps, if that has this id, and else it executes the request, and
--- keeps that reply. So what it keeps has this id from now on, and what it sends is for this request
+-- the state once the request in front reached the instrument, which replies with the request's id: by the reply that it keeps, if that
+-- has this id, and else by executing the request, whose reply it then keeps. So what it keeps has this id from now on, and what it
+-- sends is for this request
 abbrev pub reaches : Model → Bool → List Sent → Model
 reaches s replies [] = s
 reaches s true (x ∷ rest) = record s { up = rest; down = s.down ++ x ∷ []; kept = Some x.id }
 reaches s false (x ∷ rest) = record s { up = rest; kept = Some x.id }
 
+-- the state once the reply in front came
 abbrev pub comes : Model → List Sent → Model
 comes s [] = s
 comes s (x ∷ rest) = record s { down = rest; left = heard s.left x.id }
 
--- one move; one that isn't possible changes nothing
+-- the state behind a move; one that isn't possible changes nothing
 abbrev pub moves : Model → Move → Model
 moves s Ask = asks s s.left
 moves s (Reach replies) = reaches s replies s.up
@@ -69,23 +72,24 @@ moves s (Down_lose k) = record s { down = without k s.down }
 moves s (Down_repeat k) = record s { down = doubled k s.down }
 moves s Anew = record s { kept = None }
 
+-- the state behind these moves, in order
 abbrev pub moved : List Move → Model → Model
 moved [] s = s
 moved (m ∷ ms) s = moved ms (moves s m)
 
--- each element and each one behind it have it
+-- each element and each one behind it have the relation
 abbrev pub Pairs : {A : Type 0} → (A → A → Type 0) → List A → Type 0
 Pairs R [] = Unit {0}
 Pairs R (x ∷ xs) = Each (R x) xs × Pairs R xs
 
--- no id stands twice
+-- no id is in the list twice
 abbrev pub AllDiffer : List ℕ → Type 0
 AllDiffer ids = Pairs (λ i j. i ≡ j → ⊥) ids
 
 abbrev pub ids_of : List Sent → List ℕ
 ids_of xs = map (λ x. x.id) xs
 
--- the last id of a word, or this one
+-- the last id of a word; where the word is empty, this one
 abbrev pub last : ℕ → List ℕ → ℕ
 last z [] = z
 last z (i ∷ ids) = last i ids
@@ -114,9 +118,10 @@ abbrev pub upward : ℕ → ℕ → List ℕ
 upward i zero = []
 upward i (suc n) = i % 8 ∷ upward (i + 1) n
 
--- all that is under way is from before now
+-- these requests or replies, all as from before now
 abbrev pub aged : List Sent → List Sent
 aged xs = map (λ x. record { id = x.id; old = true }) xs
 
+-- the state in which a beginning with this word begins over what is under way
 abbrev pub begun_anew : List ℕ → Model → Model
 begun_anew word s = record { up = aged s.up; down = aged s.down; kept = s.kept; left = word }

@@ -40,45 +40,55 @@ each_to_map P f (x ∷ xs) h = (h.0, each_to_map P f xs h.1)
 
 -- Ids: a line without one has a number that is none.
 
+-- this id, or 8 for none, which no request has
 abbrev id_or : Option ℕ → ℕ
 id_or None = 8
 id_or (Some id) = id
 
+-- all these ids are below 8
 abbrev IsSmall : List ℕ → Type 0
 IsSmall word = Each (λ i. i < 8) word
 
+-- the id of a request under way, and whether it is old
 abbrev mark_up : Aged Request → Sent
 mark_up x = record { id = x.line.id; old = x.old }
 
+-- the id of a reply under way, and whether it is old
 abbrev mark_down : Aged (List ℕ) → Sent
 mark_down x = record { id = id_or (rule.heard x.line); old = x.old }
 
 word_small : IsSmall the_word
 word_small = (omega arith, (omega arith, (omega arith, (omega arith, (omega arith, (omega arith, (omega arith, (omega arith, tt))))))))
 
+-- what is left of small ids is small, whether the first was answered
 small_if : (b : Bool) (asked : ℕ) (rest : List ℕ) → IsSmall (asked ∷ rest) → IsSmall (left_by_one b asked rest)
 small_if true asked rest h = h.1
 small_if false asked rest h = h
 
+-- what a line leaves of small ids is small
 small_left : (left : List ℕ) (o : Option ℕ) → IsSmall left → IsSmall (left_by left o)
 small_left [] o h = tt
 small_left (asked ∷ rest) o h = small_if (is_answered (asked ∷ rest) o) asked rest h
 
+-- what a line leaves of ids is what its id leaves
 same_left : (left : List ℕ) (o : Option ℕ) → IsSmall left → ids.heard left (id_or o) ≡ left_by left o
 same_left [] o h = refl
 same_left (asked ∷ rest) (Some id) h = refl
 same_left (asked ∷ rest) None h = ap (λ b. left_by_one b asked rest) (ne_eqb 8 asked (λ e. omega (arith, e, h.0)))
 
+-- a line without an id leaves all ids
 none_left : (left : List ℕ) → left_by left None ≡ left
 none_left [] = refl
 none_left (asked ∷ rest) = refl
 
 -- One standing shows another.
 
+-- a request of this beginning is a null procedure, and its id is below 8
 abbrev IsKnown : Aged Request → Type 0
 IsKnown x = (x.line.id < 8) × (x.old ≡ false → x.line.call ≡ NullProc)
 
 module _ {State : Type 0} (ends : Ends State) (Good : State → Type 0) (kept : State → Option KeptReply) (is : IsAnInstrument ends Good kept) where
+  -- a beginning over lines is as this one over ids
   pub record Shows (s : Model State) (p : ids.Model) : Type 0 where
     pub up : p.up ≡ map mark_up s.up
     pub down : p.down ≡ map mark_down s.down
@@ -88,6 +98,7 @@ module _ {State : Type 0} (ends : Ends State) (Good : State → Type 0) (kept : 
     pub known : Each IsKnown s.up
     pub small : IsSmall s.left
 
+  -- `Shows` lasts where the beginner asks
   shows_asks : (s : Model State) (p : ids.Model) (left : List ℕ) → s.left ≡ left → Shows s p → Shows (asks s left) (ids.asks p left)
   shows_asks s p [] e g = g
   shows_asks s p (asked ∷ rest) e g =
@@ -102,6 +113,7 @@ module _ {State : Type 0} (ends : Ends State) (Good : State → Type 0) (kept : 
         small = g.small;
       }
 
+  -- `Shows` lasts where a reply comes
   shows_comes : (s : Model State) (p : ids.Model) (q : List (Aged (List ℕ))) → s.down ≡ q → Shows s p → Shows (comes s q) (ids.comes p (map mark_down q))
   shows_comes s p [] e g = g
   shows_comes s p (x ∷ rest) e g = record {
@@ -114,6 +126,7 @@ module _ {State : Type 0} (ends : Ends State) (Good : State → Type 0) (kept : 
     small = small_left s.left (rule.heard x.line) g.small;
   }
 
+  -- `Shows` lasts where a line without an id comes
   shows_foreign : (s : Model State) (p : ids.Model) (line : List ℕ) → rule.heard line ≡ None → Shows s p → Shows (record s { left = left_by s.left (rule.heard line) }) p
   shows_foreign s p line e g = record {
     up = g.up;
@@ -125,11 +138,12 @@ module _ {State : Type 0} (ends : Ends State) (Good : State → Type 0) (kept : 
     small = small_left s.left (rule.heard line) g.small;
   }
 
-  -- what is kept behind a request has its id
+  -- what is kept behind a request has the request's id
   kept_behind : (k o : Option KeptReply) (id : ℕ) (line : List ℕ) (r : KeptReply) → (k ≡ None) ⊎ (k ≡ Some (record { id = id; line = line })) → k ≡ Some r → Some id ≡ Some r.id
   kept_behind k o id line r (inl none) e = absurd (none_is_not r (sym none ∙ e))
   kept_behind k o id line r (inr some) e = ap (λ (x : KeptReply). Some x.id) (some_is (record { id = id; line = line }) r (sym some ∙ e))
 
+  -- `Shows` lasts where a request reaches the instrument
   shows_reaches : (s : Model State) (p : ids.Model) (q : List (Aged Request)) → s.up ≡ q → Shows s p → Shows (reaches ends s q) (ids.reaches p true (map mark_up q))
   shows_reaches s p [] e g = g
   shows_reaches s p (x ∷ rest) e g =
@@ -150,25 +164,30 @@ module _ {State : Type 0} (ends : Ends State) (Good : State → Type 0) (kept : 
         small = g.small;
       }
 
+  -- `Shows` with other requests under way
   shows_up : (s : Model State) (p : ids.Model) (up : List (Aged Request)) (ups : List Sent) → ups ≡ map mark_up up → Each IsKnown up → Shows s p → Shows (record s { up = up }) (record p { up = ups })
   shows_up s p up ups e known g = record { up = e; down = g.down; left = g.left; keeps = g.keeps; good = g.good; known = known; small = g.small }
 
+  -- `Shows` with other replies under way
   shows_down : (s : Model State) (p : ids.Model) (down : List (Aged (List ℕ))) (downs : List Sent) → downs ≡ map mark_down down → Shows s p
       → Shows (record s { down = down }) (record p { down = downs })
   shows_down s p down downs e g = record { up = g.up; down = e; left = g.left; keeps = g.keeps; good = g.good; known = g.known; small = g.small }
 
+  -- what is still kept has the id that it had
   still_kept : (k after : Option KeptReply) (o : Option ℕ) → (after ≡ None) ⊎ (after ≡ k) → ((r : KeptReply) → k ≡ Some r → o ≡ Some r.id) → (r : KeptReply) → after ≡ Some r → o ≡ Some r.id
   still_kept k after o (inl none) f r e = absurd (none_is_not r (sym none ∙ e))
   still_kept k after o (inr same) f r e = f r (sym same ∙ e)
 
+  -- `Shows` with another state of the instrument that keeps the same or nothing
   shows_state : (s : Model State) (p : ids.Model) (state : State) → Good state → (kept state ≡ None) ⊎ (kept state ≡ kept s.state) → Shows s p → Shows (record s { state = state }) p
   shows_state s p state good same g =
       record { up = g.up; down = g.down; left = g.left; keeps = still_kept (kept s.state) (kept state) p.kept same g.keeps; good = good; known = g.known; small = g.small }
 
-  -- any turns are some moves over the ids
+  -- a beginning over lines is as one over ids behind some moves of it
   abbrev IsShown : Model State → ids.Model → Type 0
   IsShown s p = (ms : List ids.Move) × Shows s (moved ms p)
 
+  -- any turns are some moves over the ids
   pub shown : (ts : List (Turn State)) (s : Model State) (p : ids.Model) → AreTurns ends Good kept ts s → Shows s p → IsShown (turned ends ts s) p
   shown [] s p h g = ([], g)
   shown (Asks ∷ ts) s p h g =
@@ -202,6 +221,7 @@ module _ {State : Type 0} (ends : Ends State) (Good : State → Type 0) (kept : 
 
   -- Its start.
 
+  -- the id of the reply that is kept
   abbrev kept_id : Option KeptReply → Option ℕ
   kept_id None = None
   kept_id (Some k) = Some k.id
@@ -215,10 +235,12 @@ module _ {State : Type 0} (ends : Ends State) (Good : State → Type 0) (kept : 
     left = the_word;
   }
 
+  -- the marks of old requests are those of the requests as old ones
   up_marks : (xs : List Request) → aged (map (λ x. record { id = x.id; old = true }) xs) ≡ map mark_up (map (λ x. record { old = true; line = x }) xs)
   up_marks [] = refl
   up_marks (x ∷ xs) = ap (λ l. record { id = x.id; old = true } ∷ l) (up_marks xs)
 
+  -- the marks of old replies are those of the replies as old ones
   down_marks : (xs : List (List ℕ)) → aged (map (λ x. record { id = id_or (rule.heard x); old = true }) xs) ≡ map mark_down (map (λ x. record { old = true; line = x }) xs)
   down_marks [] = refl
   down_marks (x ∷ xs) = ap (λ l. record { id = id_or (rule.heard x); old = true } ∷ l) (down_marks xs)
@@ -226,10 +248,12 @@ module _ {State : Type 0} (ends : Ends State) (Good : State → Type 0) (kept : 
   true_is_not : true ≡ false → ⊥
   true_is_not e = cc
 
+  -- what is from before is known
   known_old : (xs : List Request) → Each (λ x. x.id < 8) xs → Each IsKnown (map (λ x. record { old = true; line = x }) xs)
   known_old [] h = tt
   known_old (x ∷ xs) h = ((h.0, (λ o. absurd (true_is_not o))), known_old xs h.1)
 
+  -- `Shows` holds at the start of a beginning
   shows_begins : (u : UnderWay State) → AreLines Good u → Shows (begins u) (begun_anew the_word (marks u))
   shows_begins u h = record {
     up = up_marks u.up;
@@ -243,11 +267,12 @@ module _ {State : Type 0} (ends : Ends State) (Good : State → Type 0) (kept : 
 
   -- Its words: a line without an id makes no difference.
 
+  -- the ids of the marks of requests are the requests' ids
   ids_up : (xs : List Request) → ids_of (map (λ x. record { id = x.id; old = true }) xs) ≡ map (λ x. x.id) xs
   ids_up [] = refl
   ids_up (x ∷ xs) = ap (λ l. x.id ∷ l) (ids_up xs)
 
-  -- among the ids of lines, and any behind them
+  -- a word that is in the ids of lines, the first of which has this id or none, is in the ids that these lines have
   of_lines : (o : Option ℕ) (word ids : List ℕ) (others : List ℕ) → IsSmall word → ((w : List ℕ) → IsSmall w → IsSubsequence w ids → IsSubsequence w others)
       → IsSubsequence word (id_or o ∷ ids) → IsSubsequence word (cons_option o others)
   of_lines o [] ids others s f h = tt
@@ -256,12 +281,14 @@ module _ {State : Type 0} (ends : Ends State) (Good : State → Type 0) (kept : 
   of_lines None (w ∷ word) ids others s f (inl h) = absurd (let low = s.0 in omega (arith, h.0, low))
   of_lines None (w ∷ word) ids others s f (inr h) = f (w ∷ word) s h
 
+  -- a word that is in the ids that these lines have is in the ids of the lines, each its own or none
   to_lines : (o : Option ℕ) (word ids others : List ℕ) → ((w : List ℕ) → IsSubsequence w others → IsSubsequence w ids) → IsSubsequence word (cons_option o others) → IsSubsequence word (id_or o ∷ ids)
   to_lines o [] ids others f h = tt
   to_lines (Some id) (w ∷ word) ids others f (inl h) = inl (h.0, f word h.1)
   to_lines (Some id) (w ∷ word) ids others f (inr h) = inr (f (w ∷ word) h)
   to_lines None (w ∷ word) ids others f h = inr (f (w ∷ word) h)
 
+  -- a word that is in the ids of all that is under way is in the ids that the lines have
   marked_lines : (down : List (List ℕ)) (word up ups : List ℕ) → up ≡ ups → IsSmall word
       → IsSubsequence word (ids_of (map (λ x. record { id = id_or (rule.heard x); old = true }) down) ++ up)
       → IsSubsequence word (filter_map rule.heard down ++ ups)
@@ -275,6 +302,7 @@ module _ {State : Type 0} (ends : Ends State) (Good : State → Type 0) (kept : 
       split None word h = h
       split (Some id) word h = h
 
+  -- a word that is in the ids that the lines have is in the ids of all that is under way
   lines_marked : (down : List (Aged (List ℕ))) (word up ups : List ℕ) → up ≡ ups
       → IsSubsequence word (filter_map rule.heard (map (λ x. x.line) down) ++ up) → IsSubsequence word (ids_of (map mark_down down) ++ ups)
   lines_marked [] word up ups e h = subst (IsSubsequence word) e h
@@ -287,13 +315,16 @@ module _ {State : Type 0} (ends : Ends State) (Good : State → Type 0) (kept : 
       split None word h = h
       split (Some id) word h = h
 
+  -- a word that isn't in the ids under way isn't in those of the marks
   absent_marks : (u : UnderWay State) (word : List ℕ) → IsSmall word → (IsSubsequence word (ids_under_way u) → ⊥) → IsSubsequence word (under_way (marks u)) → ⊥
   absent_marks u word s none h = none (marked_lines u.down word (ids_of (marks u).up) (map (λ x. x.id) u.up) (ids_up u.up) s h)
 
+  -- the ids of the requests that a beginning leaves are those of their marks
   up_left : (xs : List (Aged Request)) → map (λ x. x.id) (map (λ x. x.line) xs) ≡ ids_of (map mark_up xs)
   up_left [] = refl
   up_left (x ∷ xs) = ap (λ l. x.line.id ∷ l) (up_left xs)
 
+  -- a word that is in what a beginning leaves is in what the beginning over ids leaves
   left_marks : (s : Model State) (p : ids.Model) (word : List ℕ) → Shows s p → IsSubsequence word (ids_under_way (leaves s)) → IsSubsequence word (under_way p)
   left_marks s p word g h =
       subst (λ l. IsSubsequence word (ids_of l ++ ids_of p.up)) (sym g.down)
@@ -302,21 +333,26 @@ module _ {State : Type 0} (ends : Ends State) (Good : State → Type 0) (kept : 
 
   -- Its end.
 
+  -- a line with the mark 7 has id 7
   heard_seven : (o : Option ℕ) → id_or o ≡ 7 → o ≡ Some 7
   heard_seven None e = absurd (omega (arith, e))
   heard_seven (Some id) e = ap Some e
 
+  -- a null procedure with id 7 is the eighth
   request_is : (x : Request) → x.id ≡ 7 → x.call ≡ NullProc → x ≡ eighth
   request_is x e f = ap₂ (λ (i : ℕ) (c : Call). record { id = i; call = c }) e f
 
+  -- the requests under way are copies of the eighth null procedure, if their marks say so
   clean_up : (xs : List (Aged Request)) → Each IsKnown xs → Each (λ x. (x.old ≡ false) × (x.id ≡ 7)) (map mark_up xs) → Each (λ x. (x.old ≡ false) × (x.line ≡ eighth)) xs
   clean_up [] k h = tt
   clean_up (x ∷ xs) k h = ((h.0.0, request_is x.line h.0.1 (k.0.1 h.0.0)), clean_up xs k.1 h.1)
 
+  -- the replies under way are replies to the eighth null procedure, if their marks say so
   clean_down : (xs : List (Aged (List ℕ))) → Each (λ x. (x.old ≡ false) × (x.id ≡ 7)) (map mark_down xs) → Each (λ x. (x.old ≡ false) × (rule.heard x.line ≡ Some 7)) xs
   clean_down [] h = tt
   clean_down (x ∷ xs) h = ((h.0.0, heard_seven (rule.heard x.line) h.0.1), clean_down xs h.1)
 
+  -- a beginning that is clean over ids is clean over lines
   clean : (s : Model State) (p : ids.Model) → Shows s p → IsClean 7 p → HasBegunCleanly kept s
   clean s p g c = record {
     up = clean_up s.up g.known (subst (Each (λ x. (x.old ≡ false) × (x.id ≡ 7))) g.up c.up);
@@ -324,6 +360,7 @@ module _ {State : Type 0} (ends : Ends State) (Good : State → Type 0) (kept : 
     keeps = λ k e. c.kept k.id (g.keeps k e);
   }
 
+  -- once a beginning has begun, it has begun cleanly
   pub begins_cleanly : (u : UnderWay State) (ts : List (Turn State)) → AreLines Good u → AreTurns ends Good kept ts (begins u)
       → (IsSubsequence the_word (ids_under_way u) → ⊥) → (turned ends ts (begins u)).left ≡ []
       → HasBegunCleanly kept (turned ends ts (begins u))
@@ -332,7 +369,7 @@ module _ {State : Type 0} (ends : Ends State) (Good : State → Type 0) (kept : 
       clean (turned ends ts (begins u)) (moved r.0 (begun_anew the_word (marks u))) r.1
       (the_word_begins_cleanly (begun_anew the_word (marks u)) r.0 (begins_anew (marks u) (absent_marks u the_word word_small none)) (r.1.left ∙ done))
 
-  -- what a beginning that is killed leaves are lines, and no longer front of the word but by one id
+  -- what a beginning that is killed leaves are lines
   pub left_lines : (u : UnderWay State) (ts : List (Turn State)) → AreLines Good u → AreTurns ends Good kept ts (begins u) → AreLines Good (leaves (turned ends ts (begins u)))
   left_lines u ts lines possible =
       let r = shown ts (begins u) (begun_anew the_word (marks u)) possible (shows_begins u lines) in
@@ -342,6 +379,7 @@ module _ {State : Type 0} (ends : Ends State) (Good : State → Type 0) (kept : 
       only [] h = tt
       only (x ∷ xs) h = (h.0.0, only xs h.1)
 
+  -- a front of the word that wasn't under way before a beginning isn't, with one id more, behind it
   pub left_absent : (u : UnderWay State) (ts : List (Turn State)) (a b : ℕ) (more : List ℕ) (c : ℕ) (tail : List ℕ) → the_word ≡ a ∷ b ∷ (more ++ c ∷ tail)
       → AreLines Good u → AreTurns ends Good kept ts (begins u)
       → (IsSubsequence (a ∷ b ∷ more) (ids_under_way u) → ⊥) → IsSubsequence (a ∷ b ∷ (more ++ c ∷ [])) (ids_under_way (leaves (turned ends ts (begins u)))) → ⊥

@@ -13,26 +13,27 @@ use Rattle.gc_field.proofs.BeginSound.{sound_at_start}
 
 -- The invariant of one beginning.
 
--- while only old ones answered: what answered stood at the start (in these ids) in front of what is left of the old ones
+-- while only old replies answered: the ids that they answered, and behind them any that are in what is left of the old ones, were in
+-- that order at the start
 pub record IsHearing (first done : List ℕ) (line : List Sent) : Type 0 where
   pub from : Has (olds line) first
   pub heard : (word : List ℕ) → AllDiffer (done ++ word) → IsSubsequence word (olds line) → IsSubsequence (done ++ word) first
 
--- the id that is asked for now
+-- this is the first id that is left
 abbrev pub IsAsked : ℕ → List ℕ → Type 0
 IsAsked i [] = ⊥
 IsAsked i (asked ∷ later) = i ≡ asked
 
--- this id, or the one that is asked for now
+-- this id is `p`, or the first that is left
 abbrev pub IsNear : ℕ → List ℕ → ℕ → Type 0
 IsNear p left i = (i ≡ p) ⊎ IsAsked i left
 
--- since an own one answered: all are own, and have two ids at most
+-- once an own reply answered: all that is under way is of this beginning, and has two ids at most
 abbrev pub IsOver : List ℕ → List Sent → Type 0
 IsOver left line = (p : ℕ) × Each (λ x. IsOwn x × IsNear p left x.id) line
 
--- runs that were killed while they began: which ids of the word they have heard, and whether what is in flight still has to
--- answer, or is over
+-- a beginning that may be killed: which ids of the word it has heard, and whether what is in flight still has old ones that may answer,
+-- or is over
 pub record IsTrying (z : ℕ) (word first left : List ℕ) (line : List Sent) : Type 0 where
   pub sound : IsLine z left line
   pub done : List ℕ
@@ -41,6 +42,7 @@ pub record IsTrying (z : ℕ) (word first left : List ℕ) (line : List Sent) : 
 
 -- Old ones are lost or repeated.
 
+-- `IsHearing` lasts where fewer old ones are in flight
 hearing_has : (first done : List ℕ) (line other : List Sent) → Has (olds other) (olds line) → IsHearing first done line → IsHearing first done other
 hearing_has first done line other has h =
     record {
@@ -49,6 +51,7 @@ hearing_has first done line other has h =
     }
 
 module _ (z : ℕ) (word first : List ℕ) where
+  -- `IsTrying` lasts where a line is lost
   trying_lost : (left : List ℕ) (k : ℕ) (line : List Sent) → IsTrying z word first left line → IsTrying z word first left (without k line)
   trying_lost left k line h =
       record {
@@ -62,6 +65,7 @@ module _ (z : ℕ) (word first : List ℕ) where
             ];
       }
 
+  -- `IsTrying` lasts where a line comes twice
   trying_twice : (left : List ℕ) (k : ℕ) (line : List Sent) → IsTrying z word first left line → IsTrying z word first left (doubled k line)
   trying_twice left k line h =
       record {
@@ -75,6 +79,7 @@ module _ (z : ℕ) (word first : List ℕ) where
             ];
       }
 
+  -- `IsTrying` lasts where the beginner asks
   trying_asked : (id : ℕ) (later : List ℕ) (line : List Sent) → IsTrying z word first (id ∷ later) line → IsTrying z word first (id ∷ later) (line ++ record { id = id; old = false } ∷ [])
   trying_asked id later line h =
       let new : Sent = record { id = id; old = false } in
@@ -91,10 +96,12 @@ module _ (z : ℕ) (word first : List ℕ) where
 
   -- one comes, and is the answer
 
+  -- a word that is in ids is, behind an id, in these ids behind an old one with that id
   old_stands : (b : Bool) (i id : ℕ) (ids v : List ℕ) → b ≡ true → i ≡ id → IsSubsequence v ids → IsSubsequence (id ∷ v) (old_if b i ids)
   old_stands true i id ids v o e s = inl (sym e, s)
   old_stands false i id ids v o e s = absurd (never o)
 
+  -- `IsHearing` lasts where an old reply answers
   old_answers : (id : ℕ) (done : List ℕ) (x : Sent) (rest : List Sent) → IsOld x → x.id ≡ id → IsHearing first done (x ∷ rest) → IsHearing first (done ++ id ∷ []) rest
   old_answers id done x rest o e h =
       record {
@@ -103,16 +110,19 @@ module _ (z : ℕ) (word first : List ℕ) where
             (h.heard (id ∷ v) (subst AllDiffer (goes_over done id v) d) (old_stands x.old x.id id (olds rest) v o e s));
       }
 
+  -- where an own reply answers, the beginning is `IsOver`
   own_answers : (id : ℕ) (later : List ℕ) (x : Sent) (rest : List Sent) → IsLine z (id ∷ later) (x ∷ rest) → IsOwn x → x.id ≡ id → IsOver later rest
   own_answers id later x rest h o e =
       (id, each_both (IsBefore x) (KeepsTheId id x) (λ y. IsOwn y × IsNear id later y.id) (λ y f g. (f o, inl (g o e))) rest h.ordered.0 h.own.1.0)
 
+  -- where a reply answers, old or own, `IsTrying` goes on
   phase_answered : (id : ℕ) (later done : List ℕ) (x : Sent) (rest : List Sent) (b : Bool) → x.old ≡ b → IsLine z (id ∷ later) (x ∷ rest) → x.id ≡ id
       → IsHearing first done (x ∷ rest) ⊎ IsOver (id ∷ later) (x ∷ rest) → IsHearing first (done ++ id ∷ []) rest ⊎ IsOver later rest
   phase_answered id later done x rest false o h e p = inr (own_answers id later x rest h o e)
   phase_answered id later done x rest true o h e (inl g) = inl (old_answers id done x rest o e g)
   phase_answered id later done x rest true o h e (inr g) = absurd (never (sym g.1.0.0 ∙ o))
 
+  -- `IsTrying` lasts where a reply comes
   trying_came : (left : List ℕ) (x : Sent) (rest : List Sent) → IsTrying z word first left (x ∷ rest) → IsTrying z word first (heard left x.id) rest
   trying_came [] x rest h = trying_lost [] zero (x ∷ rest) h
   trying_came (id ∷ later) x rest h = chosen (nat_eq x.id id) refl (line_came z (id ∷ later) x rest h.sound) where
@@ -126,12 +136,13 @@ module _ (z : ℕ) (word first : List ℕ) where
         }
     chosen false e line = trying_lost (id ∷ later) zero (x ∷ rest) h
 
+  -- `IsTrying` lasts over all that happens to the line
   trying_lasts : Lasts (IsTrying z word first)
   trying_lasts = record { lost = trying_lost; twice = trying_twice; asked = trying_asked; came = trying_came }
 
 -- What can stand in the line meanwhile.
 
--- of two splits of a word, the front of one lies within that of the other, or just behind its next id
+-- of two splits of a word, the front of one lies within that of the other, or goes on behind it
 fronts : (done left front : List ℕ) (c : ℕ) (tail : List ℕ) → done ++ left ≡ front ++ c ∷ tail
     → ((more : List ℕ) × (done ≡ front ++ more)) ⊎ ((asked : ℕ) × (more : List ℕ) × (left ≡ asked ∷ (more ++ c ∷ tail)))
 fronts [] left [] c tail e = inl ([], refl)
@@ -148,14 +159,16 @@ fronts (d ∷ done) left (a ∷ front) c tail e =
     cons_is : (d a : ℕ) (xs ys : List ℕ) → d ≡ a → xs ≡ ys → d ∷ xs ≡ a ∷ ys
     cons_is d a xs ys e f = cc
 
--- a word whose last id no own one has stands in the old ones
+-- a word isn't in ids that its last id isn't in
 own_has_no : (front : List ℕ) (c : ℕ) (ids : List ℕ) → Each (λ i. c ≡ i → ⊥) ids → IsSubsequence (front ++ c ∷ []) ids → ⊥
 own_has_no front c ids h s = (each_back (λ i. c ≡ i → ⊥) front (c ∷ []) (stands_each (λ i. c ≡ i → ⊥) (front ++ c ∷ []) ids h s)).0 refl
 
+-- what holds of the id of each request or reply holds of each of their ids
 each_id : (P : ℕ → Type 0) (xs : List Sent) → Each (λ x. P x.id) xs → Each P (ids_of xs)
 each_id P [] h = tt
 each_id P (x ∷ xs) h = (h.0, each_id P xs h.1)
 
+-- a word whose last id no own one has is in the old ones
 in_old : (xs : List Sent) (front : List ℕ) (c : ℕ) → Pairs IsBefore xs → Each (λ x. IsOwn x → c ≡ x.id → ⊥) xs → IsSubsequence (front ++ c ∷ []) (ids_of xs) → IsSubsequence (front ++ c ∷ []) (olds xs)
 in_old [] front c before none s = s
 in_old (x ∷ xs) front c before none s = chosen x.old refl (λ f. in_old xs f c before.1 none.1) front s where
@@ -172,11 +185,12 @@ in_old (x ∷ xs) front c before none s = chosen x.old refl (λ f. in_old xs f c
             (λ i. c ≡ i → ⊥) xs (each_both (IsBefore x) (λ y. IsOwn y → c ≡ y.id → ⊥) (λ y. c ≡ y.id → ⊥) (λ y g n. n (g o)) xs before.0 none.1),
       ) s)
 
--- three ids that differ are not of two
+-- only one id is the first that is left
 same_asked : (left : List ℕ) (i j : ℕ) → IsAsked i left → IsAsked j left → i ≡ j
 same_asked [] i j a b = absurd a
 same_asked (asked ∷ later) i j a b = a ∙ sym b
 
+-- three ids that differ aren't all near
 not_three : (p : ℕ) (left : List ℕ) (a b c : ℕ) → (a ≡ b → ⊥) → (a ≡ c → ⊥) → (b ≡ c → ⊥) → IsNear p left a → IsNear p left b → IsNear p left c → ⊥
 not_three p left a b c ab ac bc (inl x) (inl y) z = ab (x ∙ sym y)
 not_three p left a b c ab ac bc (inr x) (inr y) z = ab (same_asked left a b x y)
@@ -185,6 +199,7 @@ not_three p left a b c ab ac bc (inl x) (inr y) (inr z) = bc (same_asked left b 
 not_three p left a b c ab ac bc (inr x) (inl y) (inl z) = bc (y ∙ sym z)
 not_three p left a b c ab ac bc (inr x) (inl y) (inr z) = ac (same_asked left a c x z)
 
+-- where a beginning is over, no three ids that differ are in flight
 over_short : (p : ℕ) (left word : List ℕ) (line : List Sent) (a b c : ℕ) → AllDiffer (a ∷ b ∷ c ∷ word)
     → Each (λ x. IsOwn x × IsNear p left x.id) line → IsSubsequence (a ∷ b ∷ c ∷ word) (ids_of line) → ⊥
 over_short p left word line a b c d h s =
@@ -192,7 +207,7 @@ over_short p left word line a b c d h s =
     (each_id (IsNear p left) line (each_more (λ x. IsOwn x × IsNear p left x.id) (λ x. IsNear p left x.id) (λ x g. g.1) line h)) s in
     not_three p left a b c d.0.0 d.0.1.0 d.1.0.0 near.0 near.1.0 near.1.1.0
 
--- a front of at least two ids that did not stand at the start stands now with no further one
+-- a front of at least two ids of the word that wasn't in the ids at the start isn't in them later with one id more
 no_longer : (z : ℕ) (word first left : List ℕ) (line : List Sent) (a b : ℕ) (more : List ℕ) (c : ℕ) (tail : List ℕ) → word ≡ a ∷ b ∷ (more ++ c ∷ tail) → AllDiffer word
     → (IsSubsequence (a ∷ b ∷ more) first → ⊥) → IsTrying z word first left line → IsSubsequence (a ∷ b ∷ (more ++ c ∷ [])) (ids_of line) → ⊥
 no_longer z word first left line a b more c tail e d none h s =
@@ -226,14 +241,17 @@ no_longer z word first left line a b more c tail e d none h s =
 
 -- One beginning after the other.
 
+-- making requests old leaves their ids
 ids_aged : (xs : List Sent) → ids_of (aged xs) ≡ ids_of xs
 ids_aged [] = refl
 ids_aged (x ∷ xs) = ap (λ l. x.id ∷ l) (ids_aged xs)
 
+-- all requests that are made old are old
 all_aged : (xs : List Sent) → Each IsOld (aged xs)
 all_aged [] = tt
 all_aged (x ∷ xs) = (refl, all_aged xs)
 
+-- the ids of two lists are those of the first and then those of the second
 ids_append : (xs ys : List Sent) → ids_of (xs ++ ys) ≡ ids_of xs ++ ids_of ys
 ids_append [] ys = refl
 ids_append (x ∷ xs) ys = ap (λ l. x.id ∷ l) (ids_append xs ys)
@@ -241,12 +259,15 @@ ids_append (x ∷ xs) ys = ap (λ l. x.id ∷ l) (ids_append xs ys)
 abbrev pub under_way : Model → List ℕ
 under_way s = ids_of s.down ++ ids_of s.up
 
+-- the ids under way are those that were, where a beginning begins
 ids_anew : (s : Model) → under_way (begun_anew the_word s) ≡ under_way s
 ids_anew s = ap (λ l. l ++ ids_of (aged s.up)) (ids_aged s.down) ∙ ap (λ l. ids_of s.down ++ l) (ids_aged s.up)
 
+-- a beginning begins over what is under way, if the word isn't in that
 pub begins_anew : (s : Model) → (IsSubsequence the_word (under_way s) → ⊥) → Begins the_word (begun_anew the_word s)
 begins_anew s none = record { left = refl; up = all_aged s.up; down = all_aged s.down; absent = λ h. none (subst (λ ids. IsSubsequence the_word ids) (ids_anew s) h) }
 
+-- `IsTrying` holds at the start
 trying_at_start : (s : Model) → Begins the_word s → IsTrying 7 the_word (under_way s) s.left (s.down ++ s.up)
 trying_at_start s h =
     let same = olds_all s.down s.up h.down h.up in
@@ -257,7 +278,8 @@ trying_at_start s h =
       phase = inl (record { from = λ v d g. subst (λ ids. IsSubsequence v ids) same g; heard = λ v d g. subst (λ ids. IsSubsequence v ids) same g });
     }
 
--- behind one beginning, killed anywhere
+-- a front of at least two ids of the word that isn't in the ids under way isn't in them, with one id more, behind a beginning that is
+-- killed anywhere
 pub behind_one : (s : Model) (ms : List Move) (a b : ℕ) (more : List ℕ) (c : ℕ) (tail : List ℕ) → the_word ≡ a ∷ b ∷ (more ++ c ∷ tail)
     → (IsSubsequence (a ∷ b ∷ more) (under_way s) → ⊥) → IsSubsequence (a ∷ b ∷ (more ++ c ∷ [])) (under_way (moved ms (begun_anew the_word s))) → ⊥
 behind_one s ms a b more c tail e none h =

@@ -10,17 +10,20 @@ use Rattle.gc_field.proofs.BeginWords.{Has, has_behind, has_twice, stands_more, 
 
 -- The invariant.
 
+-- this is from before the beginning
 abbrev pub IsOld : Sent → Type 0
 IsOld x = x.old ≡ true
 
+-- this is of the beginning
 abbrev pub IsOwn : Sent → Type 0
 IsOwn x = x.old ≡ false
 
--- the ids of the old ones
+-- these ids, with the first one in front if it is of an old one
 abbrev pub old_if : Bool → ℕ → List ℕ → List ℕ
 old_if true i ids = i ∷ ids
 old_if false i ids = ids
 
+-- the ids of the old ones
 abbrev pub olds : List Sent → List ℕ
 olds [] = []
 olds (x ∷ xs) = old_if x.old x.id (olds xs)
@@ -29,20 +32,21 @@ olds (x ∷ xs) = old_if x.old x.id (olds xs)
 abbrev pub IsBefore : Sent → Sent → Type 0
 IsBefore x y = IsOwn x → IsOwn y
 
--- an own one has none of these ids
+-- if this is an own one, it has none of these ids
 abbrev pub HasNone : List ℕ → Sent → Type 0
 HasNone ids x = IsOwn x → Each (λ i. i ≡ x.id → ⊥) ids
 
--- behind an own one with the id that is asked for now there are only such
+-- behind an own one with this id there are only such
 abbrev pub KeepsTheId : ℕ → Sent → Sent → Type 0
 KeepsTheId asked x y = IsOwn x → x.id ≡ asked → y.id ≡ asked
 
--- the own ones: none has an id that will be asked for later; and once it has begun, each has the last one
+-- the own ones: none has an id that is left behind the first; behind one with the first that is left there are only such; and once all
+-- are answered, each has the last one
 abbrev pub AreOwn : ℕ → List ℕ → List Sent → Type 0
 AreOwn z [] line = Each (λ x. IsOwn x → x.id ≡ z) line
 AreOwn z (asked ∷ later) line = Each (HasNone later) line × Pairs (KeepsTheId asked) line
 
--- the line, where this is left of a word whose last id is z
+-- what holds of all that is under way, replies first, where these ids are left of a word whose last id is z
 pub record IsLine (z : ℕ) (left : List ℕ) (line : List Sent) : Type 0 where
   pub differ : AllDiffer left
   pub ends : last z left ≡ z
@@ -56,52 +60,64 @@ pub record IsLine (z : ℕ) (left : List ℕ) (line : List Sent) : Type 0 where
 neither : true ≡ false → ⊥
 neither e = cc
 
+-- an own one in front adds no id of an old one
 none_if : (b : Bool) (i : ℕ) (ids : List ℕ) → b ≡ false → ids ≡ [] → old_if b i ids ≡ []
 none_if true i ids e f = absurd (neither e)
 none_if false i ids e f = f
 
+-- where no id of an old one is there, the first is an own one, and the others have none
 own_if : (b : Bool) (i : ℕ) (ids : List ℕ) → old_if b i ids ≡ [] → (b ≡ false) × (ids ≡ [])
 own_if true i ids e = absurd (not_over i ids e)
 own_if false i ids e = (refl, e)
 
+-- own ones alone have no ids of old ones
 pub olds_none : (xs : List Sent) → Each IsOwn xs → olds xs ≡ []
 olds_none [] h = refl
 olds_none (x ∷ xs) h = none_if x.old x.id (olds xs) h.0 (olds_none xs h.1)
 
+-- where there are no ids of old ones, all are own ones
 pub each_own : (xs : List Sent) → olds xs ≡ [] → Each IsOwn xs
 each_own [] e = tt
 each_own (x ∷ xs) e = let h = own_if x.old x.id (olds xs) e in (h.0, each_own xs h.1)
 
+-- an old one in front adds its id
 all_if : (b : Bool) (i : ℕ) (ids others : List ℕ) → b ≡ true → ids ≡ others → old_if b i ids ≡ i ∷ others
 all_if true i ids others e f = ap (λ l. i ∷ l) f
 all_if false i ids others e f = absurd (never e)
 
+-- where all are old, the ids of old ones are those of all
 pub olds_all : (xs ys : List Sent) → Each IsOld xs → Each IsOld ys → olds (xs ++ ys) ≡ ids_of xs ++ ids_of ys
 olds_all [] [] h g = refl
 olds_all [] (y ∷ ys) h g = all_if y.old y.id (olds ys) (ids_of ys) g.0 (olds_all [] ys tt g.1)
 olds_all (x ∷ xs) ys h g = all_if x.old x.id (olds (xs ++ ys)) (ids_of xs ++ ids_of ys) h.0 (olds_all xs ys h.1 g)
 
+-- an own one more adds no id of an old one
 pub olds_push : (i : ℕ) (xs : List Sent) → olds (xs ++ record { id = i; old = false } ∷ []) ≡ olds xs
 olds_push i [] = refl
 olds_push i (x ∷ xs) = ap (λ l. old_if x.old x.id l) (olds_push i xs)
 
+-- `Has` lasts where the same one is put in front of both lists, old or own
 has_if : (b : Bool) (i : ℕ) (ids others : List ℕ) → Has ids others → Has (old_if b i ids) (old_if b i others)
 has_if true i ids others h = has_behind i ids others h
 has_if false i ids others h = h
 
+-- no more words are in ids without a first one, old or own
 has_less_if : (b : Bool) (i : ℕ) (ids : List ℕ) → Has ids (old_if b i ids)
 has_less_if true i ids = λ word d h. stands_more word ids i h
 has_less_if false i ids = λ word d h. h
 
+-- where a first one comes twice, old or own, no more words are in the ids
 has_twice_if : (b : Bool) (i : ℕ) (ids : List ℕ) → Has (old_if b i (old_if b i ids)) (old_if b i ids)
 has_twice_if true i ids = has_twice i ids
 has_twice_if false i ids = λ word d h. h
 
+-- where a line is lost, no more words are in the old ones
 pub has_without : (k : ℕ) (line : List Sent) → Has (olds (without k line)) (olds line)
 has_without k [] = λ word d h. h
 has_without zero (x ∷ xs) = has_less_if x.old x.id (olds xs)
 has_without (suc k) (x ∷ xs) = has_if x.old x.id (olds (without k xs)) (olds xs) (has_without k xs)
 
+-- where a line comes twice, no more words without an id twice are in the old ones
 pub has_doubled : (k : ℕ) (line : List Sent) → Has (olds (doubled k line)) (olds line)
 has_doubled k [] = λ word d h. h
 has_doubled zero (x ∷ xs) = has_twice_if x.old x.id (olds xs)
@@ -109,14 +125,17 @@ has_doubled (suc k) (x ∷ xs) = has_if x.old x.id (olds (doubled k xs)) (olds x
 
 -- The line loses one, or repeats one.
 
+-- `AreOwn` lasts where a line is lost
 own_without : (z : ℕ) (left : List ℕ) (k : ℕ) (line : List Sent) → AreOwn z left line → AreOwn z left (without k line)
 own_without z [] k line h = each_without (λ x. IsOwn x → x.id ≡ z) k line h
 own_without z (asked ∷ later) k line h = (each_without (HasNone later) k line h.0, pairs_without (KeepsTheId asked) k line h.1)
 
+-- `AreOwn` lasts where a line comes twice
 own_doubled : (z : ℕ) (left : List ℕ) (k : ℕ) (line : List Sent) → AreOwn z left line → AreOwn z left (doubled k line)
 own_doubled z [] k line h = each_doubled (λ x. IsOwn x → x.id ≡ z) k line h
 own_doubled z (asked ∷ later) k line h = (each_doubled (HasNone later) k line h.0, pairs_doubled (KeepsTheId asked) (λ x o e. e) k line h.1)
 
+-- `IsLine` lasts where a line is lost
 pub line_without : (z : ℕ) (left : List ℕ) (k : ℕ) (line : List Sent) → IsLine z left line → IsLine z left (without k line)
 line_without z left k line h =
     record {
@@ -127,6 +146,7 @@ line_without z left k line h =
       own = own_without z left k line h.own;
     }
 
+-- `IsLine` lasts where a line comes twice
 pub line_doubled : (z : ℕ) (left : List ℕ) (k : ℕ) (line : List Sent) → IsLine z left line → IsLine z left (doubled k line)
 line_doubled z left k line h =
     record {
@@ -139,6 +159,7 @@ line_doubled z left k line h =
 
 -- A null procedure goes out.
 
+-- `IsLine` lasts where the beginner asks
 pub line_asked : (z asked : ℕ) (later : List ℕ) (line : List Sent) → IsLine z (asked ∷ later) line → IsLine z (asked ∷ later) (line ++ record { id = asked; old = false } ∷ [])
 line_asked z asked later line h =
     let new : Sent = record { id = asked; old = false } in
@@ -155,22 +176,24 @@ line_asked z asked later line h =
 
 -- The front one comes.
 
--- an old one can't be heard as the last that the old ones had to give
+-- an old reply can't answer, if the ids that are left, with its own in front, aren't in the old ones
 no_old : (b : Bool) (i asked : ℕ) (ids word : List ℕ) → b ≡ true → i ≡ asked → (IsSubsequence (asked ∷ word) (old_if b i ids) → old_if b i ids ≡ []) → IsSubsequence word ids → ⊥
 no_old true i asked ids word o e f s = not_over i ids (f (inl (sym e, s)))
 no_old false i asked ids word o e f s = never o
 
--- where one id isn't answered any more, a reply with that id is the beginning's own
+-- where one id is left, a reply with that id is of this beginning
 pub is_own : (z asked : ℕ) (x : Sent) (rest : List Sent) → IsLine z (asked ∷ []) (x ∷ rest) → x.id ≡ asked → IsOwn x
 is_own z asked x rest h e = chosen x.old refl where
   chosen : (b : Bool) → x.old ≡ b → x.old ≡ false
   chosen true o = absurd (no_old x.old x.id asked (olds rest) [] o e h.clear tt)
   chosen false o = o
 
+-- the last id of a word is that of what is left of it
 ends_behind : (z asked : ℕ) (later : List ℕ) → last asked later ≡ z → last z later ≡ z
 ends_behind z asked [] e = refl
 ends_behind z asked (i ∷ later) e = e
 
+-- `AreOwn` lasts where a reply answers
 own_answered : (z asked : ℕ) (later : List ℕ) (x : Sent) (rest : List Sent) → IsLine z (asked ∷ later) (x ∷ rest) → x.id ≡ asked → AreOwn z later rest
 own_answered z asked [] x rest h e =
     each_more (KeepsTheId asked x) (λ y. IsOwn y → y.id ≡ z) (λ y f o. f (is_own z asked x rest h e) e ∙ h.ends) rest h.own.1.0
@@ -179,12 +202,14 @@ own_answered z asked (i ∷ later) x rest h e = (
   pairs_of_each (HasNone (i ∷ later)) (KeepsTheId i) (λ y w f o g. absurd ((f o).0 (sym g))) rest h.own.0.1,
 )
 
+-- the ids that are left aren't in the old ones, once a reply answered
 clear_answered : (z asked : ℕ) (later : List ℕ) (x : Sent) (rest : List Sent) → IsLine z (asked ∷ later) (x ∷ rest) → x.id ≡ asked → IsSubsequence later (olds rest) → olds rest ≡ []
 clear_answered z asked later x rest h e s = chosen x.old refl where
   chosen : (b : Bool) → x.old ≡ b → olds rest ≡ []
   chosen true o = absurd (no_old x.old x.id asked (olds rest) later o e h.clear s)
   chosen false o = olds_none rest (each_more (IsBefore x) IsOwn (λ y f. f o) rest h.ordered.0)
 
+-- `IsLine` lasts where a reply answers
 line_answered : (z asked : ℕ) (later : List ℕ) (x : Sent) (rest : List Sent) → IsLine z (asked ∷ later) (x ∷ rest) → x.id ≡ asked → IsLine z later rest
 line_answered z asked later x rest h e =
     record {
@@ -195,6 +220,7 @@ line_answered z asked later x rest h e =
       own = own_answered z asked later x rest h e;
     }
 
+-- `IsLine` lasts where a reply comes
 pub line_came : (z : ℕ) (left : List ℕ) (x : Sent) (rest : List Sent) → IsLine z left (x ∷ rest) → IsLine z (heard left x.id) rest
 line_came z [] x rest h = line_without z [] zero (x ∷ rest) h
 line_came z (asked ∷ later) x rest h = chosen (nat_eq x.id asked) refl where

@@ -58,12 +58,12 @@ module _ {A : Type 0} where
   pairs_back R [] ys h = h
   pairs_back R (x ∷ xs) ys h = pairs_back R xs ys h.1
 
-  -- each element in front of this one
+  -- each element in front of this one has the relation to it
   pub pairs_before : (R : A → A → Type 0) (xs : List A) (y : A) (ys : List A) → Pairs R (xs ++ y ∷ ys) → Each (λ x. R x y) xs
   pairs_before R [] y ys h = tt
   pairs_before R (x ∷ xs) y ys h = ((each_back (R x) xs (y ∷ ys) h.0).0, pairs_before R xs y ys h.1)
 
-  -- where each two go together that satisfy P
+  -- where all elements satisfy P, and each two that do are related, all are
   pub pairs_of_each : (P : A → Type 0) (R : A → A → Type 0) → ((x y : A) → P x → R x y) → (xs : List A) → Each P xs → Pairs R xs
   pairs_of_each P R f [] h = tt
   pairs_of_each P R f (x ∷ xs) h = (every xs, pairs_of_each P R f xs h.1) where
@@ -71,15 +71,17 @@ module _ {A : Type 0} where
     every [] = tt
     every (y ∷ ys) = (f x y h.0, every ys)
 
-  -- an element of the back queue, and of the front one, in both
+  -- what is lost from the back queue is lost from both, one behind the other
   pub lost_back : (k : ℕ) (xs ys : List A) → (j : ℕ) × (xs ++ without k ys ≡ without j (xs ++ ys))
   lost_back k [] ys = (k, refl)
   lost_back k (x ∷ xs) ys = let h = lost_back k xs ys in (suc h.0, ap (λ l. x ∷ l) h.1)
 
+  -- what comes twice in the back queue comes twice in both
   pub twice_back : (k : ℕ) (xs ys : List A) → (j : ℕ) × (xs ++ doubled k ys ≡ doubled j (xs ++ ys))
   twice_back k [] ys = (k, refl)
   twice_back k (x ∷ xs) ys = let h = twice_back k xs ys in (suc h.0, ap (λ l. x ∷ l) h.1)
 
+  -- what is lost from the front queue is lost from both, or nothing is
   pub lost_front : (k : ℕ) (xs ys : List A) → (without k xs ++ ys ≡ xs ++ ys) ⊎ (without k xs ++ ys ≡ without k (xs ++ ys))
   lost_front k [] ys = inl refl
   lost_front zero (x ∷ xs) ys = inr refl
@@ -89,6 +91,7 @@ module _ {A : Type 0} where
         | inr e ↦ inr (ap (λ l. x ∷ l) e)
       ]
 
+  -- what comes twice in the front queue comes twice in both, or nothing does
   pub twice_front : (k : ℕ) (xs ys : List A) → (doubled k xs ++ ys ≡ xs ++ ys) ⊎ (doubled k xs ++ ys ≡ doubled k (xs ++ ys))
   twice_front k [] ys = inl refl
   twice_front zero (x ∷ xs) ys = inr refl
@@ -98,7 +101,7 @@ module _ {A : Type 0} where
         | inr e ↦ inr (ap (λ l. x ∷ l) e)
       ]
 
-  -- the front of the back queue goes to the end of the front one
+  -- an element that goes from the front of the back queue to the end of the front one stays where it is in both
   pub goes_over : (xs : List A) (y : A) (ys : List A) → (xs ++ y ∷ []) ++ ys ≡ xs ++ y ∷ ys
   goes_over [] y ys = refl
   goes_over (x ∷ xs) y ys = ap (λ l. x ∷ l) (goes_over xs y ys)

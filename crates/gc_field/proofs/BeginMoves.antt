@@ -4,7 +4,7 @@ use Rattle.gc_field.proofs.BeginIds.{Sent, Model, Move, Ask, Reach, Come, Up_los
 use Rattle.gc_world.specs.World.{without, doubled}
 use Rattle.gc_field.proofs.BeginLists.{lost_back, lost_front, twice_back, twice_front, goes_over, behind_both}
 
--- I holds of what is left of the word, and of the line
+-- a fact of the ids that are left, and of the line, lasts over a loss, a repeat, a request that goes out and a reply that comes
 pub record Lasts (I : List ℕ → List Sent → Type 0) : Type 0 where
   pub lost : (left : List ℕ) (k : ℕ) (line : List Sent) → I left line → I left (without k line)
   pub twice : (left : List ℕ) (k : ℕ) (line : List Sent) → I left line → I left (doubled k line)
@@ -12,10 +12,11 @@ pub record Lasts (I : List ℕ → List Sent → Type 0) : Type 0 where
   pub came : (left : List ℕ) (x : Sent) (rest : List Sent) → I left (x ∷ rest) → I (heard left x.id) rest
 
 module _ (I : List ℕ → List Sent → Type 0) (lasts : Lasts I) where
-  -- it holds of a standing
+  -- the fact holds of a state
   abbrev pub Holds : Model → Type 0
   Holds s = I s.left (s.down ++ s.up)
 
+  -- the fact lasts where the beginner asks
   holds_asks : (s : Model) (left : List ℕ) → s.left ≡ left → Holds s → Holds (asks s left)
   holds_asks s [] e h = h
   holds_asks s (id ∷ later) e h =
@@ -24,6 +25,7 @@ module _ (I : List ℕ → List Sent → Type 0) (lasts : Lasts I) where
       (subst (λ q. I (id ∷ later) q) (sym (behind_both s.down s.up (new ∷ [])))
       (lasts.asked id later (s.down ++ s.up) (subst (λ l. I l (s.down ++ s.up)) e h)))
 
+  -- the fact lasts where a request reaches the instrument
   holds_reaches : (s : Model) (replies : Bool) (up : List Sent) → s.up ≡ up → Holds s → Holds (reaches s replies up)
   holds_reaches s replies [] e h = h
   holds_reaches s true (x ∷ rest) e h =
@@ -32,10 +34,12 @@ module _ (I : List ℕ → List Sent → Type 0) (lasts : Lasts I) where
       let lost = lost_back zero s.down (x ∷ rest) in
       subst (λ q. I s.left q) (sym lost.1) (lasts.lost s.left lost.0 (s.down ++ x ∷ rest) (subst (λ q. I s.left (s.down ++ q)) e h))
 
+  -- the fact lasts where a reply comes
   holds_comes : (s : Model) (down : List Sent) → s.down ≡ down → Holds s → Holds (comes s down)
   holds_comes s [] e h = h
   holds_comes s (x ∷ rest) e h = lasts.came s.left x (rest ++ s.up) (subst (λ q. I s.left (q ++ s.up)) e h)
 
+  -- the fact lasts over each move
   pub holds_moves : (s : Model) (m : Move) → Holds s → Holds (moves s m)
   holds_moves s Ask h = holds_asks s s.left refl h
   holds_moves s (Reach replies) h = holds_reaches s replies s.up refl h
@@ -58,6 +62,7 @@ module _ (I : List ℕ → List Sent → Type 0) (lasts : Lasts I) where
       ]
   holds_moves s Anew h = h
 
+  -- the fact lasts over moves
   pub holds_moved : (ms : List Move) (s : Model) → Holds s → Holds (moved ms s)
   holds_moved [] s h = h
   holds_moved (m ∷ ms) s h = holds_moved ms (moves s m) (holds_moves s m h)

@@ -13,10 +13,11 @@ use Rattle.gc_field.specs.Begun.{WasMadeOn}
 use Rattle.gc_field.specs.BeginWitness.{AreSomeRuns, IsBookedFromBefore, clean, next}
 use Rattle.gc_field.proofs.Witness.{fits, units}
 
--- the replies to both commands
+-- the reply to the first command
 abbrev one_reply : Numbered (List ℕ)
 one_reply = record { number = 8; line = codes "%R1P,0,0:0,123456" }
 
+-- the reply to the second command
 abbrev other_reply : Numbered (List ℕ)
 other_reply = record { number = 9; line = codes "%R1P,0,1:0,123456" }
 

@@ -14,38 +14,42 @@ not_over i ids e = cc
 
 -- Fewer ids, and repeats.
 
+-- a word that is in ids is in these and one more in front
 pub stands_more : (word ids : List ℕ) (i : ℕ) → IsSubsequence word ids → IsSubsequence word (i ∷ ids)
 stands_more [] ids i h = tt
 stands_more (w ∷ word) ids i h = inr h
 
+-- a word that is in ids is in them without its first id, too
 pub stands_behind : (w : ℕ) (word ids : List ℕ) → IsSubsequence (w ∷ word) ids → IsSubsequence word ids
 stands_behind w word [] h = absurd h
 stands_behind w word (i ∷ ids) (inl h) = stands_more word ids i h.1
 stands_behind w word (i ∷ ids) (inr h) = stands_more word ids i (stands_behind w word ids h)
 
--- the front of a word stands where it does
+-- the front of a word is in the ids that the word is in
 pub stands_front : (word more ids : List ℕ) → IsSubsequence (word ++ more) ids → IsSubsequence word ids
 stands_front [] more ids h = tt
 stands_front (w ∷ word) more [] h = absurd h
 stands_front (w ∷ word) more (i ∷ ids) (inl h) = inl (h.0, stands_front word more ids h.1)
 stands_front (w ∷ word) more (i ∷ ids) (inr h) = inr (stands_front (w ∷ word) more ids h)
 
--- what holds of each id holds of each of a word that stands in them
+-- what holds of each of these ids holds of each of a word that is in them
 pub stands_each : (P : ℕ → Type 0) (word ids : List ℕ) → Each P ids → IsSubsequence word ids → Each P word
 stands_each P [] ids h s = tt
 stands_each P (w ∷ word) [] h s = absurd s
 stands_each P (w ∷ word) (i ∷ ids) h (inl s) = (subst P (sym s.0) h.0, stands_each P word ids h.1 s.1)
 stands_each P (w ∷ word) (i ∷ ids) h (inr s) = stands_each P (w ∷ word) ids h.1 s
 
--- each word with no id twice that stands in the first ids stands in the second ones too
+-- each word without an id twice that is in the first ids is in the second ones
 abbrev pub Has : List ℕ → List ℕ → Type 0
 Has ids others = (word : List ℕ) → AllDiffer word → IsSubsequence word ids → IsSubsequence word others
 
+-- `Has` lasts where the same id is put in front of both lists
 pub has_behind : (i : ℕ) (ids others : List ℕ) → Has ids others → Has (i ∷ ids) (i ∷ others)
 has_behind i ids others f [] d h = tt
 has_behind i ids others f (w ∷ word) d (inl h) = inl (h.0, f word d.1 h.1)
 has_behind i ids others f (w ∷ word) d (inr h) = inr (f (w ∷ word) d h)
 
+-- where the first of ids comes twice, no more words without an id twice are in them
 pub has_twice : (i : ℕ) (ids : List ℕ) → Has (i ∷ i ∷ ids) (i ∷ ids)
 has_twice i ids [] d h = tt
 has_twice i ids (w ∷ []) d (inl h) = inl (h.0, tt)
@@ -58,18 +62,22 @@ has_twice i ids (w ∷ word) d (inr h) = h
 
 -- A test that no id stands twice.
 
+-- whether this id isn't among these
 abbrev pub is_new : ℕ → List ℕ → Bool
 is_new i [] = true
 is_new i (j ∷ ids) = cond (nat_eq i j) false (is_new i ids)
 
+-- whether no id is among these twice
 abbrev pub are_new : List ℕ → Bool
 are_new [] = true
 are_new (i ∷ ids) = cond (is_new i ids) (are_new ids) false
 
+-- where `is_new` says so of an id and others behind one more, the id differs from that one, and `is_new` says so of the others
 new_if : (i j : ℕ) (rest : Bool) (b : Bool) → nat_eq i j ≡ b → cond b false rest ≡ true → (i ≡ j → ⊥) × (rest ≡ true)
 new_if i j rest true t e = absurd (never e)
 new_if i j rest false t e = ((λ same. never (sym t ∙ eq-eqb i j same)), e)
 
+-- an id of which `is_new` says so differs from all of the ids
 new_differs : (i : ℕ) (ids : List ℕ) → is_new i ids ≡ true → Each (λ j. i ≡ j → ⊥) ids
 new_differs i [] e = tt
 new_differs i (j ∷ ids) e = let h = new_if i j (is_new i ids) (nat_eq i j) refl e in (h.0, new_differs i ids h.1)
@@ -78,19 +86,23 @@ both_if : (a b : Bool) → cond a b false ≡ true → (a ≡ true) × (b ≡ tr
 both_if true b e = (refl, e)
 both_if false b e = absurd (never e)
 
+-- ids among which `are_new` finds none twice all differ
 pub all_differ : (ids : List ℕ) → are_new ids ≡ true → AllDiffer ids
 all_differ [] e = tt
 all_differ (i ∷ ids) e = let h = both_if (is_new i ids) (are_new ids) e in (new_differs i ids h.0, all_differ ids h.1)
 
+-- no id is in the word twice
 pub word_differs : AllDiffer the_word
 word_differs = all_differ the_word refl
 
 -- The greedy way: who hears these ids one after the other comes to the end of the word, if it stands in them.
 
+-- what is left of a word behind replies with these ids
 abbrev pub hears : List ℕ → List ℕ → List ℕ
 hears word [] = word
 hears word (i ∷ ids) = hears (heard word i) ids
 
+-- replies answer a word behind a first id that one of them has
 hears_next : (i w : ℕ) (ids word : List ℕ) (b : Bool) → nat_eq i w ≡ b → ((v : List ℕ) → IsSubsequence v ids → hears v ids ≡ [])
     → IsSubsequence (w ∷ word) (i ∷ ids) → hears (left_by_one b w word) ids ≡ []
 hears_next i w ids word true e f (inl h) = f word h.1
@@ -98,13 +110,14 @@ hears_next i w ids word true e f (inr h) = f word (stands_behind w word ids h)
 hears_next i w ids word false e f (inl h) = absurd (never (sym e ∙ eq-eqb i w (sym h.0)))
 hears_next i w ids word false e f (inr h) = f (w ∷ word) h
 
+-- replies answer a word that is in their ids
 pub comes_to_end : (ids word : List ℕ) → IsSubsequence word ids → hears word ids ≡ []
 comes_to_end [] [] h = refl
 comes_to_end [] (w ∷ word) h = absurd h
 comes_to_end (i ∷ ids) [] h = comes_to_end ids [] tt
 comes_to_end (i ∷ ids) (w ∷ word) h = hears_next i w ids word (nat_eq i w) refl (comes_to_end ids) h
 
--- no row of eight upward has 6 5 4: eight cases, by computation
+-- no row of eight ids upward has 6 5 4 in it, as computing its eight cases shows
 three_upward : (i : ℕ) → i < 8 → IsSubsequence (6 ∷ 5 ∷ 4 ∷ []) (upward i 8) → ⊥
 three_upward zero low h = not_over _ _ (comes_to_end (upward 0 8) (6 ∷ 5 ∷ 4 ∷ []) h)
 three_upward (suc zero) low h = not_over _ _ (comes_to_end (upward 1 8) (6 ∷ 5 ∷ 4 ∷ []) h)
@@ -121,10 +134,12 @@ three_upward (suc (suc (suc (suc (suc (suc (suc (suc i)))))))) low h = absurd (o
 abbrev ids_at : List ℕ → List ℕ
 ids_at ns = map (λ n. n % 8) ns
 
+-- the empty word is in all ids
 has_nothing : (others : List ℕ) → Has [] others
 has_nothing others [] d h = tt
 has_nothing others (w ∷ word) d h = absurd h
 
+-- numbers that rise from a high one on rise from a lower one on
 rising_lower : (low high : ℕ) (ns : List ℕ) → low ≤ high → Rising high ns → Rising low ns
 rising_lower low high [] le h = tt
 rising_lower low high (n ∷ ns) le h = (omega (arith, le, h.0), h.1)
@@ -132,11 +147,12 @@ rising_lower low high (n ∷ ns) le h = (omega (arith, le, h.0), h.1)
 each_below : (a b : ℕ) (ns : List ℕ) → a ≡ b → Each (λ m. m < a) ns → Each (λ m. m < b) ns
 each_below a b ns e h = subst (λ c. Each (λ m. m < c) ns) e h
 
--- numbers from a on that never fall, below a + k, stand as ids in the row of k from a on
+-- words without an id twice that are in the ids of numbers from a on, which never fall and lie below a + k, are in the row of k ids
+-- from a on
 abbrev InRow : ℕ → ℕ → List ℕ → Type 0
 InRow a k ns = Rising (a + 1) ns → Each (λ m. m < a + k) ns → Has (ids_at ns) (upward a k)
 
--- the first one is a, or all are above
+-- `InRow` lasts where one number more is put in front: it is a, or all are above a
 row_first : (a k m : ℕ) (ns : List ℕ) (b : Bool) → nat_eq m a ≡ b → InRow (a + 1) k (m ∷ ns) → InRow a (suc k) ns → InRow a (suc k) (m ∷ ns)
 row_first a k m ns true e above more h low = λ word d s.
     let same : m ≡ a = eqb-true m a e in
@@ -149,20 +165,23 @@ row_first a k m ns false e above more h low = λ word d s.
     let over : a + 1 + 1 ≤ m + 1 = omega (arith, h.0, other) in
     stands_more word (upward (a + 1) k) (a % 8) (above (over, h.1) (each_below (a + suc k) (a + 1 + k) (m ∷ ns) (omega arith) low) word d s)
 
+-- `InRow` of the rows above a number gives `InRow` of those from that number on
 row_more : (a k : ℕ) → ((ns : List ℕ) → InRow (a + 1) k ns) → (ns : List ℕ) → InRow a (suc k) ns
 row_more a k above [] h low = has_nothing (upward a (suc k))
 row_more a k above (m ∷ ns) h low = row_first a k m ns (nat_eq m a) refl (above (m ∷ ns)) (row_more a k above ns) h low
 
+-- `InRow` holds
 in_row : (k a : ℕ) (ns : List ℕ) → InRow a k ns
 in_row zero a [] h low = has_nothing []
 in_row zero a (m ∷ ns) h low = absurd (omega (arith, h.0, low.0))
 in_row (suc k) a ns h low = row_more a k (in_row k (a + 1)) ns h low
 
+-- rows from numbers that are the same modulo 8 are the same
 upward_round : (n a b : ℕ) → a % 8 ≡ b % 8 → upward a n ≡ upward b n
 upward_round zero a b e = refl
 upward_round (suc n) a b e = ap₂ (λ i ids. i ∷ ids) e (upward_round n (a + 1) (b + 1) (omega (arith, e)))
 
--- the ids of a run that measures don't contain 6 5 4, and so they don't contain the word
+-- the ids of a run that measures don't have 6 5 4 in them
 pub three_within : (low : ℕ) (ns : List ℕ) → 0 < low → Rising low ns → Each (λ n. n < low + 7) ns → IsSubsequence (6 ∷ 5 ∷ 4 ∷ []) (map (λ n. n % 8) ns) → ⊥
 three_within low ns some h below s =
     let a : ℕ = low - 1 in
@@ -170,5 +189,6 @@ three_within low ns some h below s =
     let row = in_row 8 a ns (subst (λ l. Rising l ns) first h) (each_below (low + 7) (a + 8) ns (omega (arith, first)) below) (6 ∷ 5 ∷ 4 ∷ []) (all_differ (6 ∷ 5 ∷ 4 ∷ []) refl) s in
     three_upward (a % 8) (omega arith) (subst (λ ids. IsSubsequence (6 ∷ 5 ∷ 4 ∷ []) ids) (upward_round 8 a (a % 8) (omega arith)) row)
 
+-- the ids of a run that measures don't have the word in them
 pub none_within : (low : ℕ) (ns : List ℕ) → 0 < low → Rising low ns → Each (λ n. n < low + 7) ns → IsSubsequence the_word (map (λ n. n % 8) ns) → ⊥
 none_within low ns some h below s = three_within low ns some h below (stands_front (6 ∷ 5 ∷ 4 ∷ []) (3 ∷ 2 ∷ 1 ∷ 0 ∷ 7 ∷ []) (map (λ n. n % 8) ns) s)

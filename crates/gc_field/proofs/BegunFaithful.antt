@@ -30,21 +30,24 @@ use Rattle.gc_field.proofs.Vouched.{KeptIs, True, Vouched}
 
 -- The course of a client, behind what was sent and settled before.
 
--- course x is course y with these requests and these settlements in front
+-- course x is course y, with these requests and these settlements in front
 record Behind (before : List Asked) (old : List Settlement) (x y : Course) : Type 0 where
   sent : x.sent ≡ before ++ y.sent
   settled : x.settlements ≡ old ++ y.settlements
   client : x.client ≡ y.client
 
+-- `Behind` lasts over a send
 behind_send : (before : List Asked) (old : List Settlement) (x y : Course) (target : ℕ) (call : Call) (o : Option (Sending ById)) → Behind before old x y
     → Behind before old (sent_on x target call o) (sent_on y target call o)
 behind_send before old x y target call None h = h
 behind_send before old x y target call (Some s) h =
     record { sent = ap (λ l. l ++ record { target = target; call = call } ∷ []) h.sent ∙ append_assoc before y.sent (record { target = target; call = call } ∷ []); settled = h.settled; client = refl }
 
+-- `Behind` lasts over settlements
 behind_settled : (before : List Asked) (old : List Settlement) (x y : Course) (s : Settled ById) → Behind before old x y → Behind before old (settled_on x s) (settled_on y s)
 behind_settled before old x y s h = record { sent = h.sent; settled = ap (λ l. l ++ s.settlements) h.settled ∙ append_assoc old y.settlements s.settlements; client = refl }
 
+-- `Behind` lasts over a step
 behind_step : (width : ℕ) (before : List Asked) (old : List Settlement) (x y : Course) (step : Step) → Behind before old x y → Behind before old (goes width x step) (goes width y step)
 behind_step width before old x y (Send target call deadline) h =
     subst (λ c. Behind before old (sent_on x target call (sends width c target call deadline)) (sent_on y target call (sends width y.client target call deadline))) (sym h.client)
@@ -56,31 +59,37 @@ behind_step width before old x y (Expire now) h = record { sent = h.sent; settle
 behind_step width before old x y Restart h =
     subst (λ c. Behind before old (settled_on x (restarts c)) (settled_on y (restarts y.client))) (sym h.client) (behind_settled before old x y (restarts y.client) h)
 
+-- `Behind` lasts over steps
 behind_all : (width : ℕ) (before : List Asked) (old : List Settlement) (steps : List Step) (x y : Course) → Behind before old x y → Behind before old (course width x steps) (course width y steps)
 behind_all width before old [] x y h = h
 behind_all width before old (step ∷ steps) x y h = behind_all width before old steps _ _ (behind_step width before old x y step h)
 
--- eight null procedures were sent and settled
+-- the course of a new client that has sent and settled the eight null procedures
 abbrev begun_course : Course
 begun_course = record { sent = map of_sent nulls; settlements = nulls_settled; client = fresh }
 
+-- the course of a client behind a beginning is that of a new client, with the null procedures in front
 begun_behind : Behind (map of_sent nulls) nulls_settled begun_course begun
 begun_behind = record { sent = refl; settled = refl; client = refl }
 
 -- Numbers.
 
 module _ {Line : Type 0} where
+  -- these lines, each with the number of the eighth null procedure
   abbrev pub of_last : List Line → List (Numbered Line)
   of_last xs = map (λ x. record { number = 7; line = x }) xs
 
+  -- the numbers of lines that all have number 7 never fall
   rising_up : (xs : List Line) → Rising 8 (numbers (of_last xs))
   rising_up [] = tt
   rising_up (x ∷ xs) = (omega arith, rising_up xs)
 
+  -- what holds of each line, with that number, holds of all of them
   pub each_last : (P : Numbered Line → Type 0) (Q : Line → Type 0) → ((x : Line) → Q x → P (record { number = 7; line = x })) → (xs : List Line) → Each Q xs → Each P (of_last xs)
   each_last P Q f [] h = tt
   each_last P Q f (x ∷ xs) h = (f x h.0, each_last P Q f xs h.1)
 
+-- the numbers of two lists of lines that all have number 7 never fall
 rising_both : {A B : Type 0} (xs : List A) (ys : List B) → Rising 8 (numbers (of_last xs) ++ numbers (of_last ys))
 rising_both [] ys = rising_up ys
 rising_both (x ∷ xs) ys = (omega arith, rising_both xs ys)
@@ -97,6 +106,7 @@ module _ {State : Type 0} (ends : Ends State) (Good : State → Type 0) (kept : 
       sym one.sent ∙ (behind_all width (map of_sent nulls) nulls_settled (seen ms) begun_course begun begun_behind).sent
 
   module _ (u : UnderWay State) (clean : IsClean Good kept u) where
+    -- what the world of numbers keeps holds behind a clean beginning
     sound_begun : Sound width ends Good (numbers_begun u)
     sound_begun =
         let within : 8 ≤ 8 = omega arith in
@@ -114,14 +124,17 @@ module _ {State : Type 0} (ends : Ends State) (Good : State → Type 0) (kept : 
           coming = each_last (IsComing width ends Good 0 8) (λ line. heard line ≡ Some 7) (λ x e. record { recent = omega arith; sent = omega arith; id = keeper.hears x ∙ e }) u.down clean.down;
         }
 
+    -- the two worlds agree behind a clean beginning
     pub both_begun : Both width narrow ends Good ex kept (ids_begun u) (numbers_begun u)
     both_begun = record { agree = record { wire = refl; client = record { window = refl; next = refl } }; sound = sound_begun }
 
     module _ (M : ℕ → Call → List ℕ → Type 0) where
+      -- what the instrument keeps behind a clean beginning is of the eighth null procedure
       kept_begun : (k : Option KeptReply) → kept u.state ≡ k → KeptIs width narrow ends Good ex kept keeper 8 M (Vouched width narrow ends Good ex kept keeper 8 M nulls [] []) 0 8 k
       kept_begun None e = tt
       kept_begun (Some k) e = (omega arith, clean.keeps k e, inl (omega arith))
 
+      -- a request that is the eighth null procedure is the last one of a beginning
       line_is : (x : Request) → x ≡ eighth → IsOf nulls (record { number = 7; line = x })
       line_is x e = record {
         request = record { target = 0; call = NullProc; line = request_line (Some 7) NullProc };
@@ -134,6 +147,7 @@ module _ {State : Type 0} (ends : Ends State) (Good : State → Type 0) (kept : 
       never : (j n : ℕ) → slice_get [] j ≡ Some n → ⊥
       never j n e = cc
 
+      -- what the laws on the world of numbers need holds behind a clean beginning
       true_begun : True width narrow ends Good ex kept keeper 8 M (numbers_begun u)
       true_begun =
           let within : 8 ≤ 8 = omega arith in
@@ -151,7 +165,7 @@ module _ {State : Type 0} (ends : Ends State) (Good : State → Type 0) (kept : 
             once = λ keeps. record { once = λ i j m n lt run a b. absurd (never j n b); below = tt; idle = λ none. inl refl };
           }
 
-    -- the line of a request that is executed was made on executing it: with the numbers the wire is the same
+    -- each line was made on executing its request, behind these moves: the wire of the world of numbers is that of the world of ids
     made_here : (ms : List (Move State)) → ArePossible ends Good kept (by_ids width ends) ms (ids_begun u)
         → AreOn width narrow ends Good ex kept keeper 8 (omega arith) (λ n call line. WasMadeOn width ends u ms n call line) ms (numbers_begun u)
     made_here ms p front later e x rest q exe =
@@ -170,6 +184,7 @@ module _ {State : Type 0} (ends : Ends State) (Good : State → Type 0) (kept : 
           reply = ap (λ t. (ends.handed t x.line.id x.line.call).reply) (sym stands);
         }
 
+    -- moves behind a clean beginning are faithful
     pub faithful : (ms : List (Move State)) → ArePossible ends Good kept (by_ids width ends) ms (ids_begun u) → IsFaithful width ends u ms Good kept
     faithful ms p =
         let a = moved ends (by_ids width ends) ms (ids_begun u) in

@@ -25,35 +25,42 @@ use Rattle.gc_field.proofs.Moving.{both_all}
 
 -- A row has not the word, nor its first three.
 
+-- the ids of an `IsRow` don't have the word in them
 pub rows_have_not : {State : Type 0} (u : UnderWay State) → IsRow u → IsSubsequence the_word (ids_under_way u) → ⊥
 rows_have_not u h s = none_within h.low h.numbers h.some h.rising h.few (subst (IsSubsequence the_word) h.ids s)
 
+-- the ids of a row don't have 6 5 4 in them
 pub rows_have_not_three : {State : Type 0} (u : UnderWay State) → IsRow u → IsSubsequence (6 ∷ 5 ∷ 4 ∷ []) (ids_under_way u) → ⊥
 rows_have_not_three u h s = three_within h.low h.numbers h.some h.rising h.few (subst (IsSubsequence (6 ∷ 5 ∷ 4 ∷ [])) h.ids s)
 
 -- The client that is told the numbers never restarts, and what it settled doesn't become less.
 
--- a client that is told the numbers, of which the eight null procedures are settled, and that never restarted
+-- a client that is given the numbers, whose eight null procedures are settled, and which never restarted
 pub record IsBased (c : ByNumber) : Type 0 where
   pub since : c.since ≡ 0
   pub count : 8 ≤ c.count
 
 module _ {State : Type 0} (width : ℕ) (ends : Ends State) where
+  -- the client of a world of numbers is `IsBased`
   abbrev Based : World ByNumber State → Type 0
   Based w = IsBased w.client
 
+  -- a send keeps `Based`
   based_sent : (w : World ByNumber State) (target : ℕ) (call : Call) (deadline : ℕ) (full : Bool) → Based w → Based (requested w target call (number_send w.client target call deadline full))
   based_sent w target call deadline true h = h
   based_sent w target call deadline false h = record { since = h.since; count = h.count }
 
+  -- a reply keeps `IsBased`
   based_reply : (c : ByNumber) (x : Numbered (List ℕ)) (old : Bool) → ltb x.number c.count ≡ old → IsBased c → IsBased (number_reply c x old).client
   based_reply c x true t h = h
   based_reply c x false t h = record { since = h.since; count = (let ge : c.count ≤ x.number = ltb-false _ _ t in let low = h.count in omega (arith, ge, low)) }
 
+  -- a reply that comes keeps `Based`
   based_down : (w : World ByNumber State) (q : List (Numbered (List ℕ))) → Based w → Based (down_delivered (by_numbers width) w q)
   based_down w [] h = h
   based_down w (x ∷ rest) h = based_reply w.client x (ltb x.number w.client.count) refl h
 
+  -- a step of the line keeps `Based`
   based_line : (w : World ByNumber State) (step : Step) → IsOfLine step → Based w → Based (happens ends (by_numbers width) w step)
   based_line w (Send target call deadline) p h = absurd p
   based_line w Up_deliver p h = h
@@ -68,7 +75,7 @@ module _ {State : Type 0} (width : ℕ) (ends : Ends State) where
   based_line w Nothing p h = h
 
   module _ (Good : State → Type 0) (kept : State → Option KeptReply) where
-    -- (these moves are possible for the client that knows ids, from where that stands)
+    -- moves that are possible for the client that knows ids keep `Based`
     based_all : (ms : List (Move State)) (a : World ById State) (w : World ByNumber State) → ArePossible ends Good kept (by_ids width ends) ms a → Based w → Based (moved ends (by_numbers width) ms w)
     based_all [] a w p h = h
     based_all (Sends target call deadline ∷ ms) a w p h = based_all ms _ _ p.1 (based_sent w target call deadline (eqb (length w.client.requests - w.client.count) width) h)
@@ -85,6 +92,7 @@ module _ {State : Type 0} (width : ℕ) (ends : Ends State) where
 abbrev ids_at : List ℕ → List ℕ
 ids_at ns = map (λ n. n % 8) ns
 
+-- the ids of the requests under way are their numbers modulo 8
 ids_up : (since total : ℕ) (xs : List (Numbered Request)) → since ≡ 0 → Each (IsGoing since total) xs → map (λ x. x.id) (map (λ x. x.line) xs) ≡ ids_at (numbers xs)
 ids_up since total [] e h = refl
 ids_up since total (x ∷ xs) e h =
@@ -92,12 +100,14 @@ ids_up since total (x ∷ xs) e h =
     ap₂ (λ i ids. i ∷ ids) (h.0.id ∙ ap (λ n. n % 8) plain) (ids_up since total xs e h.1)
 
 module _ {State : Type 0} (width : ℕ) (ends : Ends State) (Good : State → Type 0) (same_heard : (line : List ℕ) → ends.heard line ≡ rule.heard line) where
+  -- the ids of the replies under way are their numbers modulo 8
   ids_down : (since total : ℕ) (xs : List (Numbered (List ℕ))) → since ≡ 0 → Each (IsComing width ends Good since total) xs → filter_map rule.heard (map (λ x. x.line) xs) ≡ ids_at (numbers xs)
   ids_down since total [] e h = refl
   ids_down since total (x ∷ xs) e h =
       let plain : x.number - since ≡ x.number = omega (arith, e) in
       ap₂ (λ o ids. cons_option o ids) (sym (same_heard x.line) ∙ h.0.id ∙ ap (λ n. Some (n % 8)) plain) (ids_down since total xs e h.1)
 
+  -- what is under way of such a world is an `IsRow`
   row : (c : ByNumber) (w : Wire State) (narrow : width ≤ 7) → IsBased c → Sound width ends Good (record { wire = w; client = c }) → IsRow (on_line w)
   row c w narrow base s =
       let total = length c.requests in
@@ -114,6 +124,7 @@ module _ {State : Type 0} (width : ℕ) (ends : Ends State) (Good : State → Ty
       }
 
 module _ {State : Type 0} (ends : Ends State) (Good : State → Type 0) (kept : State → Option KeptReply) (is : IsAnInstrument ends Good kept) (width : ℕ) (narrow : width ≤ 7) where
+  -- what is under way behind possible moves of a clean beginning is an `IsRow`
   pub runs_leave_rows : (u : UnderWay State) → IsClean Good kept u → (ms : List (Move State))
       → ArePossible ends Good kept (by_ids width ends) ms (ids_begun u) → IsRow (on_line (behind width ends u ms).wire)
   runs_leave_rows u clean ms p =
@@ -122,7 +133,7 @@ module _ {State : Type 0} (ends : Ends State) (Good : State → Type 0) (kept : 
       subst (λ (w : Wire State). IsRow (on_line w)) (sym both.agree.wire)
       (row width ends Good is.hears b.client b.wire narrow (based_all width ends Good kept ms (ids_begun u) (numbers_begun u) p (record { since = refl; count = omega arith })) both.sound)
 
-  -- what it leaves are lines
+  -- what a run leaves: a good state, and requests with ids below 8
   pub runs_leave_good : (u : UnderWay State) → IsClean Good kept u → (ms : List (Move State))
       → ArePossible ends Good kept (by_ids width ends) ms (ids_begun u)
       → Good (behind width ends u ms).wire.state × Each (λ x. x.id < 8) (map (λ x. x.line) (behind width ends u ms).wire.up)

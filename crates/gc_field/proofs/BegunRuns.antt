@@ -15,8 +15,8 @@ use Rattle.gc_field.proofs.BeginWords.{stands_front}
 use Rattle.gc_field.proofs.BegunFaithful.{faithful}
 use Rattle.gc_field.proofs.BegunRows.{rows_have_not_three, runs_leave_rows, runs_leave_good}
 
--- what is in flight behind n runs in a row that were killed while they began: it doesn't contain the first n + 3 ids of the
--- word
+-- what is in flight behind n runs in a row that were killed while they began: its ids don't have the first n + 3 ids of the word in
+-- them
 pub record IsShort {State : Type 0} (n : ℕ) (u : UnderWay State) : Type 0 where
   pub more : List ℕ
   pub tail : List ℕ
@@ -24,26 +24,30 @@ pub record IsShort {State : Type 0} (n : ℕ) (u : UnderWay State) : Type 0 wher
   pub few : length tail + n ≡ 5
   pub none : IsSubsequence (6 ∷ 5 ∷ more) (ids_under_way u) → ⊥
 
+-- behind an `IsRow` none were killed
 pub short_row : {State : Type 0} (u : UnderWay State) → IsRow u → IsShort 0 u
 short_row u h = record { more = 4 ∷ []; tail = 3 ∷ 2 ∷ 1 ∷ 0 ∷ 7 ∷ []; split = refl; few = refl; none = rows_have_not_three u h }
 
+-- what is an `IsShort` doesn't have the word in its ids
 pub short_word : {State : Type 0} (n : ℕ) (u : UnderWay State) → IsShort n u → IsSubsequence the_word (ids_under_way u) → ⊥
 short_word n u h s = h.none (stands_front (6 ∷ 5 ∷ h.more) h.tail (ids_under_way u) (subst (λ w. IsSubsequence w (ids_under_way u)) h.split s))
 
 module _ {State : Type 0} (ends : Ends State) (Good : State → Type 0) (kept : State → Option KeptReply) (is : IsAnInstrument ends Good kept) (width : ℕ) (narrow : width ≤ 7) where
-  -- what has begun cleanly leaves clean lines
+  -- the requests that a clean beginning leaves are copies of the eighth null procedure
   clean_up : (xs : List (Aged Request)) → Each (λ x. (x.old ≡ false) × (x.line ≡ eighth)) xs → Each (λ x. x ≡ eighth) (map (λ x. x.line) xs)
   clean_up [] h = tt
   clean_up (x ∷ xs) h = (h.0.1, clean_up xs h.1)
 
+  -- the replies that a clean beginning leaves are replies to the eighth null procedure
   clean_down : (xs : List (Aged (List ℕ))) → Each (λ x. (x.old ≡ false) × (heard x.line ≡ Some 7)) xs → Each (λ line. heard line ≡ Some 7) (map (λ x. x.line) xs)
   clean_down [] h = tt
   clean_down (x ∷ xs) h = (h.0.1, clean_down xs h.1)
 
+  -- what a clean beginning leaves is `IsClean`
   pub clean_lines : (s : Model State) → Good s.state → HasBegunCleanly kept s → IsClean Good kept (leaves s)
   clean_lines s good h = record { good = good; up = clean_up s.up h.up; down = clean_down s.down h.down; keeps = h.keeps }
 
-  -- a run that is killed while it begins
+  -- behind one more run that is killed while it begins, `IsShort` holds of one more
   short_killed : (n : ℕ) (u : UnderWay State) (r : Run State) → AreLines Good u → AreTurns ends Good kept r.turns (begins u) → n + 1 ≤ 5 → (tail : List ℕ)
       → (h : IsShort n u) → h.tail ≡ tail → IsShort (n + 1) (leaves (stood width ends u r))
   short_killed n u r lines turns few [] h e = absurd (let size = h.few in let none : length h.tail ≡ 0 = ap length e in omega (arith, size, none, few))
@@ -57,12 +61,14 @@ module _ {State : Type 0} (ends : Ends State) (Good : State → Type 0) (kept : 
         none = left_absent ends Good kept is u r.turns 6 5 h.more c tail split lines turns h.none;
       }
 
-  -- one run
+  -- what a run comes to, by the ids that are left of its word. None: it has begun cleanly, is faithful, and behind it none were killed
+  -- in a row. Some: it was killed, and behind it one more was
   pub record Goes (n : ℕ) (u : UnderWay State) (r : Run State) (left : List ℕ) : Type 0 where
     pub own : IsOwnIf width ends Good kept left (stood width ends u r) r.moves
     pub lines : AreLines Good (left_if width ends left (stood width ends u r) r.moves)
     pub short : IsShort (killed_if width ends left n) (left_if width ends left (stood width ends u r) r.moves)
 
+  -- each run comes to what `Goes` says
   pub goes : (n : ℕ) (u : UnderWay State) (r : Run State) (left : List ℕ) → (stood width ends u r).left ≡ left → AreLines Good u → IsShort n u → AreTurns ends Good kept r.turns (begins u)
       → ArePossibleIf width ends Good kept left (stood width ends u r) r.moves → killed_if width ends left n ≤ 5 → Goes n u r left
   goes n u r [] e lines short turns p few =
@@ -81,12 +87,14 @@ module _ {State : Type 0} (ends : Ends State) (Good : State → Type 0) (kept : 
     short = short_killed n u r lines turns few short.tail short refl;
   }
 
+  -- runs one after the other have begun cleanly, and are faithful, as long as few are killed
   all_own : (rs : List (Run State)) (n : ℕ) (u : UnderWay State) → AreLines Good u → IsShort n u → AreRuns width ends Good kept u rs → AreFewKilled width ends n u rs → AreOwn width ends Good kept u rs
   all_own [] n u lines short runs few = tt
   all_own (r ∷ rs) n u lines short runs few =
       let one = goes n u r (stood width ends u r).left refl lines short runs.0.0 runs.0.1 few.0 in
       (one.own, all_own rs (killed_if width ends (stood width ends u r).left n) (left_by_run width ends u r) one.lines one.short runs.1 few.1)
 
+  -- runs one after the other are their own, behind an `IsRow`, as long as few are killed while they begin
   pub runs_are_their_own : (u : UnderWay State) → AreLines Good u → IsRow u → (rs : List (Run State)) → AreRuns width ends Good kept u rs
       → AreFewKilled width ends 0 u rs → AreOwn width ends Good kept u rs
   runs_are_their_own u lines row rs runs few = all_own rs 0 u lines (short_row u row) runs few

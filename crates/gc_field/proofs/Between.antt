@@ -21,60 +21,71 @@ use Rattle.gc_field.proofs.BegunFaithful.{each_last}
 
 -- What the instrument becomes.
 
+-- the state behind two lists of calls is the one behind the second, from the one behind the first on
 executing_append : {State : Type 0} (effect : State → Call → State) (xs ys : List Call) (s : State) → executing effect s (xs ++ ys) ≡ executing effect (executing effect s xs) ys
 executing_append effect [] ys s = refl
 executing_append effect (call ∷ xs) ys s = executing_append effect xs ys (effect s call)
 
 module _ {State : Type 0} (ends : Ends State) where
-  -- two states that are alike apart from what is kept go on to two that are
+  -- two states that are alike apart from what is kept are so behind the same calls
   executing_alike : (apart : State → State) (effect : State → Call → State) → HasEffect ends apart effect → (calls : List Call) (s t : State)
       → apart s ≡ apart t → apart (executing effect s calls) ≡ apart (executing effect t calls)
   executing_alike apart effect has [] s t e = e
   executing_alike apart effect has (call ∷ calls) s t e = executing_alike apart effect has calls (effect s call) (effect t call) (has.alike s t call e)
 
-  -- what these calls make of one state is the other, for each effect that executing has
+  -- executing these calls makes the second state of the first, apart from what is kept, for each effect that executing has
   abbrev pub IsMadeBy : State → List Call → State → Type 0
   IsMadeBy s calls t = (apart : State → State) (effect : State → Call → State) → HasEffect ends apart effect → apart t ≡ apart (executing effect s calls)
 
+  -- if calls make the second state of the first, and others the third of the second, both together make the third of the first
   pub made_both : (r s t : State) (xs ys : List Call) → IsMadeBy r xs s → IsMadeBy s ys t → IsMadeBy r (xs ++ ys) t
   made_both r s t xs ys h g apart effect has =
       g apart effect has ∙ executing_alike apart effect has ys s (executing effect r xs) (h apart effect has) ∙ ap apart (sym (executing_append effect xs ys r))
 
+  -- no calls leave a state as it is
   made_none : (s t : State) → t ≡ s → IsMadeBy s [] t
   made_none s t e apart effect has = ap apart e
 
+  -- an executed call makes the state behind it
   made_one : (s : State) (id : ℕ) (call : Call) → (ends.handed s id call).executed ≡ true → IsMadeBy s (call ∷ []) (ends.handed s id call).state
   made_one s id call e apart effect has = has.executes s id call e
 
+  -- a line that is sent again changes nothing but what is kept
   made_again : (s : State) (id : ℕ) (call : Call) → (ends.handed s id call).executed ≡ false → IsMadeBy s [] (ends.handed s id call).state
   made_again s id call e apart effect has = has.repeats s id call e
 
 -- What happens from one wire to another.
 
+-- the calls of requests stay where more are sent
 pub calls_more : (sent more : List Sent) (ns : List ℕ) (calls : List Call) → AreCalls sent ns calls → AreCalls (sent ++ more) ns calls
 calls_more sent more [] [] h = tt
 calls_more sent more [] (call ∷ calls) h = absurd h
 calls_more sent more (n ∷ ns) [] h = absurd h
 calls_more sent more (n ∷ ns) (call ∷ calls) h = ((h.0.0, get_more sent more n h.0.0 h.0.1, h.0.2), calls_more sent more ns calls h.1)
 
+-- the calls of two lists of requests are those of the first and then those of the second
 calls_append : (sent : List Sent) (ns ks : List ℕ) (xs ys : List Call) → AreCalls sent ns xs → AreCalls sent ks ys → AreCalls sent (ns ++ ks) (xs ++ ys)
 calls_append sent [] ks [] ys h g = g
 calls_append sent [] ks (x ∷ xs) ys h g = absurd h
 calls_append sent (n ∷ ns) ks [] ys h g = absurd h
 calls_append sent (n ∷ ns) ks (x ∷ xs) ys h g = (h.0, calls_append sent ns ks xs ys h.1 g)
 
+-- a request under way is one that was sent, with its call
 abbrev IsKnown : List Sent → Numbered Request → Type 0
 IsKnown sent x = (r : Sent) × (slice_get sent x.number ≡ Some r) × (r.call ≡ x.line.call)
 
+-- a request that was sent was sent where more are sent, too
 known_more : (sent more : List Sent) (x : Numbered Request) → IsKnown sent x → IsKnown (sent ++ more) x
 known_more sent more x h = (h.0, get_more sent more x.number h.0 h.1, h.2)
 
+-- where each start had at most as many executions before it as there are, so it had where there are more
 begun_more : (xs ys starts : List ℕ) → Each (λ s. s ≤ length xs) starts → Each (λ s. s ≤ length (xs ++ ys)) starts
 begun_more xs ys starts h = let size : length (xs ++ ys) ≡ length xs + length ys = length-append xs ys in
     each_more (λ s. s ≤ length xs) (λ s. s ≤ length (xs ++ ys)) (λ s l. omega (arith, l, size)) starts h
 
 module _ {State : Type 0} (ends : Ends State) where
-  -- these were executed; it didn't start where it is quiet; and where it is undisturbed, it is what they made of it
+  -- what happened between two wires: which requests were executed; no start where it is `quiet`; and where it is `still`, the
+  -- instrument's state is what these made of it
   pub record Did (v w : Wire State) (quiet still : Type 0) : Type 0 where
     pub numbers : List ℕ
     pub calls : List Call
@@ -85,6 +96,7 @@ module _ {State : Type 0} (ends : Ends State) where
     pub starts : quiet → w.starts ≡ v.starts
     pub state : still → IsMadeBy ends v.state calls w.state
 
+  -- one stretch and another behind it, as one, which is quiet or undisturbed as the second is
   did_both : (u v w : Wire State) (q p s r : Type 0) → (q → p) → (s → r) → Did u v p r → Did v w q s → Did u w q s
   did_both u v w q p s r f g h i = record {
     numbers = h.numbers ++ i.numbers;
@@ -97,7 +109,7 @@ module _ {State : Type 0} (ends : Ends State) where
     state = λ still. made_both ends u.state v.state w.state h.calls i.calls (h.state (g still)) (i.state still);
   }
 
-  -- nothing was executed
+  -- where nothing was executed, `Did` holds
   did_none : (v w : Wire State) (quiet still : Type 0) (more : List Sent) → w.executed ≡ v.executed → w.sent ≡ v.sent ++ more → (quiet → w.starts ≡ v.starts)
       → (still → IsMadeBy ends v.state [] w.state) → Did v w quiet still
   did_none v w quiet still more executed sent starts state = record {
@@ -111,20 +123,22 @@ module _ {State : Type 0} (ends : Ends State) where
     state = state;
   }
 
-  -- no part of it that counts changed
+  -- where the executions, the requests, the starts and the state are the same, `Did` holds
   did_same : (v w : Wire State) (quiet still : Type 0) → w.executed ≡ v.executed → w.sent ≡ v.sent → w.starts ≡ v.starts → w.state ≡ v.state → Did v w quiet still
   did_same v w quiet still executed sent starts state =
       did_none v w quiet still [] executed (sent ∙ sym (append-nil v.sent)) (λ q. starts) (λ s. made_none ends v.state w.state state)
 
-  -- of every wire: each request under way is one that was sent, with its call; and no start came behind more executions than there are
+  -- each request under way is one that was sent, with its call; and each start had at most as many executions before it as there are
   pub record Refines (w : Wire State) : Type 0 where
     pub known : Each (IsKnown w.sent) w.up
     pub begun : Each (λ s. s ≤ length w.executed) w.starts
 
+  -- what happened between two wires, and that the second one still `Refines`
   record Goes (v w : Wire State) (quiet still : Type 0) : Type 0 where
     did : Did v w quiet still
     stands : Refines w
 
+  -- where the lines under way alone changed, `Goes` holds: nothing was executed
   goes_same : (v w : Wire State) (quiet still : Type 0) → w.executed ≡ v.executed → w.sent ≡ v.sent → w.starts ≡ v.starts → w.state ≡ v.state
       → Each (IsKnown v.sent) w.up → Refines v → Goes v w quiet still
   goes_same v w quiet still executed sent starts state known k = record {
@@ -137,9 +151,11 @@ module _ {State : Type 0} (ends : Ends State) where
 
   -- the request in front reaches the instrument
   module _ (v : Wire State) (x : Numbered Request) (rest : List (Numbered Request)) (quiet still : Type 0) (q : v.up ≡ x ∷ rest) (k : Refines v) where
+    -- the request in front, and those behind it, were sent
     known_here : IsKnown v.sent x × Each (IsKnown v.sent) rest
     known_here = subst (λ l. Each (IsKnown v.sent) l) q k.known
 
+    -- what the instrument did with the request in front: it executed it, or sent a line again
     reached_by : (hd : Handed State) (b : Bool) → hd.executed ≡ b → (hd.executed ≡ true → IsMadeBy ends v.state (x.line.call ∷ []) hd.state)
         → (hd.executed ≡ false → IsMadeBy ends v.state [] hd.state) → Goes v (replied v x.number rest hd) quiet still
     reached_by hd true e new same =
@@ -166,27 +182,33 @@ module _ {State : Type 0} (ends : Ends State) where
           stands = record { known = known_here.1; begun = subst (λ l. Each (λ s. s ≤ length l) v.starts) (sym acted) k.begun };
         }
 
+    -- a request reached the instrument
     reached : Goes v (replied v x.number rest (ends.handed v.state x.line.id x.line.call)) quiet still
     reached =
         let hd = ends.handed v.state x.line.id x.line.call in
         reached_by hd hd.executed refl (λ e. made_one ends v.state x.line.id x.line.call e) (λ e. made_again ends v.state x.line.id x.line.call e)
 
+  -- where the request in front reaches the instrument, if one is under way, `Goes` holds
   goes_up : (v : Wire State) (quiet still : Type 0) (q : List (Numbered Request)) → v.up ≡ q → Refines v → Goes v (up_delivered ends v q) quiet still
   goes_up v quiet still [] e k = goes_same v _ quiet still refl refl refl refl k.known k
   goes_up v quiet still (x ∷ rest) e k = reached v x rest quiet still e k
 
+  -- where the requests under way change, or stay, `Goes` holds
   goes_with_up : (v : Wire State) (quiet still : Type 0) (up : List (Numbered Request)) (b : Bool) → Each (IsKnown v.sent) up → Refines v → Goes v (with_up v up b) quiet still
   goes_with_up v quiet still up true known k = goes_same v _ quiet still refl refl refl refl known k
   goes_with_up v quiet still up false known k = goes_same v _ quiet still refl refl refl refl k.known k
 
+  -- where the replies under way change, or stay, `Goes` holds
   goes_with_down : (v : Wire State) (quiet still : Type 0) (down : List (Numbered (List ℕ))) (b : Bool) → Refines v → Goes v (with_down v down b) quiet still
   goes_with_down v quiet still down true k = goes_same v _ quiet still refl refl refl refl k.known k
   goes_with_down v quiet still down false k = goes_same v _ quiet still refl refl refl refl k.known k
 
+  -- where the reply in front comes, `Goes` holds
   goes_down : (w : World ById State) (quiet still : Type 0) (q : List (Numbered (List ℕ))) → Refines w.wire → Goes w.wire (down_delivered (by_ids 7 ends) w q).wire quiet still
   goes_down w quiet still [] k = goes_same w.wire _ quiet still refl refl refl refl k.known k
   goes_down w quiet still (x ∷ rest) k = goes_same w.wire _ quiet still refl refl refl refl k.known k
 
+  -- where a request is sent, or refused, `Goes` holds
   goes_sent : (w : World ById State) (quiet still : Type 0) (target : ℕ) (call : Call) (o : Option (Sending ById)) → Refines w.wire → Goes w.wire (requested w target call o).wire quiet still
   goes_sent w quiet still target call None k = goes_same w.wire _ quiet still refl refl refl refl k.known k
   goes_sent w quiet still target call (Some x) k =
@@ -200,6 +222,7 @@ module _ {State : Type 0} (ends : Ends State) where
         };
       }
 
+  -- where a step of the line happens, `Goes` holds
   goes_line : (w : World ById State) (quiet still : Type 0) (step : Step) → IsOfLine step → Refines w.wire → Goes w.wire (happens ends (by_ids 7 ends) w step).wire quiet still
   goes_line w quiet still (Send target call deadline) p k = absurd p
   goes_line w quiet still Up_deliver p k = goes_up w.wire quiet still w.wire.up refl k
@@ -213,14 +236,15 @@ module _ {State : Type 0} (ends : Ends State) where
   goes_line w quiet still Restart_instrument p k = absurd p
   goes_line w quiet still Nothing p k = goes_same w.wire _ quiet still refl refl refl refl k.known k
 
-  -- one move, and those behind it
+  -- where `Goes` holds over one move, and over those behind it, it holds over all
   goes_then : (u v w : Wire State) (p q r s : Type 0) → (q → p) → (s → r) → Goes u v p r → Goes v w q s → Goes u w q s
   goes_then u v w p q r s f g h i = record { did = did_both u v w q p s r f g h.did i.did; stands = i.stands }
 
+  -- where `Goes` holds over one stretch and over another behind it, with the same premises, it holds over both
   goes_alike : (u v w : Wire State) (q s : Type 0) → Goes u v q s → Goes v w q s → Goes u w q s
   goes_alike u v w q s h i = goes_then u v w q q s s (λ x. x) (λ x. x) h i
 
-  -- what came of it holds where less is known
+  -- where `Goes` holds, it holds under stronger premises, too
   goes_less : (v w : Wire State) (p q r s : Type 0) → (q → p) → (s → r) → Goes v w p r → Goes v w q s
   goes_less v w p q r s f g h = record {
     did = record {
@@ -236,12 +260,14 @@ module _ {State : Type 0} (ends : Ends State) where
     stands = h.stands;
   }
 
+  -- where the instrument starts, `Goes` holds: the stretch is neither quiet nor still
   goes_anew : (v : Wire State) → Refines v → Goes v (started ends v true) ⊥ ⊥
   goes_anew v k = record {
     did = did_none v (started ends v true) ⊥ ⊥ [] refl (sym (append-nil v.sent)) (λ e. absurd e) (λ e. absurd e);
     stands = record { known = k.known; begun = each_append (λ s. s ≤ length v.executed) v.starts (length v.executed ∷ []) k.begun (omega arith, tt) };
   }
 
+  -- where the instrument's state changes by itself, `Goes` holds: the stretch isn't still
   goes_changed : (v : Wire State) (quiet : Type 0) (state : State) → Refines v → Goes v (record v { state = state }) quiet ⊥
   goes_changed v quiet state k = record {
     did = did_none v (record v { state = state }) quiet ⊥ [] refl (sym (append-nil v.sent)) (λ q. refl) (λ e. absurd e);
@@ -249,6 +275,7 @@ module _ {State : Type 0} (ends : Ends State) where
   }
 
   module _ (Good : State → Type 0) (kept : State → Option KeptReply) where
+    -- what happened by moves
     goes_all : (ms : List (Move State)) (w : World ById State) → ArePossible ends Good kept (by_ids 7 ends) ms w → Refines w.wire
         → Goes w.wire (moved ends (by_ids 7 ends) ms w).wire (HasNoStartBetween ms) (IsUndisturbed ms)
     goes_all [] w p k = goes_same w.wire w.wire (Unit {0}) (Unit {0}) refl refl refl refl k.known k
@@ -271,22 +298,25 @@ module _ {State : Type 0} (ends : Ends State) where
         (goes_less (record w.wire { state = state }) _ (HasNoStartBetween ms) (HasNoStartBetween ms) (IsUndisturbed ms) ⊥ (λ q. q) (λ e. absurd e) (goes_all ms _ p.1 one.stands))
     goes_all (Joins line ∷ ms) w p k = absurd p.0
 
+    -- a copy of the eighth null procedure was sent
     known_last : (x : Request) → x ≡ eighth → IsKnown nulls (record { number = 7; line = x })
     known_last x e = (record { target = 0; call = NullProc; line = request_line (Some 7) NullProc }, refl, sym (ap (λ (r : Request). r.call) e))
 
+    -- behind a clean beginning the wire `Refines`
     stands_begun : (u : UnderWay State) → IsClean Good kept u → Refines (ids_begun u).wire
     stands_begun u clean = record { known = each_last (IsKnown nulls) (λ x. x ≡ eighth) known_last u.up clean.up; begun = tt }
 
-    -- so each wire stands, once it has begun cleanly
+    -- behind a clean beginning, and moves, the wire `Refines`
     pub stands_all : (ms : List (Move State)) (u : UnderWay State) → IsClean Good kept u → ArePossible ends Good kept (by_ids 7 ends) ms (ids_begun u)
         → Refines (moved ends (by_ids 7 ends) ms (ids_begun u)).wire
     stands_all ms u clean p = (goes_all ms (ids_begun u) p (stands_begun u clean)).stands
 
+    -- what happened between two wires by moves
     pub did_all : (ms : List (Move State)) (w : World ById State) → ArePossible ends Good kept (by_ids 7 ends) ms w → Refines w.wire
         → Did w.wire (moved ends (by_ids 7 ends) ms w).wire (HasNoStartBetween ms) (IsUndisturbed ms)
     did_all ms w p k = (goes_all ms w p k).did
 
-  -- the request in front is executed
+  -- the request in front is executed by this move
   pub acted : (w : World ById State) (x : Numbered Request) (rest : List (Numbered Request)) → w.wire.up ≡ x ∷ rest → (ends.handed w.wire.state x.line.id x.line.call).executed ≡ true
       → ((moves ends (by_ids 7 ends) w (OnLine Up_deliver)).wire.executed ≡ w.wire.executed ++ x.number ∷ [])
       × IsMadeBy ends w.wire.state (x.line.call ∷ []) (moves ends (by_ids 7 ends) w (OnLine Up_deliver)).wire.state

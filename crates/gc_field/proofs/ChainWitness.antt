@@ -21,18 +21,21 @@ use Rattle.gc_world.specs.Clients.{ends}
 use Rattle.gc_field.specs.Begin.{begins}
 use Rattle.gc_field.specs.Witness.{eight, plan, replies}
 
+-- each command is chained to the one before it
 pub all_chained : AreChained commands 0 2
 all_chained zero above upto = absurd (omega (arith, above))
 all_chained (suc zero) above upto = refl
 all_chained (suc (suc zero)) above upto = refl
 all_chained (suc (suc (suc p))) above upto = absurd (omega (arith, upto))
 
+-- no command between the first and the third turns the telescope
 none_turns : AreStill commands 0 2
 none_turns zero task above under e = absurd (omega (arith, above))
 none_turns (suc zero) task above under e =
     let one : Task = record { command = record { target = 7; call = measures }; deadline = 100; chained = true; near = None } in ap (λ (t : Task). turns t.command.call) (sym (some_is one task e))
 none_turns (suc (suc p)) task above under e = absurd (omega (arith, under))
 
+-- the run's parts: one, with the requests by place and moment
 parts_are : parts_of plan commands (opening plan scope) acts ≡ one_part (asked_each replies) (seen moves) ((0, 15) ∷ (1, 20) ∷ (2, 25) ∷ [])
 unfolding is_elsewhere header_at reply_at digits rounded
 parts_are = refl
@@ -41,6 +44,7 @@ shown_are : shown ends eight (begins before) ≡ asked_each replies
 unfolding is_elsewhere header_at reply_at handed exec digits rounded
 shown_are = refl
 
+-- this run of a chain is in the field, and the telescope points where the first command pointed it
 pub chain : IsPointedInField
 unfolding is_elsewhere header_at reply_at handed exec digits rounded
 chain =

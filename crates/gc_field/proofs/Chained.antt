@@ -41,24 +41,27 @@ use Rattle.gc_field.specs.Runs.{IsInField, IsItsOwn, IsOwnAnswer, AreSentAs, own
 use Rattle.gc_field.specs.Shown.{AreShownAs, Stretch, shown, stretches}
 use Rattle.gc_field.proofs.InTime.{clean_of, front_nil}
 use Rattle.gc_field.proofs.Possible.{possible_front}
-use Rattle.gc_field.proofs.Joining.{AllFit, Fits, all_fitting, get_drop, run_faithful}
+use Rattle.gc_field.proofs.Among.{get_drop}
+use Rattle.gc_field.proofs.Joining.{AllFit, Fits, all_fitting, run_faithful}
 use Rattle.gc_field.proofs.Ordered.{executed_behind}
 
 -- The front of a run.
 
--- parts, of which the last one may go on in others
+-- these parts are the first of those, where the last one may go on in others
 abbrev IsFront : List Part → List Part → Type 0
 IsFront [] qs = ⊥
 IsFront (p ∷ ps) [] = ⊥
 IsFront (p ∷ []) (q ∷ qs) = (more : Part) × (q ≡ joined p more)
 IsFront (p ∷ next ∷ ps) (q ∷ qs) = (q ≡ p) × IsFront (next ∷ ps) qs
 
+-- three parts, one behind the other, are joined in either order
 joined_assoc : (p q r : Part) → joined (joined p q) r ≡ joined p (joined q r)
 joined_assoc p q r =
     ap (λ (turns : List part.Turn). record { turns = turns; steps = (p.steps ++ q.steps) ++ r.steps; marks = (p.marks ++ q.marks) ++ r.marks }) (append_assoc p.turns q.turns r.turns)
     ∙ ap (λ (steps : List step.Step). record { turns = p.turns ++ (q.turns ++ r.turns); steps = steps; marks = (p.marks ++ q.marks) ++ r.marks }) (append_assoc p.steps q.steps r.steps)
     ∙ ap (λ (marks : List _). record { turns = p.turns ++ (q.turns ++ r.turns); steps = p.steps ++ (q.steps ++ r.steps); marks = marks }) (append_assoc p.marks q.marks r.marks)
 
+-- `IsFront` lasts where the same part is put in front of both lists
 front_more : (p : Part) (b : Bool) (ps qs : List Part) → IsFront ps qs → IsFront (in_front p b ps) (in_front p b qs)
 front_more p b [] qs h = absurd h
 front_more p true (x ∷ ps) [] h = absurd h
@@ -67,11 +70,13 @@ front_more p true (x ∷ ps) (y ∷ qs) h = (refl, h)
 front_more p false (x ∷ []) (y ∷ qs) h = (h.0, ap (joined p) h.1 ∙ sym (joined_assoc p x h.0))
 front_more p false (x ∷ next ∷ ps) (y ∷ qs) h = (ap (joined p) h.0, h.1)
 
+-- the part in which nothing happens is a front of any parts
 front_none : (p : Part) (b : Bool) (ps : List Part) → IsFront (nothing ∷ []) (in_front p b ps)
 front_none p true ps = (p, refl)
 front_none p false [] = (p, refl)
 front_none p false (q ∷ ps) = (joined p q, refl)
 
+-- the parts of the first acts are a front of the parts of all
 front_parts : (plan : Plan) (commands : List Task) (s : Model) (xs ys : List Act) → IsFront (parts_of plan commands s xs) (parts_of plan commands s (xs ++ ys))
 front_parts plan commands s [] [] = (nothing, refl)
 front_parts plan commands s [] (act ∷ ys) =
@@ -81,11 +86,12 @@ front_parts plan commands s (act ∷ xs) ys =
     (parts_of plan commands (after plan commands s act) (xs ++ ys))
     (front_parts plan commands (after plan commands s act) xs ys)
 
+-- the first acts of a run are a run
 runs_front : (plan : Plan) (commands : List Task) (s : Model) (xs ys : List Act) → Runs plan commands s (xs ++ ys) → Runs plan commands s xs
 runs_front plan commands s [] ys h = tt
 runs_front plan commands s (act ∷ xs) ys h = (h.0, runs_front plan commands (after plan commands s act) xs ys h.1)
 
--- the last of them is the front of one
+-- the last part of a front is the front of a part of the whole
 front_last : (ps qs : List Part) (i : ℕ) (p q : Part) → IsFront ps qs → length ps ≡ suc i → slice_get ps i ≡ Some p → slice_get qs i ≡ Some q → (more : Part) × (q ≡ joined p more)
 front_last [] qs i p q h size e f = absurd h
 front_last (x ∷ ps) [] i p q h size e f = absurd h
@@ -96,22 +102,24 @@ front_last (x ∷ next ∷ ps) (y ∷ qs) (suc i) p q h size e f = front_last (n
 
 -- Where a request went out in the last of them, it had begun, and no turn came behind that.
 
+-- if the last part of the first list has requests, its turns are those of the part at its place in the second
 abbrev AreWhole : List Part → List Part → Type 0
 AreWhole [] qs = ⊥
 AreWhole (p ∷ ps) [] = ⊥
 AreWhole (p ∷ []) (q ∷ qs) = (p.marks ≡ []) ⊎ (q.turns ≡ p.turns)
 AreWhole (p ∷ next ∷ ps) (q ∷ qs) = AreWhole (next ∷ ps) qs
 
+-- the part in which nothing happens is whole in front of any parts
 whole_none : (p : Part) (b : Bool) (ps : List Part) → AreWhole (nothing ∷ []) (in_front p b ps)
 whole_none p true ps = inl refl
 whole_none p false [] = inl refl
 whole_none p false (q ∷ ps) = inl refl
 
+-- two parts without turns, joined to the same one, give parts with the same turns
 turns_alike : (p x y : Part) → x.turns ≡ [] → y.turns ≡ [] → (joined p y).turns ≡ (joined p x).turns
 turns_alike p x y e f = ap (λ l. p.turns ++ l) (f ∙ sym e)
 
--- `AreWhole` holds with part p in front of both lists too, if p has no marks, or the parts that it is joined to have no
--- turns
+-- `AreWhole` holds with part p in front of both lists, too, if p has no marks, or if the parts that it is joined to have no turns
 whole_more : (p : Part) (b : Bool) (ps qs : List Part) → (p.marks ≡ []) ⊎ (b ≡ false → FirstHasNone ps × FirstHasNone qs) → AreWhole ps qs → AreWhole (in_front p b ps) (in_front p b qs)
 whole_more p b [] qs k h = absurd h
 whole_more p true (x ∷ ps) [] k h = absurd h
@@ -123,7 +131,7 @@ whole_more p false (x ∷ []) (y ∷ qs) (inr g) (inl f) = inr (turns_alike p x 
 whole_more p false (x ∷ next ∷ ps) (y ∷ qs) k h = h
 
 module _ (plan : Plan) (commands : List Task) where
-  -- an act sends nothing while it begins; and once it has begun no turn comes until the next part
+  -- an act sends nothing while the station begins; and once the station has begun, no turn comes until the next part
   sends_or_not : (s : Model) (act : Act) (xs ys : List Act) (b : Bool) → has_begun s.progress ≡ b → let t = after plan commands s act in
       ((if b then doing plan commands s (action_at plan s) act else beginning s (action_at plan s) act).marks ≡ [])
       ⊎ ((b && loses_all t.progress) ≡ false → FirstHasNone (parts_of plan commands t xs) × FirstHasNone (parts_of plan commands t ys))
@@ -132,6 +140,7 @@ module _ (plan : Plan) (commands : List Task) where
       let t = after plan commands s act in
       inr (λ f. (no_turns plan commands t xs (goes_begun plan commands t f), no_turns plan commands t ys (goes_begun plan commands t f)))
 
+  -- the parts of the first acts of a run are whole in the parts of all
   whole_parts : (s : Model) (xs ys : List Act) → AreWhole (parts_of plan commands s xs) (parts_of plan commands s (xs ++ ys))
   whole_parts s [] [] = inl refl
   whole_parts s [] (act ∷ ys) = whole_none (acting plan commands s (action_at plan s) act) (ends_part plan commands s act) (parts_of plan commands (after plan commands s act) ys)
@@ -141,16 +150,18 @@ module _ (plan : Plan) (commands : List Task) where
       (sends_or_not s act xs (xs ++ ys) (has_begun s.progress) refl)
       (whole_parts (after plan commands s act) xs ys)
 
--- a request went out in the last of them
+-- the last of these parts has a request
 abbrev LastIsMarked : List Part → Type 0
 LastIsMarked [] = Unit {0}
 LastIsMarked (p ∷ []) = p.marks ≡ [] → ⊥
 LastIsMarked (p ∷ next ∷ ps) = LastIsMarked (next ∷ ps)
 
+-- a list with an element isn't empty
 marked : {A : Type 0} (xs : List A) (m : ℕ) (x : A) → slice_get xs m ≡ Some x → xs ≡ [] → ⊥
 marked [] m x got e = none_is_not x got
 marked (y ∷ xs) m x got e = cc
 
+-- where the last part has a mark, `LastIsMarked` holds
 last_marked : (ps : List Part) (i m : ℕ) (p : Part) (mark : _) → length ps ≡ suc i → slice_get ps i ≡ Some p → slice_get p.marks m ≡ Some mark → LastIsMarked ps
 last_marked [] i m p mark size e got = tt
 last_marked (x ∷ []) zero m p mark size e got = marked x.marks m mark (subst (λ (y : Part). slice_get y.marks m ≡ Some mark) (sym (some_is x p e)) got)
@@ -166,13 +177,14 @@ cons_head x y xs ys e = cc
 cons_tail : {A : Type 0} (x y : A) (xs ys : List A) → x ∷ xs ≡ y ∷ ys → xs ≡ ys
 cons_tail x y xs ys e = cc
 
--- the moves are cut behind those whose steps a client sees as xs
+-- these moves are cut behind those whose steps a client sees as `xs`
 record SplitSeen {State : Type 0} (ms : List (Move State)) (xs : List step.Step) : Type 0 where
   front : List (Move State)
   later : List (Move State)
   order : ms ≡ front ++ later
   steps : seen front ≡ xs
 
+-- `SplitSeen` lasts where a move that the client sees is put in front
 split_visible : {State : Type 0} (m : Move State) (st x : step.Step) (ms : List (Move State)) (xs ys : List step.Step)
     → ((l : List (Move State)) → seen (m ∷ l) ≡ st ∷ seen l) → (seen ms ≡ xs ++ ys → SplitSeen ms xs) → seen (m ∷ ms) ≡ x ∷ (xs ++ ys)
     → SplitSeen (m ∷ ms) (x ∷ xs)
@@ -186,6 +198,7 @@ split_visible m st x ms xs ys shows again e =
       steps = shows h.front ∙ ap (λ l. st ∷ l) h.steps ∙ ap (λ z. z ∷ xs) (cons_head st x (seen ms) (xs ++ ys) both);
     }
 
+-- moves whose steps are two lists are cut so
 split_seen : {State : Type 0} (ms : List (Move State)) (xs ys : List step.Step) → seen ms ≡ xs ++ ys → SplitSeen ms xs
 split_seen ms [] ys e = record { front = []; later = ms; order = refl; steps = refl }
 split_seen [] (x ∷ xs) ys e = cc
@@ -199,13 +212,14 @@ split_seen (Changes state ∷ ms) (x ∷ xs) ys e = let h = split_seen ms (x ∷
     record { front = Changes state ∷ h.front; later = h.later; order = ap (λ l. Changes state ∷ l) h.order; steps = h.steps }
 split_seen (Joins line ∷ ms) (x ∷ xs) ys e = let h = split_seen ms (x ∷ xs) ys e in record { front = Joins line ∷ h.front; later = h.later; order = ap (λ l. Joins line ∷ l) h.order; steps = h.steps }
 
--- a stretch up to some move
+-- the first of these stretches is the front of the second, up to some move
 record IsCutOf {State : Type 0} (t s : Stretch State) : Type 0 where
   front : List (Move State)
   later : List (Move State)
   is : t ≡ record { from = s.from; moves = front }
   order : s.moves ≡ front ++ later
 
+-- the first of these stretches, cut behind some moves, is a cut of the first
 first_cut : {State : Type 0} (s : Stretch State) (ss : List (Stretch State)) (front later : List (Move State)) → s.moves ≡ front ++ later → (i : ℕ) (u v : Stretch State) → i ≡ 0
     → slice_get (record { from = s.from; moves = front } ∷ []) i ≡ Some u → slice_get (s ∷ ss) i ≡ Some v → IsCutOf u v
 first_cut s ss front later order zero u v is a b =
@@ -213,19 +227,23 @@ first_cut s ss front later order zero u v is a b =
 first_cut s ss front later order (suc i) u v is a b = absurd (omega (arith, is))
 
 module _ {State : Type 0} (ends : Ends State) (Good : State → Type 0) (kept : State → Option KeptReply) where
+  -- what a run leaves under way once it has begun
   abbrev from_of : UnderWay State → Run State → UnderWay State
   from_of u r = leaves (turned ends r.turns (begins u))
 
+  -- the front of possible moves is possible
   possible_cut : (left : List ℕ) (s : Begins State) (ms front later : List (Move State)) → ms ≡ front ++ later → ArePossibleIf 7 ends Good kept left s ms → ArePossibleIf 7 ends Good kept left s front
   possible_cut [] s ms front later e p = possible_front 7 ends Good kept front later (ids_begun (leaves s)) (subst (λ l. ArePossible ends Good kept (by_ids 7 ends) l (ids_begun (leaves s))) e p)
   possible_cut (asked ∷ rest) s ms front later e p = front_nil front later (sym p ∙ e)
 
+  -- runs that show the first parts of a run: each as in the whole one, and the last one cut
   record Cut (ps : List Part) (u : UnderWay State) (rs : List (Run State)) : Type 0 where
     runs : List (Run State)
     shown : AreShownAs ends u runs ps
     possible : AreRuns 7 ends Good kept u runs
     last : (i : ℕ) (t s : Stretch State) → length ps ≡ suc i → slice_get (stretches ends u runs) i ≡ Some t → slice_get (stretches ends u rs) i ≡ Some s → IsCutOf t s
 
+  -- a run is cut behind the moves of its part
   cut_one : (p : Part) (u : UnderWay State) (r : Run State) (rs : List (Run State)) → shown ends r.turns (begins u) ≡ p.turns → SplitSeen r.moves p.steps → AreTurns ends Good kept r.turns (begins u)
       → ArePossibleIf 7 ends Good kept (stood_by 7 ends u r).left (stood_by 7 ends u r) r.moves → Cut (p ∷ []) u (r ∷ rs)
   cut_one p u r rs e x turns possible = record {
@@ -235,12 +253,14 @@ module _ {State : Type 0} (ends : Ends State) (Good : State → Type 0) (kept : 
     last = λ i t v size a b. first_cut (record { from = from_of u r; moves = r.moves }) (stretches ends (left_by_run 7 ends u r) rs) x.front x.later x.order i t v (omega (arith, size)) a b;
   }
 
+  -- a cut of the last of the later stretches is one of the last of all
   later_cut : (p next : Part) (ps : List Part) (u : UnderWay State) (r : Run State) (rs : List (Run State)) (c : Cut (next ∷ ps) (left_by_run 7 ends u r) rs)
       (i : ℕ) (t v : Stretch State) → length (p ∷ next ∷ ps) ≡ suc i
       → slice_get (stretches ends u (r ∷ c.runs)) i ≡ Some t → slice_get (stretches ends u (r ∷ rs)) i ≡ Some v → IsCutOf t v
   later_cut p next ps u r rs c zero t v size a b = absurd (omega (arith, size))
   later_cut p next ps u r rs c (suc i) t v size a b = c.last i t v (omega (arith, size)) a b
 
+  -- the last run is cut, where its part has requests
   cut_last : (p : Part) (qs : List Part) (u : UnderWay State) (rs : List (Run State)) → IsFront (p ∷ []) qs → AreWhole (p ∷ []) qs → (p.marks ≡ [] → ⊥)
       → AreShownAs ends u rs qs → AreRuns 7 ends Good kept u rs → Cut (p ∷ []) u rs
   cut_last p [] u rs h w marked e good = absurd h
@@ -250,6 +270,7 @@ module _ {State : Type 0} (ends : Ends State) (Good : State → Type 0) (kept : 
       let here : seen r.moves ≡ p.steps ++ h.0.steps = e.1 ∙ ap (λ (x : Part). x.steps) h.1 in
       cut_one p u r rs (e.0 ∙ same) (split_seen r.moves p.steps h.0.steps here) good.0.0 good.0.1
 
+  -- `Cut` lasts where the run of a part is put in front
   cut_more : (p next : Part) (ps : List Part) (u : UnderWay State) (r : Run State) (rs : List (Run State)) → shown ends r.turns (begins u) ≡ p.turns → seen r.moves ≡ p.steps
       → AreTurns ends Good kept r.turns (begins u) × ArePossibleIf 7 ends Good kept (stood_by 7 ends u r).left (stood_by 7 ends u r) r.moves
       → Cut (next ∷ ps) (left_by_run 7 ends u r) rs → Cut (p ∷ next ∷ ps) u (r ∷ rs)
@@ -260,6 +281,7 @@ module _ {State : Type 0} (ends : Ends State) (Good : State → Type 0) (kept : 
     last = λ i t v size a b. later_cut p next ps u r rs c i t v size a b;
   }
 
+  -- a front of at least two parts is cut behind its first one
   cut_on : (p next : Part) (ps qs : List Part) (u : UnderWay State) (rs : List (Run State)) → IsFront (p ∷ next ∷ ps) qs → AreWhole (p ∷ next ∷ ps) qs
       → AreShownAs ends u rs qs → AreRuns 7 ends Good kept u rs
       → ((xs : List Part) (v : UnderWay State) (ts : List (Run State)) → IsFront (next ∷ ps) xs → AreWhole (next ∷ ps) xs → AreShownAs ends v ts xs
@@ -269,6 +291,7 @@ module _ {State : Type 0} (ends : Ends State) (Good : State → Type 0) (kept : 
   cut_on p next ps (q ∷ qs) u (r ∷ rs) h w e good again =
       cut_more p next ps u r rs (e.0 ∙ ap (λ (x : Part). x.turns) h.0) (e.1 ∙ ap (λ (x : Part). x.steps) h.0) good.0 (again qs (left_by_run 7 ends u r) rs h.1 w e.2 good.1)
 
+  -- the first parts of a run in the field are those of a run in the field, whose last stretch is cut
   cut_field : (ps qs : List Part) (u : UnderWay State) (rs : List (Run State)) → IsFront ps qs → AreWhole ps qs → LastIsMarked ps → AreShownAs ends u rs qs
       → AreRuns 7 ends Good kept u rs → Cut ps u rs
   cut_field [] qs u rs h w marked e good = absurd h
@@ -291,6 +314,7 @@ in_more [] ys i x e = absurd (none_is_not x e)
 in_more (y ∷ xs) ys zero x e = e
 in_more (y ∷ xs) ys (suc i) x e = in_more xs ys i x e
 
+-- the part and the stretch at a place fit
 fit_at : {State : Type 0} (ends : Ends State) (Good : State → Type 0) (kept : State → Option KeptReply) (is : IsAnInstrument ends Good kept) (ps : List Part)
     (ss : List (Stretch State)) (i : ℕ) (p : Part) (s : Stretch State) → AllFit ends Good kept is ps ss → slice_get ps i ≡ Some p → slice_get ss i ≡ Some s
     → Fits ends Good kept is p s
@@ -299,6 +323,7 @@ fit_at ends Good kept is (q ∷ ps) [] i p s h e f = absurd h
 fit_at ends Good kept is (q ∷ ps) (t ∷ ss) zero p s h e f = subst (λ x. Fits ends Good kept is x s) (some_is q p e) (subst (λ x. Fits ends Good kept is q x) (some_is t s f) h.0)
 fit_at ends Good kept is (q ∷ ps) (t ∷ ss) (suc i) p s h e f = fit_at ends Good kept is ps ss i p s h.1 e f
 
+-- the requests of the stretch at a place are those of its part
 pub sent_at : {State : Type 0} (ends : Ends State) (commands : List Task) (ps : List Part) (ss : List (Stretch State)) (i : ℕ) (p : Part) (s : Stretch State)
     → AreSentAs ends commands ps ss → slice_get ps i ≡ Some p → slice_get ss i ≡ Some s → AreOf commands p.marks (map asked (own_sent ends s))
 sent_at ends commands [] ss i p s h e f = absurd (none_is_not p e)
@@ -309,10 +334,12 @@ sent_at ends commands (q ∷ ps) (t ∷ ss) (suc i) p s h e f = sent_at ends com
 
 -- Pairs of numbers.
 
+-- nothing comes before itself
 not_itself : (c p : ℕ) → IsBefore c p c p → ⊥
 not_itself c p (inl l) = omega (arith, l)
 not_itself c p (inr l) = let less : p < p = l.1 in omega (arith, less)
 
+-- of two numbers one is smaller, or they are the same
 one_of : (x y : ℕ) → (x < y) ⊎ ((x ≡ y) ⊎ (y < x))
 one_of x y = by_test (ltb x y) (ltb y x) refl refl where
   by_test : (b c : Bool) → ltb x y ≡ b → ltb y x ≡ c → (x < y) ⊎ ((x ≡ y) ⊎ (y < x))
@@ -320,6 +347,7 @@ one_of x y = by_test (ltb x y) (ltb y x) refl refl where
   by_test false true e f = inr (inr (ltb-true y x f))
   by_test false false e f = let le : y ≤ x = ltb-false x y e in let ge : x ≤ y = ltb-false y x f in inr (inl (omega (arith, le, ge)))
 
+-- of two requests of which neither comes before the other, both are the same
 same_place : (i j m n : ℕ) → (IsBefore i m j n → ⊥) → (IsBefore j n i m → ⊥) → (i ≡ j) × (m ≡ n)
 same_place i j m n f g =
     elim (one_of i j) [
@@ -336,6 +364,7 @@ same_place i j m n f g =
       ]
     ]
 
+-- a place that comes between two places of one cycle is of that cycle, and lies between them
 within : (c p d q e r : ℕ) → IsBefore c p d q → IsBefore d q e r → c ≡ e → (d ≡ e) × (p < q) × (q < r)
 within c p d q e r (inl a) (inl b) same = absurd (omega (arith, a, b, same))
 within c p d q e r (inl a) (inr b) same = let is : d ≡ e = b.0 in absurd (omega (arith, a, is, same))
@@ -368,7 +397,7 @@ module _ {State : Type 0} (ends : Ends State) (Good : State → Type 0) (kept : 
       let c = cut_field ends Good kept (parts plan commands scope before) (parts plan commands scope acts) u rs front whole marked h.shown h.possible in
       (c, record { runs = runs; lines = h.lines; none = h.none; shown = c.shown; possible = c.possible })
 
-  -- there the answer of the command before was settled, and the request wasn't sent
+  -- behind the acts before a request, the answer of the command before it in its chain was settled, and the request wasn't sent
   settled_there : (before : List Act) (u : UnderWay State) (rs : List (Run State)) → IsInField ends Good kept plan commands scope before u rs
       → (i n cycle a : ℕ) (first : Part) → slice_get (parts plan commands scope before) i ≡ Some first → length first.marks ≡ n
       → (back : IsAnsweredBack plan commands scope before first cycle a) → (t : Stretch State) × (slice_get (stretches ends u rs) i ≡ Some t) × (length (own_sent ends t) ≡ n)
@@ -462,6 +491,7 @@ module _ {State : Type 0} (ends : Ends State) (Good : State → Type 0) (kept : 
             (omega (arith, size, dropped)) b.command.call line made;
       }
 
+  -- each record of a run in the field is executed in its chain
   pub chains_executed : (acts : List Act) (u : UnderWay State) (rs : List (Run State)) → IsInField ends Good kept plan commands scope acts u rs
       → AreExecutedInChain ends Good kept plan commands scope acts u rs
   chains_executed acts u rs h =

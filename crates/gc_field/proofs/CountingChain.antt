@@ -31,36 +31,42 @@ use Rattle.gc_field.proofs.Witness.{asked_each, one_part, run_on, units}
 true_is_not : true ≡ false → ⊥
 true_is_not e = cc
 
+-- each reply of the counting instrument has its request's id
 reads : (s : Counter) (id : ℕ) (o : Option ℕ) → id < 8 → heard (counted_or s id o).reply ≡ Some id
 reads s id (Some n) small = reads_value id n small
 reads s id None small = reads_value id (suc s.count) small
 
+-- a line that is sent again is the one that is kept
 repeats : (s : Counter) (id : ℕ) (o : Option ℕ) → held s.keeps id ≡ o → (counted_or s id o).executed ≡ false → kept_by s ≡ Some (record { id = id; line = (counted_or s id o).reply })
 repeats s id (Some n) e not = kept_own s.keeps id n e
 repeats s id None e not = absurd (true_is_not not)
 
--- behind a request the reply that it got is kept with its id
+-- the reply to a request is kept behind it, with the request's id
 reply_is_kept : (s : Counter) (id : ℕ) (o : Option ℕ) → held s.keeps id ≡ o → kept_by (counted_or s id o).state ≡ Some (record { id = id; line = (counted_or s id o).reply })
 reply_is_kept s id (Some n) e = kept_own s.keeps id n e
 reply_is_kept s id None e = refl
 
--- what it keeps with this id is held for it
+-- what is kept with this id is held for it
 none_held : (x : ℕ × ℕ) (id : ℕ) → x.0 ≡ id → held (Some x) id ≡ None → ⊥
 none_held x id same e = let e' : Some x.1 ≡ None = sym (ap (λ b. cond b (Some x.1) None) (eq-eqb x.0 id same)) ∙ e in cc
 
+-- a request with the kept id isn't executed
 held_for : (k : Keeper) (id : ℕ) (o : Option ℕ) (line : List ℕ) → held k id ≡ o → kept k ≡ Some (record { id = id; line = line }) → (s : Counter) → (counted_or s id o).executed ≡ false
 held_for k id (Some n) line h e s = refl
 held_for None id None line h e s = let never : ⊥ = cc in absurd never
 held_for (Some x) id None line h e s = absurd (none_held x id (ap (λ (r : KeptReply). r.id) (some_is (record { id = x.0; line = value x.0 x.1 }) (record { id = id; line = line }) e)) h)
 
+-- an execution makes the count one higher
 executes : (s : Counter) (id : ℕ) (call : Call) (o : Option ℕ) → (counted_or s id o).executed ≡ true → bare (counted_or s id o).state ≡ bare (counts s call)
 executes s id call (Some n) e = absurd (true_is_not (sym e))
 executes s id call None e = refl
 
+-- a line that is sent again leaves the count
 unchanged : (s : Counter) (id : ℕ) (o : Option ℕ) → (counted_or s id o).executed ≡ false → bare (counted_or s id o).state ≡ bare s
 unchanged s id (Some n) e = refl
 unchanged s id None e = absurd (true_is_not e)
 
+-- `counting` is an instrument
 is : IsAnInstrument counting AnyState kept_by
 is =
     record {
@@ -73,6 +79,7 @@ is =
       starts_good = λ s good. tt;
     }
 
+-- `counting` keeps its reply
 keeps_its : KeepsItsReply counting AnyState kept_by
 keeps_its =
     record {
@@ -80,6 +87,7 @@ keeps_its =
       always = λ s id call good small. reply_is_kept s id (held s.keeps id) refl;
     }
 
+-- executing a call has the effect `counts`
 effect : HasEffect counting bare counts
 effect =
     record {

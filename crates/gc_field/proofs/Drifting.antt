@@ -22,6 +22,7 @@ use Rattle.gc_field.proofs.Witness.{asked_each, one_part, run_on, units}
 true_is_not : true ≡ false → ⊥
 true_is_not e = cc
 
+-- `drifting` is an instrument
 is : IsAnInstrument drifting AnyState nothing
 is =
     record {
@@ -34,6 +35,7 @@ is =
       starts_good = λ s good. tt;
     }
 
+-- the answer was made on executing the second command's request
 was_made : WasMadeOn WINDOW drifting (leaves (turned drifting turns (begins (none_under_way 5)))) moves 9 InstrumentNo answer
 unfolding is_elsewhere header_at reply_at digits
 was_made = record { front = take 11 moves; later = drop 12 moves; split = refl; id = 1; rest = []; reaches = refl; executed = refl; reply = refl }

@@ -36,66 +36,81 @@ use Rattle.gc_field.specs.Fronts.{request_bytes, IsWholeOrNothing}
 
 -- Bytes above the sign that begins a request.
 
+-- each of these bytes is above 37, the sign with which each request begins
 abbrev pub AreAbove : List ℕ → Type 0
 AreAbove bytes = AllByRecursion (λ b. 37 < b) bytes
 
+-- what holds of the bytes of two lists holds of those of both, one behind the other
 pub joined : (P : ℕ → Type 0) (xs ys : List ℕ) → AllByRecursion P xs → AllByRecursion P ys → AllByRecursion P (xs ++ ys)
 joined P [] ys h k = k
 joined P (x ∷ xs) ys h k = (h.0, joined P xs ys h.1 k)
 
+-- what holds of all bytes holds of those behind the first k
 dropped : (P : ℕ → Type 0) (k : ℕ) (xs : List ℕ) → AllByRecursion P xs → AllByRecursion P (drop k xs)
 dropped P zero xs h = h
 dropped P (suc k) [] h = tt
 dropped P (suc k) (x ∷ xs) h = dropped P k xs h.1
 
+-- what holds of all bytes holds of the first k
 pub taken : (P : ℕ → Type 0) (k : ℕ) (xs : List ℕ) → AllByRecursion P xs → AllByRecursion P (take k xs)
 taken P zero xs h = tt
 taken P (suc k) [] h = tt
 taken P (suc k) (x ∷ xs) h = (h.0, taken P k xs h.1)
 
+-- what follows for each byte from a fact of it holds of all, if the fact does
 weaker : (P Q : ℕ → Type 0) (f : (b : ℕ) → P b → Q b) (xs : List ℕ) → AllByRecursion P xs → AllByRecursion Q xs
 weaker P Q f [] h = tt
 weaker P Q f (x ∷ xs) h = (f x h.0, weaker P Q f xs h.1)
 
+-- digits, as a property of bytes, are above the sign with which each request begins
 above_digits : (ds : List ℕ) → AreDigits ds → AreAbove ds
 above_digits [] h = tt
 above_digits (d ∷ ds) h = ((let low = h.0.0 in omega (arith, low)), above_digits ds h.1)
 
+-- digits are above the sign with which each request begins
 pub above_decimal_digits : (ds : List ℕ) → AllDigits 10 ds → AreAbove ds
 above_decimal_digits [] h = tt
 above_decimal_digits (c ∷ cs) h = (omega (arith, digit_at (c ∷ cs) 0 h (omega arith)), above_decimal_digits cs h.1)
 
+-- a minus, where there is one, is above `%`, the sign with which each request begins
 above_minus : (z : ℤ) → AreAbove (minus_text z)
 above_minus (pos n) = tt
 above_minus (negsuc n) = (lit< tt, tt)
 
+-- the text of a natural number is above the sign
 above_whole : (n : ℕ) → AreAbove (whole_text n)
 above_whole n = above_digits (whole_text n) (writes_whole n).digits
 
+-- the text of a whole number, with its minus, is above `%`
 above_signed : (z : ℤ) → AreAbove (signed_text z)
 above_signed z = joined (λ b. 37 < b) (minus_text z) (whole_text (unsigned_abs z)) (above_minus z) (above_whole (unsigned_abs z))
 
+-- the text of a decimal, with its minus, is above `%`
 above_written : (m : ℤ) (s : ℕ) → AreAbove (written m s)
 above_written m s =
     let n = unsigned_abs m in
     joined (λ b. 37 < b) (minus_text m) (whole_text (n / 10 ^ s) ++ (46 ∷ behind_text s (n % 10 ^ s))) (above_minus m)
     (joined (λ b. 37 < b) (whole_text (n / 10 ^ s)) (46 ∷ behind_text s (n % 10 ^ s)) (above_whole (n / 10 ^ s)) (lit< tt, above_digits (behind_text s (n % 10 ^ s)) (behind n s).digits))
 
+-- a hexadecimal digit is above the sign
 above_digit : (d : ℕ) → d < 16 → 37 < slice_index lower_digits d
 above_digit d h = ltb-true 37 (slice_index lower_digits d) (agree_below_at (λ k. ltb 37 (slice_index lower_digits k)) (λ _. true) 16 d refl h)
 
+-- the text of a byte is above the sign
 above_byte : (n : ℕ) → n < 256 → AreAbove (byte_text n)
 above_byte n h = (lit< tt, (above_digit (n / 16) (omega arith), (above_digit (n % 16) (omega arith), (lit< tt, tt))))
 
+-- the text of a truth value is above the sign
 above_boolean : (b : Bool) → AreAbove (boolean_text b)
 above_boolean false = (lit< tt, tt)
 above_boolean true = (lit< tt, tt)
 
--- no call has a text among its parameters
+-- this value isn't a text
 abbrev IsNoText : Value → Type 0
 IsNoText (value.Text bytes) = ⊥
 IsNoText v = Unit {0}
 
+-- no call has a text among its parameters
 no_text : (call : Call) → AllByRecursion IsNoText (call_fields call).values
 no_text (SetPrecision places) = (tt, tt)
 no_text (SetDate d) = (tt, (tt, (tt, (tt, (tt, (tt, tt))))))
@@ -111,6 +126,7 @@ no_text (ChangeFace pos_mode atr_mode dummy) = (tt, (tt, (tt, tt)))
 no_text (FineAdjust area_hz area_v dummy) = (tt, (tt, (tt, tt)))
 no_text other = tt
 
+-- the text of a value that isn't a text is above the sign
 above_value : (v : Value) → IsValue v → IsNoText v → AreAbove (text v)
 above_value (value.Double d) h g = above_written d.digits d.scale
 above_value (value.Long z) h g = above_signed z
@@ -119,22 +135,26 @@ above_value (value.Byte n) h g = above_byte n h
 above_value (value.Bool b) h g = above_boolean b
 above_value (value.Text bytes) h g = absurd g
 
+-- the texts of values behind commas are above the sign, if none of them is a text
 above_behind : (vs : List Value) → AreValues vs → AllByRecursion IsNoText vs → AreAbove (behind_commas vs)
 above_behind [] h g = tt
 above_behind (v ∷ vs) h g = joined (λ b. 37 < b) (44 ∷ text v) (behind_commas vs) (lit< tt, above_value v h.0 g.0) (above_behind vs h.1 g.1)
 
+-- the texts of parameters are above the sign, if none of them is a text
 above_params : (vs : List Value) → AreValues vs → AllByRecursion IsNoText vs → AreAbove (params_of vs)
 above_params [] h g = tt
 above_params (v ∷ vs) h g = rw (params_of-cons v vs) (joined (λ b. 37 < b) (text v) (behind_commas vs) (above_value v h.0 g.0) (above_behind vs h.1 g.1))
 
+-- the text of an id is above the sign with which each request begins
 pub above_id : (id : Option ℕ) → AreAbove (id_text id)
 above_id None = tt
 above_id (Some i) = (lit< tt, (omega arith, tt))
 
--- a request behind its first byte
+-- the bytes of a request behind the first, without CR LF
 abbrev pub body : ℕ → Call → List ℕ
 body id call = 82 ∷ 49 ∷ 81 ∷ 44 ∷ (decimal (call_fields call).number ++ (id_text (Some id) ++ 58 ∷ params_of (call_fields call).values))
 
+-- all bytes of `body` are above the sign with which each request begins
 pub above_body : (id : ℕ) (call : Call) → IsFitting call → AreAbove (body id call)
 above_body id call h =
     let n = (call_fields call).number in (
@@ -155,10 +175,11 @@ above_body id call h =
 
 -- Lines of a stream.
 
+-- the lines of these frames
 abbrev lines_in : List Frame → List (List ℕ)
 lines_in frames = filter_map line_in frames
 
--- a frame's line is what stands before its CR
+-- a frame's line has the frame's bytes before the CR
 frame_line : (bytes line : List ℕ) → line_in (frame_of bytes) ≡ Some line → line ≡ take (length bytes - 1) bytes
 frame_line bytes line e = chosen (ends_in_return bytes) (ltb 512 (length bytes - 1)) e where
   chosen : (ends long : Bool) → line_in (cond ends (cond long Overlong (Line (record { items = take (length bytes - 1) bytes }))) Cleared) ≡ Some line → line ≡ take (length bytes - 1) bytes
@@ -166,19 +187,22 @@ frame_line bytes line e = chosen (ends_in_return bytes) (ltb 512 (length bytes -
   chosen true true e = let never : ⊥ = cc in absurd never
   chosen true false e = cc
 
+-- what holds of a frame's line, and of the lines behind it, holds of all
 framed : (P : List ℕ → Type 0) (f : Frame) (fs : List Frame) → ((line : List ℕ) → line_in f ≡ Some line → P line) → AllByRecursion P (lines_in fs) → AllByRecursion P (lines_in (f ∷ fs))
 framed P (Line line) fs h g = (h line.items refl, g)
 framed P Cleared fs h g = g
 framed P Overlong fs h g = g
 framed P More fs h g = g
 
+-- this line is no request
 abbrev IsNoRequest : List ℕ → Type 0
 IsNoRequest line = (q : RequestFields) → ¬ IsRequest line q
 
--- bytes without that sign are no request
+-- a line without the sign with which each request begins (37) is no request
 unsigned : (line : List ℕ) → AllByRecursion (λ b. b ≢ 37) line → IsNoRequest line
 unsigned line h q r = (subst (λ l. AllByRecursion (λ b. b ≢ 37) l) r.whole h).0 refl
 
+-- no line of bytes without the sign 37 is a request
 unsigned_lines : (before bytes : List ℕ) → AllByRecursion (λ b. b ≢ 37) before → AllByRecursion (λ b. b ≢ 37) bytes → AllByRecursion IsNoRequest (lines_in (map frame_of (pieces_behind before bytes)))
 unsigned_lines before [] h g = tt
 unsigned_lines before (b ∷ bytes) h g =
@@ -194,7 +218,7 @@ unsigned_lines before (b ∷ bytes) h g =
     chosen true here later = here
     chosen false here later = later
 
--- bytes without a CR are no line
+-- bytes without a CR don't end in one
 no_return : (bytes : List ℕ) → AllByRecursion (λ b. b ≢ 13) bytes → ends_in_return bytes ≡ false
 no_return [] h = refl
 no_return (b ∷ bytes) h =
@@ -207,14 +231,17 @@ no_return (b ∷ bytes) h =
     never true = refl
     never false = refl
 
+-- bytes without a CR are no line
 no_line : (bytes : List ℕ) → AllByRecursion (λ b. b ≢ 13) bytes → frame_of bytes ≡ Cleared
 no_line bytes h = ap (λ t. cond t (cond (ltb 512 (length bytes - 1)) Overlong (Line (record { items = take (length bytes - 1) bytes }))) Cleared) (no_return bytes h)
 
+-- where a byte ends a frame that is no line, and the others have no lines, all have none
 one_by_one : (t : Bool) (before : List ℕ) (here later : List (List ℕ)) → frame_of before ≡ Cleared → lines_in (map frame_of here) ≡ []
     → lines_in (map frame_of later) ≡ [] → lines_in (map frame_of (cond t (before ∷ here) later)) ≡ []
 one_by_one true before here later none h g = ap (λ f. lines_in (f ∷ map frame_of here)) none ∙ h
 one_by_one false before here later none h g = g
 
+-- no lines are in bytes without a CR
 no_lines : (before bytes : List ℕ) → AllByRecursion (λ b. b ≢ 13) before → AllByRecursion (λ b. b ≢ 13) bytes → lines_in (map frame_of (pieces_behind before bytes)) ≡ []
 no_lines before [] h g = refl
 no_lines before (b ∷ bytes) h g =
@@ -236,6 +263,7 @@ behind_push (x ∷ xs) a b = ap (λ l. x ∷ l) (behind_push xs a b)
 
 -- A request.
 
+-- a front or a tail of a request is no request
 pub whole_or_nothing : (id : ℕ) (call : Call) → IsFitting call → IsWholeOrNothing id call
 whole_or_nothing id call fits =
     let line = request_line (Some id) call in

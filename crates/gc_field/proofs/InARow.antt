@@ -18,14 +18,16 @@ same_lines : {Line : Type 0} (xs : List Line) → map (λ (x : Aged Line). x.lin
 same_lines [] = refl
 same_lines (x ∷ xs) = ap (λ l. x ∷ l) (same_lines xs)
 
+-- a beginning in which nothing happened leaves the ids under way
 same_ids : {State : Type 0} (u : UnderWay State) → ids_under_way (leaves (begins u)) ≡ ids_under_way u
 same_ids u = ap₂ (λ (d : List (List ℕ)) (q : List Request). filter_map heard d ++ map (λ x. x.id) q) (same_lines u.down) (same_lines u.up)
 
 module _ {State : Type 0} (ends : Ends State) (Good : State → Type 0) (kept : State → Option KeptReply) (is : IsAnInstrument ends Good kept) where
+  -- a run with these turns and moves
   abbrev run : List (Turn State) → List (Move State) → Run State
   run ts ms = record { turns = ts; moves = ms }
 
-  -- one run
+  -- a run of a station leaves lines, and an `IsShort` by how many were killed in a row
   step : (ts : List (Turn State)) (ms : List (Move State)) (n : ℕ) (u : UnderWay State) → AreLines Good u → IsShort n u → AreTurns ends Good kept ts (begins u)
       → ArePossibleIf 7 ends Good kept (stood 7 ends u (run ts ms)).left (stood 7 ends u (run ts ms)) ms → killed_by ends n u (run ts ms) ts ≤ 5
       → AreLines Good (left_by_run 7 ends u (run ts ms)) × IsShort (killed_by ends n u (run ts ms) ts) (left_by_run 7 ends u (run ts ms))
@@ -38,7 +40,7 @@ module _ {State : Type 0} (ends : Ends State) (Good : State → Type 0) (kept : 
       let one = goes ends Good kept is 7 (omega arith) n u r (stood 7 ends u r).left refl lines short turns p few in
       (one.lines, one.short)
 
-  -- those of a station
+  -- the runs of a station leave lines, and an `IsShort` by how many were killed in a row
   steps : (rs : List (Run State)) (n : ℕ) (u : UnderWay State) → AreLines Good u → IsShort n u → AreRuns 7 ends Good kept u rs → AreFew ends n u rs
       → AreLines Good (left_over ends u rs) × IsShort (killed_over ends n u rs) (left_over ends u rs)
   steps [] n u lines short runs few = (lines, short)
@@ -46,6 +48,7 @@ module _ {State : Type 0} (ends : Ends State) (Good : State → Type 0) (kept : 
       let one = step r.turns r.moves n u lines short runs.0.0 runs.0.1 few.0 in
       steps rs (killed_by ends n u r r.turns) (left_by_run 7 ends u r) one.0 one.1 runs.1 few.1
 
+  -- stations one after the other are faithful
   all : (xs : List (Program State)) (n : ℕ) (u : UnderWay State) → AreLines Good u → IsShort n u → AreInARow ends Good kept n u xs → AreFaithful ends Good kept u xs
   all [] n u lines short h = tt
   all (x ∷ xs) n u lines short h =
@@ -54,5 +57,6 @@ module _ {State : Type 0} (ends : Ends State) (Good : State → Type 0) (kept : 
         all xs (killed_over ends n u x.runs) (left_over ends u x.runs) next.0 next.1 h.1,
       )
 
+  -- stations one after the other are faithful behind an `IsRow`, as long as few are killed while they begin
   pub in_a_row : (u : UnderWay State) → AreLines Good u → IsRow u → (xs : List (Program State)) → AreInARow ends Good kept 0 u xs → AreFaithful ends Good kept u xs
   in_a_row u lines row xs h = all xs 0 u lines (short_row u row) h

@@ -39,12 +39,13 @@ seen_append (Anew ∷ front) later = seen_append front later
 seen_append (Changes state ∷ front) later = seen_append front later
 seen_append (Joins line ∷ front) later = seen_append front later
 
--- the request that a reply meets
+-- the settlement of the request that a reply meets is at its place
 met_at : (k : ℕ) (line : List ℕ) (ps : List Pending) → k < length ps → (p : Pending) × (slice_get ps k ≡ Some p) × (slice_get (settle k line ps) k ≡ Some (met p line))
 met_at k line [] low = absurd (omega (arith, low))
 met_at zero line (p ∷ ps) low = (p, refl, refl)
 met_at (suc k) line (p ∷ ps) low = met_at k line ps (omega (arith, low))
 
+-- what is at a place of the middle of three lists is in all
 get_between : (xs ys zs : List Settlement) (n k : ℕ) (x : Settlement) → n ≡ length xs + k → slice_get ys k ≡ Some x → slice_get ((xs ++ ys) ++ zs) n ≡ Some x
 get_between [] ys zs n k x e got = let same : k ≡ n = omega (arith, e) in subst (λ i. slice_get (ys ++ zs) i ≡ Some x) same (get_more ys k got) where
   get_more : (ys : List Settlement) (k : ℕ) → slice_get ys k ≡ Some x → slice_get (ys ++ zs) k ≡ Some x
@@ -60,29 +61,32 @@ some_pending p q e = cc
 cons_not : {A : Type 0} (xs ys : List A) (y : A) → xs ≡ [] → xs ≡ y ∷ ys → ⊥
 cons_not xs ys y e f = cc
 
+-- a list with an element isn't empty
 pub not_nil : {A : Type 0} (xs front later : List A) (x : A) → xs ≡ [] → xs ≡ front ++ x ∷ later → ⊥
 not_nil xs [] later x e f = cons_not xs later x e f
 not_nil xs (y ∷ front) later x e f = cons_not xs (front ++ x ∷ later) y e f
 
+-- a front of no elements has none
 pub front_nil : {A : Type 0} (front later : List A) → [] ≡ front ++ later → front ≡ []
 front_nil [] later e = refl
 front_nil (x ∷ front) later e = cc
 
 module _ {State : Type 0} (ends : Ends State) (Good : State → Type 0) (kept : State → Option KeptReply) (is : IsAnInstrument ends Good kept) where
-  -- the law of one stretch
+  -- the moves of a clean stretch are faithful
   pub law : (u : UnderWay State) → IsClean Good kept u → (ms : List (Move State)) → ArePossible ends Good kept (by_ids 7 ends) ms (ids_begun u) → IsFaithful 7 ends u ms Good kept
   law u clean ms p = faithful ends Good kept is 7 (omega arith) u clean ms p
 
+  -- the front of possible moves of a clean stretch is faithful
   pub front_of : (u : UnderWay State) (ms front later : List (Move State)) → ms ≡ front ++ later → ArePossible ends Good kept (by_ids 7 ends) ms (ids_begun u)
       → ArePossible ends Good kept (by_ids 7 ends) front (ids_begun u)
   front_of u ms front later e p = possible_front 7 ends Good kept front later (ids_begun u) (subst (λ xs. ArePossible ends Good kept (by_ids 7 ends) xs (ids_begun u)) e p)
 
-  -- a stretch: it has begun cleanly, or nothing happens in it
+  -- a stretch has begun cleanly, or nothing happens in it; and its moves are possible
   pub record Sound (s : Stretch State) : Type 0 where
     pub possible : ArePossible ends Good kept (by_ids 7 ends) s.moves (ids_begun s.from)
     pub clean : IsClean Good kept s.from ⊎ (s.moves ≡ [])
 
-  -- where something happens it has begun cleanly
+  -- a stretch in which something happens has begun cleanly
   pub clean_of : (s : Stretch State) → Sound s → (front later : List (Move State)) (m : Move State) → s.moves ≡ front ++ m ∷ later → IsClean Good kept s.from
   clean_of s sound front later m e =
       elim sound.clean [
@@ -90,6 +94,7 @@ module _ {State : Type 0} (ends : Ends State) (Good : State → Type 0) (kept : 
         | inr none ↦ absurd (not_nil s.moves front later m none e)
       ]
 
+  -- a sound stretch is faithful behind its first moves
   pub throughout : (s : Stretch State) → Sound s → IsFaithfulThroughout ends Good kept s
   throughout s sound front later e =
       elim sound.clean [
@@ -97,7 +102,7 @@ module _ {State : Type 0} (ends : Ends State) (Good : State → Type 0) (kept : 
         | inr none ↦ subst (λ ms. IsFaithful 7 ends s.from ms Good kept) (sym (front_nil front later (sym none ∙ e))) (faithful_none ends Good kept s.from)
       ]
 
-  -- what is settled stays so
+  -- what is settled behind the first moves of a stretch stays in front of what is settled behind more
   settled_more : (u : UnderWay State) → IsClean Good kept u → (ms front later : List (Move State)) → ms ≡ front ++ later → ArePossible ends Good kept (by_ids 7 ends) ms (ids_begun u)
       → (more : List Settlement) × ((behind 7 ends u ms).wire.settled ≡ (behind 7 ends u front).wire.settled ++ more)
   settled_more u clean ms front later e p =
@@ -113,7 +118,7 @@ module _ {State : Type 0} (ends : Ends State) (Good : State → Type 0) (kept : 
         whole.settled ∙ ap (λ l. nulls_settled ++ l) grown ∙ sym (append_assoc nulls_settled own more) ∙ ap (λ l. l ++ more) (sym part.settled),
       )
 
-  -- a reply under way that isn't settled is one to a request that was sent
+  -- a reply under way belongs to a request that was sent
   below_sent : (u : UnderWay State) → IsClean Good kept u → (front : List (Move State)) → ArePossible ends Good kept (by_ids 7 ends) front (ids_begun u)
       → (line : List ℕ) (n : ℕ) (rest : List (Numbered (List ℕ))) → (behind 7 ends u front).wire.down ≡ record { number = n; line = line } ∷ rest
       → length (behind 7 ends u front).wire.settled ≤ n → n - length (behind 7 ends u front).wire.settled < length (behind 7 ends u front).client.waiting
@@ -128,7 +133,7 @@ module _ {State : Type 0} (ends : Ends State) (Good : State → Type 0) (kept : 
       let waits : length a.client.waiting ≡ length b.client.requests - b.client.count = ap (λ (l : List Pending). length l) both.agree.client.window ∙ length-drop b.client.count b.client.requests in
       omega (arith, coming.0.sent, size, waits, le)
 
-  -- where a reply meets a request
+  -- where a reply comes to a request that isn't settled, the settlement of that request is that by this reply
   abbrev MetAt : Stretch State → Type 0
   MetAt s =
       (front later : List (Move State)) (line : List ℕ) (n : ℕ) (rest : List (Numbered (List ℕ))) → s.moves ≡ front ++ Comes line ∷ later
@@ -136,6 +141,7 @@ module _ {State : Type 0} (ends : Ends State) (Good : State → Type 0) (kept : 
       → (p : Pending) × (slice_get (behind 7 ends s.from front).client.waiting (n - length (behind 7 ends s.from front).wire.settled) ≡ Some p)
       × (slice_get (world ends s).wire.settled n ≡ Some (met p line))
 
+  -- a clean stretch with possible moves is `MetAt`
   meets : (s : Stretch State) → IsClean Good kept s.from → ArePossible ends Good kept (by_ids 7 ends) s.moves (ids_begun s.from) → MetAt s
   meets s clean possible = λ front later line n rest e down le.
       let w = behind 7 ends s.from front in
@@ -151,7 +157,7 @@ module _ {State : Type 0} (ends : Ends State) (Good : State → Type 0) (kept : 
         ap (λ l. slice_get l n) (more.1 ∙ ap (λ l. l ++ more.0) here) ∙ get_between w.wire.settled (settle k line w.client.waiting) more.0 n k (met p.0 line) (omega (arith, le)) p.2,
       )
 
-  -- a request that goes out waits behind those that do
+  -- as many requests were sent as were settled and wait
   sent_counts : (w : World ById State) → map of_settled w.wire.settled ++ map of_pending w.client.waiting ≡ map asked w.wire.sent → length w.wire.settled + length w.client.waiting ≡ length w.wire.sent
   sent_counts w e =
       let xs = map of_settled w.wire.settled in
@@ -161,17 +167,20 @@ module _ {State : Type 0} (ends : Ends State) (Good : State → Type 0) (kept : 
       let c : length xs + length ys ≡ length w.wire.sent = sym (length-append xs ys) ∙ ap length e ∙ length-map w.wire.sent asked in
       omega (arith, a, b, c)
 
+  -- a request that goes out where the client doesn't refuse it waits, behind the others
   sent_by_test : (w : World ById State) (target : ℕ) (call : Call) (deadline : ℕ) (b : Bool) → b ≡ false → length w.wire.settled + length w.client.waiting ≡ length w.wire.sent
       → Waits (requested w target call (id_send w.client target call deadline b)) (length w.wire.sent) (pending_of target call deadline)
   sent_by_test w target call deadline true e counts = cc
   sent_by_test w target call deadline false e counts = λ le. get_last w.client.waiting (length w.wire.sent - length w.wire.settled) (pending_of target call deadline) (omega (arith, counts))
 
+  -- a request that goes out waits, behind the others
   sent_waits : (u : UnderWay State) (before : List (Move State)) (target : ℕ) (call : Call) (deadline : ℕ) → IsFaithful 7 ends u before Good kept → length (behind 7 ends u before).client.waiting < 7
       → Waits (moves ends (by_ids 7 ends) (behind 7 ends u before) (Sends target call deadline)) (length (behind 7 ends u before).wire.sent) (pending_of target call deadline)
   sent_waits u before target call deadline f room =
       let w = behind 7 ends u before in
       sent_by_test w target call deadline (nat_eq (length w.client.waiting) 7) (ne_eqb (length w.client.waiting) 7 (λ e. omega (arith, e, room))) (sent_counts w f.accounted)
 
+  -- a clean stretch is in time
   in_time_clean : (s : Stretch State) → IsClean Good kept s.from → ArePossible ends Good kept (by_ids 7 ends) s.moves (ids_begun s.from) → IsInTime ends s
   in_time_clean s clean all_possible = λ before between later target call deadline line rest e room down le.
       let front = before ++ Sends target call deadline ∷ between in
@@ -188,6 +197,7 @@ module _ {State : Type 0} (ends : Ends State) (Good : State → Type 0) (kept : 
       let same : m.0 ≡ record p { given_up = gives_up deadline between } = some_pending m.0 (record p { given_up = gives_up deadline between }) (sym m.1 ∙ waits le ∙ ap Some (after_is p between)) in
       m.2 ∙ ap (λ q. Some (met q line)) same
 
+  -- a sound stretch is in time
   pub in_time : (s : Stretch State) → Sound s → IsInTime ends s
   in_time s sound = λ before between later target call deadline line rest e.
       in_time_clean s (clean_of s sound (before ++ Sends target call deadline ∷ between) later (Comes line) e) sound.possible before between later target call deadline line rest e

@@ -18,7 +18,7 @@ take_drop zero xs = refl
 take_drop (suc k) [] = refl
 take_drop (suc k) (x ∷ xs) = ap (λ l. x ∷ l) (take_drop k xs)
 
--- what stands before the first such sign
+-- where a text above the sign, with the sign behind it, begins with another text above the sign, that one is a front of the first
 split : (xs ys more p : List ℕ) → AreAbove xs → AreAbove ys → xs ++ 37 ∷ more ≡ ys ++ p → (rest : List ℕ) × (xs ≡ ys ++ rest)
 split xs [] more p h g e = (xs, refl)
 split [] (y ∷ ys) more p h g e = absurd (omega (arith, head 37 y more (ys ++ p) e, g.0))
@@ -26,6 +26,7 @@ split (x ∷ xs) (y ∷ ys) more p h g e =
     let s = split xs ys more p h.1 g.1 (tail x y (xs ++ 37 ∷ more) (ys ++ p) e) in
     (s.0, ap (λ z. z ∷ xs) (head x y (xs ++ 37 ∷ more) (ys ++ p) e) ∙ ap (λ l. y ∷ l) s.1)
 
+-- a front and the next request, as one line, have the front's id and procedure
 pub joined_requests : JoinedRequestsHaveTheFrontsId
 joined_requests id call next behind zero small fits some q is = absurd (omega (arith, some))
 joined_requests id call next behind (suc k) small fits some q is =

@@ -1,5 +1,5 @@
 -- A run of a station and its stretches, joined.
-use Rattle.std.proofs.Common.{◌≡◌, inl, inr, ℕ, zero, suc, ◌+◌, ◌≤◌, Bool, true, false, List, [], ◌∷◌, ◌++◌, map, Option, Some, refl, sym, ◌∙◌, ap, subst, arith, append_assoc, append-nil, drop}
+use Rattle.std.proofs.Common.{◌≡◌, inl, inr, ℕ, suc, ◌+◌, ◌≤◌, Bool, true, false, List, [], ◌∷◌, ◌++◌, map, Option, Some, refl, sym, ◌∙◌, ap, subst, arith, append_assoc, append-nil, drop}
 use Rattle.std.specs.Prelude.{slice_get}
 use Rattle.std.specs.List.{AllByRecursion}
 use Rattle.gc_catalogue.specs.declared.answer.Reading.{Reading}
@@ -30,8 +30,7 @@ use Rattle.gc_station.proofs.Meets.{was_answered, was_late}
 use Rattle.gc_station.specs.Scopes.{Scope}
 use Rattle.gc_world.specs.Clients.{by_ids}
 use Rattle.gc_world.specs.Record.{IsReplyTo}
-use Rattle.gc_world.specs.World.{Ends, Sent}
-use Rattle.gc_world.proofs.Options.{none_is_not}
+use Rattle.gc_world.specs.World.{Ends}
 use Rattle.gc_field.specs.Begin.{AreLines, AreTurns, UnderWay, begins, ids_under_way, leaves, turned}
 use Rattle.gc_field.specs.Beginnings.{AreOwn, ArePossibleIf, AreRuns, IsOwnIf, Run, left_by_run, left_if, on_line}
 use Rattle.gc_field.specs.Beginnings.{stood as stood_by}
@@ -49,82 +48,25 @@ use Rattle.gc_field.proofs.InTime.{Sound, in_time, law, throughout}
 use Rattle.gc_field.proofs.Meant.{are_meant}
 use Rattle.gc_field.proofs.Shown.{left_is}
 use Rattle.gc_field.proofs.Unbegun.{faithful_none}
-
--- what is lost has no answer
-among_settled : (xs : List Settlement) (ps : List Pending) (n : ℕ) (x : Settlement) (line : List ℕ) → slice_get (xs ++ map lost ps) n ≡ Some x → x.outcome ≡ Answered line → slice_get xs n ≡ Some x
-among_settled (y ∷ xs) ps zero x line got answered = got
-among_settled (y ∷ xs) ps (suc n) x line got answered = among_settled xs ps n x line got answered
-among_settled [] ps n x line got answered = absurd (never ps n got) where
-  some_same : (a b : Settlement) → Some a ≡ Some b → a ≡ b
-  some_same a b e = cc
-
-  lost_not : (p : Pending) → lost p ≡ x → ⊥
-  lost_not p e = let other : Lost ≡ Answered line = ap (λ (s : Settlement). s.outcome) e ∙ answered in cc
-
-  never : (ps : List Pending) (n : ℕ) → slice_get (map lost ps) n ≡ Some x → ⊥
-  never [] n e = cc
-  never (p ∷ ps) zero e = lost_not p (some_same (lost p) x e)
-  never (p ∷ ps) (suc n) e = never ps n e
-
-true_is_not : true ≡ false → ⊥
-true_is_not e = cc
-
--- what is lost isn't late
-among_late : (xs : List Settlement) (ps : List Pending) (n : ℕ) (x : Settlement) → slice_get (xs ++ map lost ps) n ≡ Some x → x.outcome ≡ Late → slice_get xs n ≡ Some x
-among_late (y ∷ xs) ps zero x got late = got
-among_late (y ∷ xs) ps (suc n) x got late = among_late xs ps n x got late
-among_late [] ps n x got late = absurd (never ps n got) where
-  some_same : (a b : Settlement) → Some a ≡ Some b → a ≡ b
-  some_same a b e = cc
-
-  lost_not : (p : Pending) → lost p ≡ x → ⊥
-  lost_not p e = let other : Lost ≡ Late = ap (λ (s : Settlement). s.outcome) e ∙ late in cc
-
-  never : (ps : List Pending) (n : ℕ) → slice_get (map lost ps) n ≡ Some x → ⊥
-  never [] n e = cc
-  never (p ∷ ps) zero e = lost_not p (some_same (lost p) x e)
-  never (p ∷ ps) (suc n) e = never ps n e
-
--- the request behind what it asks
-asked_at : (rs : List Sent) (n : ℕ) (a : Asked) → slice_get (map asked rs) n ≡ Some a → (r : Sent) × (slice_get rs n ≡ Some r) × (asked r ≡ a)
-asked_at [] n a e = cc
-asked_at (r ∷ rs) zero a e = (r, refl, same (asked r) a e) where
-  same : (x y : Asked) → Some x ≡ Some y → x ≡ y
-  same x y e = cc
-asked_at (r ∷ rs) (suc n) a e = asked_at rs n a e
-
-all_append : (P : Record → Type 0) (xs ys : List Record) → AllByRecursion P xs → AllByRecursion P ys → AllByRecursion P (xs ++ ys)
-all_append P [] ys h g = g
-all_append P (x ∷ xs) ys h g = (h.0, all_append P xs ys h.1 g)
-
--- an element behind the first k, at place n there, is at place k + n of the whole list
-get_behind : {A : Type 0} (k n j : ℕ) (xs : List A) (x : A) → j ≡ k + n → slice_get (drop k xs) n ≡ Some x → slice_get xs j ≡ Some x
-get_behind zero n j xs x e got = let same : n ≡ j = omega (arith, e) in subst (λ i. slice_get xs i ≡ Some x) same got
-get_behind (suc k) n j [] x e got = absurd (none_is_not x got)
-get_behind (suc k) n zero (y ∷ xs) x e got = absurd (omega (arith, e))
-get_behind (suc k) n (suc j) (y ∷ xs) x e got = get_behind k n j xs x (omega (arith, e)) got
-
-pub get_drop : {A : Type 0} (k n : ℕ) (xs : List A) (x : A) → slice_get (drop k xs) n ≡ Some x → slice_get xs (k + n) ≡ Some x
-get_drop k n xs x got = get_behind k n (k + n) xs x refl got
-
-pub map_drop : {A B : Type 0} (f : A → B) (k : ℕ) (xs : List A) → map f (drop k xs) ≡ drop k (map f xs)
-map_drop f zero xs = refl
-map_drop f (suc k) [] = refl
-map_drop f (suc k) (x ∷ xs) = map_drop f k xs
+use Rattle.gc_field.proofs.Among.{among_settled, true_is_not, among_late, asked_at, all_append, get_drop, map_drop}
 
 module _ {State : Type 0} (ends : Ends State) (Good : State → Type 0) (kept : State → Option KeptReply) (is : IsAnInstrument ends Good kept) where
   -- One part.
 
+  -- what a run comes to, by the ids that are left of its word: if it has begun, it has begun cleanly; and its stretch is sound and
+  -- faithful
   record One (u : UnderWay State) (r : Run State) (left : List ℕ) : Type 0 where
     own : IsOwnIf 7 ends Good kept left (stood_by 7 ends u r) r.moves
     sound : Sound ends Good kept is (record { from = leaves (turned ends r.turns (begins u)); moves = r.moves })
     faithful : IsFaithful 7 ends (leaves (turned ends r.turns (begins u))) r.moves Good kept
 
+  -- a run that has begun over lines without the word in their ids has begun cleanly
   begun_clean : (u : UnderWay State) (r : Run State) → AreLines Good u → (IsSubsequence the_word (ids_under_way u) → ⊥)
       → AreTurns ends Good kept r.turns (begins u) → (stood_by 7 ends u r).left ≡ [] → IsClean Good kept (leaves (stood_by 7 ends u r))
   begun_clean u r lines none turns e =
       clean_lines ends Good kept is 7 (omega arith) (stood_by 7 ends u r) (left_lines ends Good kept is u r.turns lines turns).good (begins_cleanly ends Good kept is u r.turns lines turns none e)
 
+  -- each run over lines without the word in their ids comes to `One`
   one : (u : UnderWay State) (r : Run State) (left : List ℕ) → (stood_by 7 ends u r).left ≡ left → AreLines Good u
       → (IsSubsequence the_word (ids_under_way u) → ⊥) → AreTurns ends Good kept r.turns (begins u)
       → ArePossibleIf 7 ends Good kept left (stood_by 7 ends u r) r.moves → One u r left
@@ -141,7 +83,7 @@ module _ {State : Type 0} (ends : Ends State) (Good : State → Type 0) (kept : 
         faithful = subst (λ ms. IsFaithful 7 ends from ms Good kept) (sym p) (faithful_none ends Good kept from);
       }
 
-  -- what it leaves where it has begun: lines, without the word
+  -- a run that has begun leaves lines without the word in their ids
   leaves_next : (u : UnderWay State) (r : Run State) → AreLines Good u → (IsSubsequence the_word (ids_under_way u) → ⊥)
       → AreTurns ends Good kept r.turns (begins u) → ArePossibleIf 7 ends Good kept (stood_by 7 ends u r).left (stood_by 7 ends u r) r.moves
       → (stood_by 7 ends u r).left ≡ [] → AreLines Good (left_by_run 7 ends u r) × (IsSubsequence the_word (ids_under_way (left_by_run 7 ends u r)) → ⊥)
@@ -156,20 +98,24 @@ module _ {State : Type 0} (ends : Ends State) (Good : State → Type 0) (kept : 
 
   -- A stretch with its part.
 
+  -- a part and a stretch are of the same run: the client sees the stretch's moves as the part's steps, and the stretch is sound and
+  -- faithful
   pub record Fits (p : Part) (s : Stretch State) : Type 0 where
     pub steps : seen s.moves ≡ p.steps
     pub sound : Sound ends Good kept is s
     pub faithful : IsFaithful 7 ends s.from s.moves Good kept
 
+  -- the parts and the stretches fit, one for one
   abbrev pub AllFit : List Part → List (Stretch State) → Type 0
   AllFit [] [] = Unit {0}
   AllFit (p ∷ ps) (s ∷ ss) = Fits p s × AllFit ps ss
   AllFit _ _ = ⊥
 
-  -- the word that a run leaves is that which its part leaves
+  -- the ids that are left of a run's word are those that its part leaves
   left_so : (u : UnderWay State) (r : Run State) (p : Part) → shown ends r.turns (begins u) ≡ p.turns → (stood_by 7 ends u r).left ≡ left_behind the_word (heard_in p.turns)
   left_so u r p e = left_is ends r.turns (begins u) ∙ ap (λ l. left_behind the_word (heard_in l)) e
 
+  -- the parts of a run in the field fit the stretches
   pub all_fit : (ps : List Part) (rs : List (Run State)) (u : UnderWay State) → AreLines Good u → (IsSubsequence the_word (ids_under_way u) → ⊥)
       → AreShownAs ends u rs ps → AreRuns 7 ends Good kept u rs → AreBegun the_word ps
       → AllFit ps (stretches ends u rs) × AreOwn 7 ends Good kept u rs
@@ -185,25 +131,28 @@ module _ {State : Type 0} (ends : Ends State) (Good : State → Type 0) (kept : 
       let others = all_fit (y ∷ ps) rs (left_by_run 7 ends u r) next.0 next.1 s.2 p.1 b.1 in
       ((record { steps = s.1; sound = o.sound; faithful = o.faithful }, others.0), (o.own, others.1))
 
+  -- what holds of a stretch that fits holds of all
   pub each_fits : (P : Stretch State → Type 0) → ((p : Part) (s : Stretch State) → Fits p s → P s) → (ps : List Part) (ss : List (Stretch State)) → AllFit ps ss → AllByRecursion P ss
   each_fits P g [] [] h = tt
   each_fits P g [] (s ∷ ss) h = absurd h
   each_fits P g (p ∷ ps) [] h = absurd h
   each_fits P g (p ∷ ps) (s ∷ ss) h = (g p s h.0, each_fits P g ps ss h.1)
 
-  -- what its steps settle and send, and where its client stands, are the world's
+  -- a part's steps settle what its stretch settled
   fit_settled : (p : Part) (s : Stretch State) → Fits p s → settled_by fresh p.steps ≡ own_settled ends s
   fit_settled p s f = ap (settled_by fresh) (sym f.steps) ∙ sym (course_settled (seen s.moves) begun) ∙ sym (ap (drop 8) f.faithful.settled)
 
+  -- a part's steps lead to the client that its stretch left
   fit_client : (p : Part) (s : Stretch State) → Fits p s → client_after fresh p.steps ≡ (world ends s).client
   fit_client p s f = ap (client_after fresh) (sym f.steps) ∙ sym (course_client (seen s.moves) begun) ∙ f.faithful.stands
 
+  -- a part's steps send what its stretch sent
   fit_sent : (p : Part) (s : Stretch State) → Fits p s → sent_by fresh p.steps ≡ map asked (own_sent ends s)
   fit_sent p s f =
       ap (sent_by fresh) (sym f.steps) ∙ sym (course_sent (seen s.moves) begun) ∙ sym (ap (drop 8) (sent_is ends Good kept is 7 (omega arith) s.from s.moves f.sound.possible))
       ∙ sym (map_drop asked 8 (world ends s).wire.sent)
 
-  -- what is settled up to its end, where what waits is lost
+  -- a part's steps, and a restart behind them, settle what its stretch settled, and as lost what waits
   fit_ended : (p : Part) (s : Stretch State) → Fits p s → settled_by fresh (p.steps ++ Restart ∷ []) ≡ own_settled ends s ++ map lost (world ends s).client.waiting
   fit_ended p s f =
       let c = client_after fresh p.steps in
@@ -212,29 +161,31 @@ module _ {State : Type 0} (ends : Ends State) (Good : State → Type 0) (kept : 
       ∙ ap (λ l. l ++ map lost (world ends s).client.waiting) (fit_settled p s f)
 
   module _ (reads : Call → List ℕ → Reading) (commands : List Task) where
-    -- the requests of a part
+    -- the marks of the last part are of the stretch's requests
     of_last : (rs : List Record) (p : Part) (s : Stretch State) (end : Model) → Fits p s
         → Books reads commands fresh [] rs p end.client end.marks (sent_of end.records) → AreOf commands p.marks (map asked (own_sent ends s))
     of_last rs p s end f h = subst (AreOf commands p.marks) (fit_sent p s f) h.wrote.sent
 
+    -- the marks of a part behind which the client restarts are of the stretch's requests
     of_ended : (rs mid : List Record) (p : Part) (s : Stretch State) → Fits p s → Books reads commands fresh [] rs (joined p restarting) fresh [] mid
         → AreOf commands p.marks (map asked (own_sent ends s))
     of_ended rs mid p s f h =
         let asks : sent_by fresh (p.steps ++ Restart ∷ []) ≡ map asked (own_sent ends s) = sent_append fresh p.steps (Restart ∷ []) ∙ append-nil (sent_by fresh p.steps) ∙ fit_sent p s f in
         subst (λ marks. AreOf commands marks (map asked (own_sent ends s))) (append-nil p.marks) (subst (AreOf commands (p.marks ++ [])) asks h.wrote.sent)
 
-    -- its records
+    -- the records of the last part are those of what the stretch settled
     written_last : (rs : List Record) (p : Part) (s : Stretch State) (end : Model) → Fits p s → Books reads commands fresh [] rs p end.client end.marks (sent_of end.records)
         → map timeless (sent_of end.records) ≡ map timeless rs ++ records_of reads 0 p.marks (own_settled ends s)
     written_last rs p s end f h = h.wrote.records ∙ ap (λ l. map timeless rs ++ records_of reads 0 p.marks l) (fit_settled p s f)
 
+    -- the records of a part behind which the client restarts are those of what the stretch settled, and of what was lost
     written_ended : (rs mid : List Record) (p : Part) (s : Stretch State) → Fits p s → Books reads commands fresh [] rs (joined p restarting) fresh [] mid
         → map timeless mid ≡ map timeless rs ++ records_of reads 0 p.marks (own_settled ends s ++ map lost (world ends s).client.waiting)
     written_ended rs mid p s f h =
         h.wrote.records ∙ ap (λ marks. map timeless rs ++ records_of reads 0 marks (settled_by fresh (p.steps ++ Restart ∷ []))) (append-nil p.marks)
         ∙ ap (λ l. map timeless rs ++ records_of reads 0 p.marks l) (fit_ended p s f)
 
-    -- over all parts
+    -- the requests of the stretches are those of the parts
     pub sent_all : (ps : List Part) (ss : List (Stretch State)) (rs : List Record) (end : Model) → AllFit ps ss → BooksInParts reads commands fresh [] rs ps end → AreSentAs ends commands ps ss
     sent_all [] [] rs end f h = tt
     sent_all [] (s ∷ ss) rs end f h = absurd f
@@ -244,6 +195,7 @@ module _ {State : Type 0} (ends : Ends State) (Good : State → Type 0) (kept : 
     sent_all (p ∷ q ∷ ps) (s ∷ []) rs end f h = absurd f.1
     sent_all (p ∷ q ∷ ps) (s ∷ t ∷ ss) rs end f h = (of_ended rs h.0 p s f.0 h.1, sent_all (q ∷ ps) (t ∷ ss) h.0 end f.1 h.2)
 
+    -- the records are those that the stretches write down
     pub written_all : (ps : List Part) (ss : List (Stretch State)) (rs : List Record) (end : Model) → AllFit ps ss
         → BooksInParts reads commands fresh [] rs ps end → map timeless (sent_of end.records) ≡ map timeless rs ++ written_over ends reads ps ss
     written_all [] [] rs end f h = absurd h
@@ -258,7 +210,7 @@ module _ {State : Type 0} (ends : Ends State) (Good : State → Type 0) (kept : 
 
   -- Its own.
 
-  -- in a later stretch
+  -- an answer that is its own in the later stretches is its own in all
   own_later : (commands : List Task) (p : Part) (s : Stretch State) (ps : List Part) (ss : List (Stretch State)) (r : Record) (line : List ℕ)
       → IsItsOwn ends Good kept commands ps ss r line → IsItsOwn ends Good kept commands (p ∷ ps) (s ∷ ss) r line
   own_later commands p s ps ss r line h = record {
@@ -282,7 +234,7 @@ module _ {State : Type 0} (ends : Ends State) (Good : State → Type 0) (kept : 
     made_on = h.made_on;
   }
 
-  -- whenever it was written down
+  -- an answer is its own whenever it was written down
   own_timeless : (commands : List Task) (ps : List Part) (ss : List (Stretch State)) (r : Record) (line : List ℕ)
       → IsItsOwn ends Good kept commands ps ss (timeless r) line → IsItsOwn ends Good kept commands ps ss r line
   own_timeless commands ps ss r line h = record {
@@ -306,17 +258,19 @@ module _ {State : Type 0} (ends : Ends State) (Good : State → Type 0) (kept : 
     made_on = h.made_on;
   }
 
+  -- answers are their own whenever they were written down
   all_timeless : (commands : List Task) (ps : List Part) (ss : List (Stretch State)) (rs : List Record)
       → AllByRecursion (IsOwnAnswer ends Good kept commands ps ss) (map timeless rs) → AllByRecursion (IsOwnAnswer ends Good kept commands ps ss) rs
   all_timeless commands ps ss [] h = tt
   all_timeless commands ps ss (r ∷ rs) h = (λ line answered. own_timeless commands ps ss r line (h.0 line answered), all_timeless commands ps ss rs h.1)
 
+  -- records that are their own in the later stretches are their own in all
   all_later : (commands : List Task) (p : Part) (s : Stretch State) (ps : List Part) (ss : List (Stretch State)) (rs : List Record)
       → AllByRecursion (IsOwnAnswer ends Good kept commands ps ss) rs → AllByRecursion (IsOwnAnswer ends Good kept commands (p ∷ ps) (s ∷ ss)) rs
   all_later commands p s ps ss [] h = tt
   all_later commands p s ps ss (r ∷ rs) h = (λ line answered. own_later commands p s ps ss r line (h.0 line answered), all_later commands p s ps ss rs h.1)
 
-  -- in the first one, among what is settled there and then what is lost
+  -- the answers among what the first stretch settled, and what was lost then, are their own
   own_first : (reads : Call → List ℕ → Reading) (commands : List Task) (p : Part) (s : Stretch State) (ps : List Part) (ss : List (Stretch State))
       (waiting : List Pending) (xs : List Settlement) → xs ≡ own_settled ends s ++ map lost waiting → Fits p s
       → AreOf commands p.marks (map asked (own_sent ends s))
@@ -353,6 +307,7 @@ module _ {State : Type 0} (ends : Ends State) (Good : State → Type 0) (kept : 
         made_on = subst (λ call. WasMadeOn 7 ends s.from s.moves (8 + n) call line) right (f.faithful.made_on (8 + n) x line beyond there answered);
       })
 
+  -- the answers that the stretches write down are their own
   pub own_all : (reads : Call → List ℕ → Reading) (commands : List Task) (ps : List Part) (ss : List (Stretch State)) → AllFit ps ss
       → AreSentAs ends commands ps ss → AllByRecursion (IsOwnAnswer ends Good kept commands ps ss) (written_over ends reads ps ss)
   own_all reads commands [] [] f h = tt
@@ -369,6 +324,7 @@ module _ {State : Type 0} (ends : Ends State) (Good : State → Type 0) (kept : 
 
   -- A command that wasn't sent has no answer.
 
+  -- a record of a command that didn't go out is no answer
   unsent_own : (commands : List Task) (ps : List Part) (ss : List (Stretch State)) (r : Record) → went_out r.end ≡ false → IsOwnAnswer ends Good kept commands ps ss r
   unsent_own commands ps ss r out line answered = absurd (none r.end out answered) where
     none : (e : End) → went_out e ≡ false → answer_of e ≡ Some line → ⊥
@@ -380,6 +336,7 @@ module _ {State : Type 0} (ends : Ends State) (Good : State → Type 0) (kept : 
     none end.Skipped out answered = cc
     none end.Missed out answered = cc
 
+  -- if the answers of commands that went out are their own, all are
   all_sent : (commands : List Task) (ps : List Part) (ss : List (Stretch State)) (rs : List Record)
       → AllByRecursion (IsOwnAnswer ends Good kept commands ps ss) (sent_of rs) → AllByRecursion (IsOwnAnswer ends Good kept commands ps ss) rs
   all_sent commands ps ss [] h = tt
@@ -391,6 +348,7 @@ module _ {State : Type 0} (ends : Ends State) (Good : State → Type 0) (kept : 
 
   -- Dealt with, though late.
 
+  -- if the instrument dealt with a late record in the later stretches, it dealt with it in all of them
   late_later : (commands : List Task) (p : Part) (s : Stretch State) (ps : List Part) (ss : List (Stretch State)) (r : Record)
       → IsDealtWith ends Good kept commands ps ss r → IsDealtWith ends Good kept commands (p ∷ ps) (s ∷ ss) r
   late_later commands p s ps ss r f = λ late.
@@ -411,11 +369,13 @@ module _ {State : Type 0} (ends : Ends State) (Good : State → Type 0) (kept : 
         made_on = h.made_on;
       }
 
+  -- the instrument dealt with all late ones of the later stretches, so of all stretches
   late_all_later : (commands : List Task) (p : Part) (s : Stretch State) (ps : List Part) (ss : List (Stretch State)) (rs : List Record)
       → AllByRecursion (IsDealtWith ends Good kept commands ps ss) rs → AllByRecursion (IsDealtWith ends Good kept commands (p ∷ ps) (s ∷ ss)) rs
   late_all_later commands p s ps ss [] h = tt
   late_all_later commands p s ps ss (r ∷ rs) h = (late_later commands p s ps ss r h.0, late_all_later commands p s ps ss rs h.1)
 
+  -- the instrument dealt with late ones, whenever they were written down
   late_timeless : (commands : List Task) (ps : List Part) (ss : List (Stretch State)) (rs : List Record)
       → AllByRecursion (IsDealtWith ends Good kept commands ps ss) (map timeless rs) → AllByRecursion (IsDealtWith ends Good kept commands ps ss) rs
   late_timeless commands ps ss [] h = tt
@@ -439,6 +399,7 @@ module _ {State : Type 0} (ends : Ends State) (Good : State → Type 0) (kept : 
     late_timeless commands ps ss rs h.1,
   )
 
+  -- the instrument dealt with the late ones among what the first stretch settled
   late_first : (reads : Call → List ℕ → Reading) (commands : List Task) (p : Part) (s : Stretch State) (ps : List Part) (ss : List (Stretch State))
       (waiting : List Pending) (xs : List Settlement) → xs ≡ own_settled ends s ++ map lost waiting → Fits p s
       → AreOf commands p.marks (map asked (own_sent ends s))
@@ -469,6 +430,7 @@ module _ {State : Type 0} (ends : Ends State) (Good : State → Type 0) (kept : 
         made_on = subst (λ call. WasMadeOn 7 ends s.from s.moves (8 + n) call made.0) right made.1;
       })
 
+  -- the instrument dealt with the late ones that the stretches write down
   pub late_all : (reads : Call → List ℕ → Reading) (commands : List Task) (ps : List Part) (ss : List (Stretch State)) → AllFit ps ss
       → AreSentAs ends commands ps ss → AllByRecursion (IsDealtWith ends Good kept commands ps ss) (written_over ends reads ps ss)
   late_all reads commands [] [] f h = tt
@@ -483,7 +445,7 @@ module _ {State : Type 0} (ends : Ends State) (Good : State → Type 0) (kept : 
       (late_first reads commands p s (q ∷ ps) (t ∷ ss) (world ends s).client.waiting xs refl f.0 h.0)
       (late_all_later commands p s (q ∷ ps) (t ∷ ss) (written_over ends reads (q ∷ ps) (t ∷ ss)) (late_all reads commands (q ∷ ps) (t ∷ ss) f.1 h.1))
 
-  -- one that wasn't sent isn't late
+  -- if the instrument dealt with the late ones that went out, it did with all
   late_sent : (commands : List Task) (ps : List Part) (ss : List (Stretch State)) (rs : List Record)
       → AllByRecursion (IsDealtWith ends Good kept commands ps ss) (sent_of rs) → AllByRecursion (IsDealtWith ends Good kept commands ps ss) rs
   late_sent commands ps ss [] h = tt
@@ -495,11 +457,13 @@ module _ {State : Type 0} (ends : Ends State) (Good : State → Type 0) (kept : 
 
   -- The whole.
 
+  -- the parts and the stretches of a run in the field fit
   pub all_fitting : (plan : Plan) (commands : List Task) (scope : Scope) (acts : List Act) (u : UnderWay State) (rs : List (Run State)) → IsInField ends Good kept plan commands scope acts u rs
       → AllFit (parts_of plan commands (opening plan scope) acts) (stretches ends u rs) × AreOwn 7 ends Good kept u rs
   all_fitting plan commands scope acts u rs h =
       all_fit (parts_of plan commands (opening plan scope) acts) rs u h.lines h.none h.shown h.possible (parts_begun plan commands (opening plan scope) acts h.runs)
 
+  -- a run in the field is faithful
   pub run_faithful : (plan : Plan) (commands : List Task) (scope : Scope) (acts : List Act) (u : UnderWay State) (rs : List (Run State))
       → IsInField ends Good kept plan commands scope acts u rs → IsRunFaithful ends Good kept plan commands scope acts u rs
   run_faithful plan commands scope acts u rs h =

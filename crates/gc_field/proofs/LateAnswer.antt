@@ -19,10 +19,12 @@ use Rattle.gc_field.specs.Shown.{AreShownAs, shown}
 use Rattle.gc_field.specs.Begin.{begins}
 use Rattle.gc_field.specs.Witness.{eight, plan, replies, scope}
 
+-- the late reply was made on executing the first command's request
 late_made : WasMadeOn WINDOW ends from moves 8 InstrumentNo late
 unfolding is_elsewhere header_at reply_at handed exec digits
 late_made = record { front = take 3 moves; later = drop 4 moves; split = refl; id = 0; rest = []; reaches = refl; executed = refl; reply = refl }
 
+-- the answer was made on executing the second command's request
 answer_made : WasMadeOn WINDOW ends from moves 9 InstrumentNo answer
 unfolding is_elsewhere header_at reply_at handed exec digits
 answer_made = record { front = take 9 moves; later = drop 10 moves; split = refl; id = 1; rest = []; reaches = refl; executed = refl; reply = refl }

@@ -27,6 +27,7 @@ pub mod Unbegun
 pub mod Shown
 pub mod Meant
 pub mod InTime
+pub mod Among
 pub mod Joining
 pub mod InARow
 pub mod Witness

@@ -19,6 +19,7 @@ use Rattle.gc_field.specs.LostLineFeed.{IsBookedJoined, joint, refusal}
 abbrev fields : RequestFields
 fields = record { rpc = 5003; id = Some 1; params = codes "%R1Q,0,2:" }
 
+-- the joint line reads as this request
 is_request : IsRequest joint fields
 is_request =
     record {
@@ -28,12 +29,15 @@ is_request =
       whole = refl;
     }
 
+-- the sign with which a request begins may be in a parameter without quotes
 sign : IsBare 37
 sign = record { space = λ e. omega (arith, e); quote = λ e. omega (arith, e); comma = λ e. omega (arith, e); cr = λ e. omega (arith, e); lf = λ e. omega (arith, e) }
 
+-- the three parameters of the joint line, the first of which begins with that sign
 abbrev items : List (List ℕ)
 items = codes "%R1Q" ∷ codes "0" ∷ codes "2:" ∷ []
 
+-- three parameters are too many for a procedure that takes none
 too_many : IsListFault [] (codes "%R1Q,0,2:") Count
 too_many =
     faulty_items items

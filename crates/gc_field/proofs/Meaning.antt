@@ -5,16 +5,19 @@ use Rattle.gc_client.specs.OneForOne.{Step, Send, Hear, Expire, Restart, Course,
 use Rattle.gc_client.specs.Rule.{ById, Sending, sends}
 use Rattle.gc_field.specs.Meaning.{stepped, client_after}
 
+-- a send leaves the same client of two courses with the same client
 same_sent : (x y : Course) (target : ℕ) (call : Call) (o : Option (Sending ById)) → x.client ≡ y.client → (sent_on x target call o).client ≡ (sent_on y target call o).client
 same_sent x y target call None e = e
 same_sent x y target call (Some s) e = refl
 
+-- a step of a client is that of a course with this client
 same_step : (x : Course) (step : Step) → stepped x.client step ≡ (goes 7 x step).client
 same_step x (Send target call deadline) = same_sent (record { sent = []; settlements = []; client = x.client }) x target call (sends 7 x.client target call deadline) refl
 same_step x (Hear line) = refl
 same_step x (Expire now) = refl
 same_step x Restart = refl
 
+-- a client behind steps is that of a course behind them
 pub client_is : (steps : List Step) (x : Course) → client_after x.client steps ≡ (course 7 x steps).client
 client_is [] x = refl
 client_is (step ∷ steps) x = ap (λ c. client_after c steps) (same_step x step) ∙ client_is steps (goes 7 x step)

@@ -19,6 +19,7 @@ use Rattle.gc_field.specs.Asking.{IsAskedFor, IsTaken, MeansTurns}
 use Rattle.gc_field.specs.Meaning.{IsPut, Means}
 use Rattle.gc_field.specs.Runs.{AreMeant, IsMeant}
 
+-- bytes that go out by a part are what they mean to the client
 put_means : (s : Model) (bytes : List ℕ) (p : Part) → meant.IsPut s bytes p → IsPut s.client bytes p.steps
 put_means s bytes p (inl e) = inl (e.0, ap (λ (x : Part). x.steps) e.1)
 put_means s bytes p (inr x) =
@@ -32,23 +33,25 @@ put_means s bytes p (inr x) =
       step = ap (λ (y : Part). y.steps) x.part;
     })
 
--- a piece is heard or dropped
+-- a piece means its lines, where it is heard, and nothing where it is dropped
 gave_means : (client : ById) (h : Bool) (rest behind piece : List ℕ) (m : Moment) → behind ≡ left_of h rest (Gave piece m)
     → Means client rest (Gave piece m) (Expire m.elapsed ∷ hearing h rest piece) behind
 gave_means client true rest behind piece m e = inl (record { lines = refl; rest = e })
 gave_means client false rest behind piece m e = inr (record { lines = refl; rest = e })
 
--- what is taken of a piece while a station begins: its lines are heard, or it is dropped
+-- while a station begins a piece means its lines, where it is heard, and nothing where it is dropped
 taken : (h : Bool) (rest behind piece : List ℕ) (m : Moment) → behind ≡ left_of h rest (Gave piece m) → IsTaken rest piece (if h then map Hears (lines_behind rest piece) else []) behind
 taken true rest behind piece m e = inl (refl, e)
 taken false rest behind piece m e = inr (refl, e)
 
+-- bytes that go out while a station begins mean a turn, or nothing where they are a line feed
 asked_for : (s : Model) (bytes : List ℕ) (p : Part) → ((bytes ≡ 10 ∷ []) × (p ≡ nothing))
     ⊎ ((bytes ≡ null_text s.progress.word) × (p ≡ only_turns (Asks ∷ []))) → IsAskedFor s.progress.word bytes p.turns
 asked_for s bytes p (inl e) = inl (e.0, ap (λ (x : Part). x.turns) e.1)
 asked_for s bytes p (inr e) = inr (e.0, ap (λ (x : Part). x.turns) e.1)
 
 module _ (plan : Plan) (commands : List Task) where
+  -- once a station has begun, an act means the steps of its part
   act_means : (s : Model) (act : Act) → Invariant plan commands s → has_begun s.progress ≡ true → Performs commands s (action_at plan s) act
       → Means s.client s.rest act (doing plan commands s (action_at plan s) act).steps (after plan commands s act).rest
   act_means s (Gave piece m) fine begun obeys = gave_means s.client (is_heard s.progress.phase) s.rest (after plan commands s (Gave piece m)).rest piece m
@@ -103,6 +106,7 @@ module _ (plan : Plan) (commands : List Task) where
     plain true = refl
     plain false = refl
 
+  -- while a station begins, an act means the turns of its part
   turns_mean : (s : Model) (act : Act) → has_begun s.progress ≡ false → Performs commands s (action_at plan s) act
       → MeansTurns s.progress.word s.rest act (beginning s (action_at plan s) act).turns (after plan commands s act).rest
   turns_mean s (Gave piece m) begins obeys =
@@ -158,12 +162,13 @@ module _ (plan : Plan) (commands : List Task) where
     plain true = refl
     plain false = refl
 
-  -- before it has begun, and then
+  -- an act means its part, before the station has begun and then
   is_meant : (s : Model) (act : Act) (b : Bool) → has_begun s.progress ≡ b → Invariant plan commands s → Performs commands s (action_at plan s) act
       → IsMeant b s act (if b then doing plan commands s (action_at plan s) act else beginning s (action_at plan s) act) (after plan commands s act)
   is_meant s act true e fine obeys = (none_doing plan commands s (action_at plan s) act, act_means s act fine e obeys)
   is_meant s act false e fine obeys = (steps_none plan commands s (action_at plan s) act, turns_mean s act e obeys, word_after plan commands s act obeys e)
 
+  -- each act of a run means its part
   pub are_meant : (s : Model) (acts : List Act) → Invariant plan commands s → Runs plan commands s acts → AreMeant plan commands s acts
   are_meant s [] fine runs = tt
   are_meant s (act ∷ acts) fine runs = (is_meant s act (has_begun s.progress) refl fine runs.0, are_meant (after plan commands s act) acts (fine_after plan commands s act fine) runs.1)

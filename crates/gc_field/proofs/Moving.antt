@@ -24,11 +24,12 @@ use Rattle.gc_field.proofs.Once.{IsClimbing, once_few, climbing_first, order_few
 use Rattle.gc_field.proofs.Vouched.{IsVouched, Vouched, kept_one, True, IsOn, true_requested, true_down, true_line, true_started, true_changed}
 
 module _ {State : Type 0} (width : ℕ) (narrow : width ≤ 7) (ends : Ends State) (Good : State → Type 0) (ex : IsExchange ends Good) (kept : State → Option KeptReply) where
-  -- the two worlds agree, and the line is as it has to be
+  -- the world of ids and the world of numbers agree, and the line of the second is as it has to be
   pub record Both (a : World ById State) (b : World ByNumber State) : Type 0 where
     pub agree : Agree width narrow ends Good a b
     pub sound : Sound width ends Good b
 
+  -- a start of the instrument keeps `Sound`
   pub sound_anew : (b : World ByNumber State) → Sound width ends Good b → Sound width ends Good (on_wire b (started ends b.wire true))
   sound_anew b h =
       record {
@@ -43,12 +44,15 @@ module _ {State : Type 0} (width : ℕ) (narrow : width ≤ 7) (ends : Ends Stat
         coming = h.coming;
       }
 
+  -- a step keeps `Both`
   both_step : (a : World ById State) (b : World ByNumber State) (step : Step) → Both a b → Both (happens ends (by_ids width ends) a step) (happens ends (by_numbers width) b step)
   both_step a b step h = record { agree = agrees width narrow ends Good a b step h.sound h.agree; sound = sound_step width ends Good ex b step h.sound }
 
+  -- a change of the instrument's state to a good one keeps `Sound`
   pub sound_changed : (b : World ByNumber State) (state : State) → Good state → Sound width ends Good b → Sound width ends Good (on_wire b (record b.wire { state = state }))
   sound_changed b state good h = record { good = good; counted = h.counted; booked = h.booked; begun = h.begun; within = h.within; few = h.few; order = h.order; going = h.going; coming = h.coming }
 
+  -- a possible move keeps `Both`
   pub both_move : (a : World ById State) (b : World ByNumber State) (m : Move State) → IsPossible Good kept a m → Both a b
       → Both (moves ends (by_ids width ends) a m) (moves ends (by_numbers width) b m)
   both_move a b (Sends target call deadline) p h = both_step a b (Send target call deadline) h
@@ -62,22 +66,25 @@ module _ {State : Type 0} (width : ℕ) (narrow : width ≤ 7) (ends : Ends Stat
       record { agree = record { wire = ap (λ (w : Wire State). record w { state = state }) h.agree.wire; client = h.agree.client }; sound = sound_changed b state p.0 h.sound }
   both_move a b (Joins line) p h = absurd p
 
+  -- possible moves keep `Both`
   pub both_all : (ms : List (Move State)) (a : World ById State) (b : World ByNumber State) → ArePossible ends Good kept (by_ids width ends) ms a → Both a b
       → Both (moved ends (by_ids width ends) ms a) (moved ends (by_numbers width) ms b)
   both_all [] a b p h = h
   both_all (m ∷ ms) a b p h = both_all ms _ _ p.1 (both_move a b m p.0 h)
 
+  -- `Both` holds at the start
   pub both_open : (state : State) → Good state → Both (ids_open state) (numbers_open state)
   both_open state good =
       record { agree = record { wire = refl; client = record { window = refl; next = omega arith } }; sound = sound_open width ends Good state good }
 
-  -- a reply whose request isn't settled settles it, and those before it as lost
+  -- in the world of numbers, a reply whose request isn't settled settles it, and those before it as lost
   heard_first : (b : World ByNumber State) (n : ℕ) (line : List ℕ) (rest q : List (Numbered (List ℕ))) → q ≡ record { number = n; line = line } ∷ rest → b.client.count ≤ n →
       (down_delivered (by_numbers width) b q).wire.settled ≡ b.wire.settled ++ settle (n - b.client.count) line (drop b.client.count b.client.requests)
   heard_first b n line rest q e le =
       ap (λ q. (down_delivered (by_numbers width) b q).wire.settled) e
       ∙ ap (λ t. b.wire.settled ++ (number_reply b.client (record { number = n; line = line }) t).settlements) (le-ltb n b.client.count le)
 
+  -- in the world of ids, a reply whose request isn't settled settles it, and those before it as lost
   pub first_reply : (a : World ById State) (b : World ByNumber State) (n : ℕ) (line : List ℕ) (rest : List (Numbered (List ℕ))) → Both a b
       → a.wire.down ≡ record { number = n; line = line } ∷ rest → length a.wire.settled ≤ n →
       (moves ends (by_ids width ends) a (Comes line)).wire.settled ≡ a.wire.settled ++ settle (n - length a.wire.settled) line a.client.waiting
@@ -117,6 +124,7 @@ module _ {State : Type 0} (width : ℕ) (narrow : width ≤ 7) (ends : Ends Stat
         | inr v ↦ v
       ]
 
+  -- a late settlement of a request from `low` on has a line that is vouched for
   pub late_of :
       (w : Wire State) (m : ℕ) (s : Settlement) → low ≤ m → AllSo (Vouches w) 0 w.settled → slice_get w.settled m ≡ Some s → s.outcome ≡ Late
       → (line : List ℕ) × IsVouched width narrow ends Good ex kept keeper low M w.sent w.executed w.made m line
@@ -135,7 +143,7 @@ module _ {State : Type 0} (width : ℕ) (narrow : width ≤ 7) (ends : Ends Stat
       (moved ends (by_numbers width) front b).wire.up ≡ x ∷ rest →
       IsOn width narrow ends Good ex kept keeper low M (moved ends (by_numbers width) front b) x
 
-  -- the same of the moves behind the first
+  -- where `AreOn` holds of moves, it holds of those behind the first
   are_on_behind : (m : Move State) (ms : List (Move State)) (b : World ByNumber State) → AreOn (m ∷ ms) b → AreOn ms (moves ends (by_numbers width) b m)
   are_on_behind m ms b on = λ front later e. on (m ∷ front) later (ap (λ l. m ∷ l) e)
 
@@ -153,6 +161,7 @@ module _ {State : Type 0} (width : ℕ) (narrow : width ≤ 7) (ends : Ends Stat
       true_changed width narrow ends Good ex kept keeper low M b state (p.1 ∙ ap (λ (w : Wire State). kept w.state) both.agree.wire) t
   trusted_move (Joins line) ms a b both p on s t = absurd p
 
+  -- moves whose executions are `AreOn` leave the wire vouched for, from a `Trusted` world on
   pub whole_all : (ms : List (Move State)) (a : World ById State) (b : World ByNumber State) → Both width narrow ends Good ex kept a b
       → ArePossible ends Good kept (by_ids width ends) ms a → AreOn ms b → Trusted b → IsVouchedFor (moved ends (by_numbers width) ms b).wire
   whole_all [] a b h p on t = record { answers = t.answers; order = t.order.order; once = λ keeps. (t.once keeps).once }
@@ -265,7 +274,7 @@ module _ {State : Type 0} (width : ℕ) (narrow : width ≤ 7) (ends : Ends Stat
       let none : [] ≡ x ∷ rest = sym f.down ∙ sym (ap (λ (w : Wire State). w.down) h.agree.wire) ∙ e in
       cc
 
-  -- whatever it kept when the first request went out
+  -- behind possible moves whose first request goes out alone the answers are vouched for, whatever the instrument kept before
   pub early_all : (ms : List (Move State)) (out : Bool) (a : World ById State) (b : World ByNumber State) → Both width narrow ends Good ex kept a b
       → ArePossible ends Good kept (by_ids width ends) ms a → IsFirstAlone out ms → AreOn ms b → IsFresh b out → IsVouchedFor (moved ends (by_numbers width) ms b).wire
   early_all [] out a b h p l on f =
@@ -316,6 +325,7 @@ module _ {State : Type 0} (width : ℕ) (narrow : width ≤ 7) (ends : Ends Stat
       alone_changes false l = l
   early_all (Joins line ∷ ms) out a b h p l on f = absurd p.0
 
+  -- moves whose first request goes out alone leave the wire vouched for, from an open world on
   pub vouched_at : (ms : List (Move State)) (state : State) → Good state → ArePossible ends Good kept (by_ids width ends) ms (ids_open state) → IsFirstAlone false ms
       → AreOn ms (numbers_open state) → IsVouchedFor (moved ends (by_numbers width) ms (numbers_open state)).wire
   vouched_at ms state good p l on =

@@ -18,7 +18,7 @@ use Rattle.gc_field.specs.Laws.{WasExecuted}
 use Rattle.gc_field.specs.Needed.{Keeper, IsAllNeeded, InOrder, value, refusal, kept, keeper, held, again_or, refuses_or, answers_in, deals_anew, sound, forgets}
 use Rattle.gc_field.specs.Once.{ActsOnce}
 
--- what is kept for an id is its own
+-- a number that is kept for an id is kept with that id
 pub kept_own : (k : Keeper) (id n : ℕ) → held k id ≡ Some n → kept k ≡ Some (record { id = id; line = value id n })
 kept_own None id n e = let never : ⊥ = cc in absurd never
 kept_own (Some x) id n e = chosen (nat_eq x.0 id) refl e where
@@ -26,55 +26,67 @@ kept_own (Some x) id n e = chosen (nat_eq x.0 id) refl e where
   chosen true t e = ap (λ i. Some (record { id = i; line = value i x.1 })) (eqb-true x.0 id t) ∙ ap (λ m. Some (record { id = id; line = value id m })) (some_is x.1 n e)
   chosen false t e = let never : ⊥ = cc in absurd never
 
+-- a reply that gives a number has its id
 pub reads_value : (id n : ℕ) → id < 8 → heard (value id n) ≡ Some id
 reads_value id n small = ap id_in (reply_back (record { rc_com = 0; id = Some id; rc = 0; params = decimal n }) (record { rc_com = lit< tt; id = small; rc = lit< tt }))
 
+-- a reply that refuses has its id
 reads_refusal : (id : ℕ) → id < 8 → heard (refusal id) ≡ Some id
 reads_refusal id small = ap id_in (reply_back (record { rc_com = 3081; id = Some id; rc = 0; params = [] }) (record { rc_com = lit< tt; id = small; rc = lit< tt }))
 
 true_is_not : true ≡ false → ⊥
 true_is_not e = cc
 
+-- the reply of `again_or` has its request's id
 again_reads : (k : Keeper) (id : ℕ) (o : Option ℕ) → id < 8 → heard (again_or id k o).reply ≡ Some id
 again_reads k id (Some n) small = reads_value id n small
 again_reads k id None small = reads_value id 0 small
 
+-- a line that `again_or` sends again is the one that it keeps
 again_repeats : (k : Keeper) (id : ℕ) (o : Option ℕ) → held k id ≡ o → (again_or id k o).executed ≡ false → kept k ≡ Some (record { id = id; line = (again_or id k o).reply })
 again_repeats k id (Some n) e not = kept_own k id n e
 again_repeats k id None e not = absurd (true_is_not not)
 
+-- behind a request `again_or` keeps the request's reply
 again_keeps : (k : Keeper) (id : ℕ) (o : Option ℕ) → held k id ≡ o → kept (again_or id k o).state ≡ Some (record { id = id; line = (again_or id k o).reply })
 again_keeps k id (Some n) e = kept_own k id n e
 again_keeps k id None e = refl
 
+-- the reply of `refuses_or` has its request's id
 refuses_reads : (b : Bool) (k : Keeper) (id : ℕ) → id < 8 → heard (refuses_or b k id).reply ≡ Some id
 refuses_reads true k id small = again_reads k id (held k id) small
 refuses_reads false k id small = reads_refusal id small
 
+-- a line that `refuses_or` sends again is the one that it keeps
 refuses_repeats : (b : Bool) (k : Keeper) (id : ℕ) → (refuses_or b k id).executed ≡ false → kept k ≡ Some (record { id = id; line = (refuses_or b k id).reply })
 refuses_repeats true k id not = again_repeats k id (held k id) refl not
 refuses_repeats false k id not = absurd (true_is_not not)
 
--- all that were executed are below it
+-- a number that is above all that were executed wasn't executed
 above : (n : ℕ) (xs : List ℕ) → Each (λ m. m < n) xs → WasExecuted xs n → ⊥
 above n xs low h = omega (arith, each_get (λ m. m < n) xs h.0 n low h.1)
 
+-- the ninth request of the client wasn't executed here
 ninth : WasExecuted (8 ∷ 9 ∷ 10 ∷ 11 ∷ 12 ∷ 13 ∷ 14 ∷ 15 ∷ []) 16 → ⊥
 ninth h = above 16 (8 ∷ 9 ∷ 10 ∷ 11 ∷ 12 ∷ 13 ∷ 14 ∷ 15 ∷ []) (lit< tt, (lit< tt, (lit< tt, (lit< tt, (lit< tt, (lit< tt, (lit< tt, (lit< tt, tt)))))))) h
 
+-- where nothing was executed, request 9 wasn't
 none : WasExecuted [] 9 → ⊥
 none h = above 9 [] tt h
 
+-- where only request 8 was executed, request 9 wasn't
 first : WasExecuted (8 ∷ []) 9 → ⊥
 first h = above 9 (8 ∷ []) (lit< tt, tt) h
 
+-- where only requests 8 and 9 were executed, request 10 wasn't
 second : WasExecuted (8 ∷ 9 ∷ []) 10 → ⊥
 second h = above 10 (8 ∷ 9 ∷ []) (lit< tt, (lit< tt, tt)) h
 
--- 8 ∷ 9 ∷ 9, with no start
+-- 8, 9 and 9, with no start between, aren't executed at most once
 not_once : ActsOnce (8 ∷ 9 ∷ 9 ∷ []) [] → ⊥
 not_once h = omega (arith, h 1 2 9 9 (lit< tt) tt refl refl)
 
+-- `keeper` is an instrument
 keeper_is : IsAnInstrument keeper AnyState kept
 keeper_is =
     record {
@@ -87,6 +99,7 @@ keeper_is =
       starts_good = λ k good. tt;
     }
 
+-- `deals_anew` is an instrument
 anew_is : IsAnInstrument deals_anew AnyState kept
 anew_is =
     record {
@@ -99,6 +112,7 @@ anew_is =
       starts_good = λ k good. tt;
     }
 
+-- `forgets` is an instrument
 forgets_is : IsAnInstrument forgets AnyState nothing
 forgets_is =
     record {
@@ -111,10 +125,12 @@ forgets_is =
       starts_good = λ b good. tt;
     }
 
+-- an instrument in order replies with the request's id
 in_order : (b : Bool) (id : ℕ) → InOrder b → id < 8 → heard (answers_in b id b).reply ≡ Some id
 in_order false id good small = reads_value id 0 small
 in_order true id good small = absurd (true_is_not good)
 
+-- `sound` is an instrument in its good states
 sound_is : IsAnInstrument sound InOrder nothing
 sound_is =
     record {
@@ -127,7 +143,7 @@ sound_is =
       starts_good = λ b good. good;
     }
 
--- with nothing under way, and nothing kept, it has begun cleanly
+-- what keeps nothing has begun cleanly
 none_kept : {State : Type 0} (state : State) (k : KeptReply) → nothing state ≡ Some k → k.id ≡ 7
 none_kept state k e = let never : ⊥ = cc in absurd never
 

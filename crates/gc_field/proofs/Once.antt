@@ -19,7 +19,7 @@ each_last : {A : Type 0} (P : A → Type 0) (xs : List A) (y : A) → Each P (xs
 each_last P [] y h = h.0
 each_last P (x ∷ xs) y h = each_last P xs y h.1
 
--- what stands at a place stood there before one more came, or is that one
+-- what is at a place of a list with one element more was at that place before, or is that element
 get_pushed : {A : Type 0} (xs : List A) (x : A) (i : ℕ) (y : A) → slice_get (xs ++ x ∷ []) i ≡ Some y → (slice_get xs i ≡ Some y) ⊎ ((i ≡ length xs) × (x ≡ y))
 get_pushed [] x zero y e = inr (refl, some_is x y e)
 get_pushed [] x (suc i) y e = absurd (none_is_not y e)
@@ -36,23 +36,24 @@ get_pushed (z ∷ xs) x (suc i) y e =
 abbrev pub IsIdle : List ℕ → List ℕ → Type 0
 IsIdle executed starts = (executed ≡ []) ⊎ ((earlier : List ℕ) × (starts ≡ earlier ++ length executed ∷ []))
 
--- all that was executed is below this number, and where nothing is kept, nothing was executed since the last start
+-- what was executed acts once and is below this number; and where nothing is kept, nothing was executed since the last start
 pub record IsClimbing (top : ℕ) (executed starts : List ℕ) (k : Option KeptReply) : Type 0 where
   pub once : ActsOnce executed starts
   pub below : Each (λ n. n < top) executed
   pub idle : k ≡ None → IsIdle executed starts
 
--- all that was executed is below this number, and in order
+-- what was executed is in order and below this number
 pub record IsOrdered (top : ℕ) (executed : List ℕ) : Type 0 where
   pub order : IsInOrder executed
   pub below : Each (λ n. n < top) executed
 
+-- at most one execution is in order
 pub order_few : (executed : List ℕ) → length executed ≤ 1 → IsInOrder executed
 order_few executed few j k m n lt a b =
     let size : k < length executed = below executed k n b in
     absurd (omega (arith, size, few, lt))
 
--- a request is executed that is none before the last
+-- where a request is executed that isn't before the last, the order stays
 pub ordered_acted : (top n : ℕ) (executed : List ℕ) → top ≤ n + 1 → IsOrdered top executed → IsOrdered (n + 1) (executed ++ n ∷ [])
 ordered_acted top n executed le h =
     record {
@@ -70,19 +71,20 @@ ordered_acted top n executed le h =
       below = each_append (λ m. m < n + 1) executed (n ∷ []) (each_more (λ m. m < top) (λ m. m < n + 1) (λ m l. omega (arith, l, le)) executed h.below) (omega arith, tt);
     }
 
+-- the first execution, if there is one, is `IsOrdered`
 pub ordered_first : (n : ℕ) (executed : List ℕ) (acted : Bool) → executed ≡ [] → n ≡ 0 → IsOrdered 1 (cond acted (executed ++ n ∷ []) executed)
 ordered_first n executed acted none nought = subst (λ l. IsOrdered 1 (cond acted (l ++ n ∷ []) l)) (sym none) (chosen acted) where
   chosen : (acted : Bool) → IsOrdered 1 (cond acted (n ∷ []) [])
   chosen true = record { order = order_few (n ∷ []) (omega arith); below = (omega (arith, nought), tt) }
   chosen false = record { order = order_few [] (omega arith); below = tt }
 
--- at most one execution
+-- at most one execution acts once
 pub once_few : (executed starts : List ℕ) → length executed ≤ 1 → ActsOnce executed starts
 once_few executed starts few j k m n lt run a b =
     let size : k < length executed = below executed k n b in
     absurd (omega (arith, size, few, lt))
 
--- the instrument starts
+-- `IsClimbing` lasts over a start of the instrument
 pub climbing_started : (top : ℕ) (executed starts : List ℕ) (k after : Option KeptReply) → IsClimbing top executed starts k → IsClimbing top executed (starts ++ length executed ∷ []) after
 climbing_started top executed starts k after h =
     record {
@@ -91,12 +93,12 @@ climbing_started top executed starts k after h =
       idle = λ e. inr (starts, refl);
     }
 
--- something is kept
+-- `IsClimbing` lasts where something is kept afterwards
 pub climbing_kept : (top : ℕ) (executed starts : List ℕ) (k after : Option KeptReply) (r : KeptReply) → after ≡ Some r → IsClimbing top executed starts k → IsClimbing top executed starts after
 climbing_kept top executed starts k after r e h =
     record { once = h.once; below = h.below; idle = λ none. let same : None ≡ Some r = sym none ∙ e in let never : ⊥ = cc in absurd never }
 
--- nothing was executed since the last start, so it came between these two executions
+-- where nothing was executed since the last start, that start is between an earlier execution and the next one
 never_idle : (executed starts : List ℕ) (j k m : ℕ) → IsIdle executed starts → HasNoStart starts j k → slice_get executed j ≡ Some m → k ≡ length executed → ⊥
 never_idle executed starts j k m (inl none) run a e = none_is_not m (subst (λ l. slice_get l j ≡ Some m) none a)
 never_idle executed starts j k m (inr h) run a e =
@@ -106,7 +108,7 @@ never_idle executed starts j k m (inr h) run a e =
       | inr l ↦ omega (arith, l, e)
     ]
 
--- a request is executed that is none of those before, or the first one since a start
+-- `IsClimbing` lasts where a request is executed that is none of those before, or the first one since a start
 pub climbing_acted : (top n : ℕ) (executed starts : List ℕ) (k : Option KeptReply) (kept : KeptReply) → top ≤ n + 1 → (k ≡ None) ⊎ (top ≤ n)
     → IsClimbing top executed starts k → IsClimbing (n + 1) (executed ++ n ∷ []) starts (Some kept)
 climbing_acted top n executed starts k kept le why h =
@@ -130,14 +132,14 @@ climbing_acted top n executed starts k kept le why h =
     later i j x lt run first e (inl none) = absurd (never_idle executed starts i j x (h.idle none) run first e)
     later i j x lt run first e (inr above) = let l : x < top = each_get (λ m. m < top) executed i x h.below first in omega (arith, l, above)
 
--- the first request that reached the instrument was executed, or not
+-- `IsClimbing` holds once the first request reached the instrument, executed or not
 pub climbing_first : (n : ℕ) (executed starts : List ℕ) (acted : Bool) (kept : KeptReply) → executed ≡ [] → n ≡ 0 → IsClimbing 1 (cond acted (executed ++ n ∷ []) executed) starts (Some kept)
 climbing_first n executed starts acted kept none nought = subst (λ l. IsClimbing 1 (cond acted (l ++ n ∷ []) l) starts (Some kept)) (sym none) (chosen acted) where
   chosen : (acted : Bool) → IsClimbing 1 (cond acted (n ∷ []) []) starts (Some kept)
   chosen true = record { once = once_few (n ∷ []) starts (omega arith); below = (omega (arith, nought), tt); idle = λ e. let never : ⊥ = cc in absurd never }
   chosen false = record { once = once_few [] starts (omega arith); below = tt; idle = λ e. let never : ⊥ = cc in absurd never }
 
--- an id that isn't the kept one is that of a later request than the last
+-- a request whose id isn't the kept one is later than the last
 pub newer : (since top n id : ℕ) (k : KeptReply) → k.id ≡ (top - 1 - since) % 8 → since < top → id ≡ (n - since) % 8 → top ≤ n + 1 → (k.id ≡ id → ⊥) → top ≤ n
 newer since top n id k own recent mine le other = chosen (ltb n top) refl where
   chosen : (b : Bool) → ltb n top ≡ b → top ≤ n

@@ -56,23 +56,29 @@ each_at P (x ∷ xs) f = (f 0 x refl, each_at P xs (λ i y got. f (suc i) y got)
 -- Among numbers that were executed, those between one and a later one.
 
 module _ (e : List ℕ) (m n : ℕ) (numbers : List ℕ) where
+  -- all executions: those before request m, m, those between, and n
   abbrev all : List ℕ
   all = (e ++ m ∷ numbers) ++ n ∷ []
 
+  -- request m is at its place among all executions
   at_m : slice_get all (length e) ≡ Some m
   at_m = get_front (e ++ m ∷ numbers) (n ∷ []) (length e) m (get_behind e (m ∷ numbers) 0 (length e) m (omega arith) refl)
 
+  -- each request between is at its place among all executions
   at_x : (i x : ℕ) → slice_get numbers i ≡ Some x → slice_get all (length e + (1 + i)) ≡ Some x
   at_x i x got = get_front (e ++ m ∷ numbers) (n ∷ []) (length e + (1 + i)) x (get_behind e (m ∷ numbers) (suc i) (length e + (1 + i)) x (omega arith) got)
 
+  -- request n is at its place among all executions
   at_n : slice_get all (length e + (1 + length numbers)) ≡ Some n
   at_n =
       let size : length (e ++ m ∷ numbers) ≡ length e + length (m ∷ numbers) = length-append e (m ∷ numbers) in
       get_behind (e ++ m ∷ numbers) (n ∷ []) 0 (length e + (1 + length numbers)) n (omega (arith, size)) refl
 
+  -- the executions between are in order
   pub in_turn : IsInOrder all → IsInOrder numbers
   in_turn rises j k x y lt a b = rises (length e + (1 + j)) (length e + (1 + k)) x y (omega (arith, lt)) (at_x j x a) (at_x k y b)
 
+  -- the executions between are of no request before m and of none behind n
   pub upto : IsInOrder all → Each (λ x. (m ≤ x) × (x ≤ n)) numbers
   upto rises =
       each_at (λ x. (m ≤ x) × (x ≤ n)) numbers
@@ -82,6 +88,7 @@ module _ (e : List ℕ) (m n : ℕ) (numbers : List ℕ) where
         rises (length e + (1 + i)) (length e + (1 + length numbers)) x n (omega (arith, small)) (at_x i x got) at_n,
       ))
 
+  -- where the instrument acts once, and didn't start between, the executions between are of requests sent between m and n
   pub inside : (starts : List ℕ) → Each (λ s. s ≤ length e) starts → ActsOnce all starts → Each (λ x. (m < x) × (x < n)) numbers
   inside starts early once =
       each_at (λ x. (m < x) × (x < n)) numbers
@@ -122,7 +129,7 @@ module _ {State : Type 0} (ends : Ends State) (Good : State → Type 0) (kept : 
       let did = did_all ends Good kept more (at front) possible (stands_all ends Good kept front s.from clean (possible_to front (more ++ later) split)) in
       (did.more, ap (λ (w : World ById State). w.wire.sent) (moved_append 7 ends front more (ids_begun s.from)) ∙ did.sent)
 
-  -- m was executed before these moves, and n wasn't sent: so n was executed behind them
+  -- a request that wasn't sent by the moves before, and was executed, was executed behind them
   behind_front : (before later : List (Move State)) → s.moves ≡ before ++ later → (n : ℕ) → length (at before).wire.sent ≤ n
       → (call : Call) (line : List ℕ) (h : WasMadeOn 7 ends s.from s.moves n call line)
       → (more : List (Move State)) × (h.front ≡ before ++ more)
@@ -135,7 +142,7 @@ module _ {State : Type 0} (ends : Ends State) (Good : State → Type 0) (kept : 
             absurd (omega (arith, size, sum, was_sent n call line h, unsent)))
       ]
 
-  -- two executions, the one behind the other
+  -- where request n was executed behind request m, both are `IsExecutedAfter`
   both_made : (m n : ℕ) (call_m call_n : Call) (line_m line_n : List ℕ) (f : WasMadeOn 7 ends s.from s.moves m call_m line_m)
       (h : WasMadeOn 7 ends s.from s.moves n call_n line_n) (between : List (Move State)) → h.front ≡ f.front ++ OnLine Up_deliver ∷ between
       → IsExecutedAfter ends Good kept s m n call_m call_n line_m line_n
@@ -195,7 +202,7 @@ module _ {State : Type 0} (ends : Ends State) (Good : State → Type 0) (kept : 
       nil [] = refl
       nil (x ∷ ms) = ap (λ l. x ∷ l) (nil ms)
 
-  -- what goes out behind an answer
+  -- a request that goes out behind the answer to another one, and is executed, is executed behind the other one
   pub executed_behind : (before later : List (Move State)) → s.moves ≡ before ++ later → (m n : ℕ) (x : Settlement) (line_m : List ℕ) → 8 ≤ m
       → slice_get (at before).wire.settled m ≡ Some x → x.outcome ≡ Answered line_m
       → length (at before).wire.sent ≤ n → (call : Call) (line_n : List ℕ) → WasMadeOn 7 ends s.from s.moves n call line_n → IsExecutedAfter ends Good kept s m n x.call call line_m line_n

@@ -43,13 +43,14 @@ use Rattle.gc_field.proofs.Joining.{run_faithful}
 
 -- What executing a call makes of the simulator.
 
+-- what a call makes of the simulator doesn't depend on the reply that is kept
 exec_bare : (s : State) (asked : Call) → behind_call (bare s) asked ≡ bare (behind_call s asked)
 exec_bare s asked = ap (λ (x : Executed). x.state) (executes_apart s None asked)
 
 true_is_not : true ≡ false → ⊥
 true_is_not e = cc
 
--- a line that is sent again leaves it
+-- a line that is sent again leaves the simulator's state
 handed_same : (s : State) (id : ℕ) (asked : Call) (o : Option (List ℕ)) → kept_line s.kept (Some id) ≡ o → (handed s id asked).executed ≡ false → (handed s id asked).state ≡ s
 handed_same s id asked (Some line) e not = ap (λ (x : Handed State). x.state) (handed_again s id asked line e)
 handed_same s id asked None e not = absurd (true_is_not (sym (ap (λ (x : Handed State). x.executed) (handed_new s id asked e)) ∙ not))
@@ -76,20 +77,25 @@ no_start (Joins line ∷ ms) h = absurd h
 
 -- What a call that doesn't turn the telescope leaves.
 
+-- the second state points as the first
 abbrev IsSame : State → State → Type 0
 IsSame s t = (t.pointing ≡ s.pointing) × (t.face ≡ s.face)
 
+-- a setting turns no telescope
 set_same : (b : Bool) (s t : State) → IsSame s t → IsSame s (set_if b s t).state
 set_same true s t h = h
 set_same false s t h = (refl, refl)
 
+-- telling a distance turns no telescope
 told_same : (s : State) (answer_with : Decimal → Answer) (d : Option Decimal) → IsSame s (told s answer_with d).state
 told_same s answer_with None = (refl, refl)
 told_same s answer_with (Some d) = (refl, refl)
 
+-- what executing a command to measure does, by which of its cases it is
 abbrev rows : State → Bool → Bool → Bool → Executed
 rows t a b c = cond a (done t Nothing) (cond b (done (measured t) Nothing) (cond c (done (unmeasured t) Nothing) (refused t 2)))
 
+-- executing a command to measure turns no telescope
 commanded_same : (s : State) (command : ℤ) → IsSame s (commanded s command).state
 commanded_same s command = by_tests (int_eq command (pos 0)) (int_eq command (pos 1)) (int_eq command (pos 3)) where
   by_tests : (a b c : Bool) → IsSame s (rows s a b c).state
@@ -98,6 +104,7 @@ commanded_same s command = by_tests (int_eq command (pos 0)) (int_eq command (po
   by_tests false false true = (refl, refl)
   by_tests false false false = (refl, refl)
 
+-- a call that turns no telescope leaves where it points
 call_same : (s : State) (asked : Call) → turns asked ≡ false → IsSame s (exec s asked).state
 unfolding exec
 call_same s (call.SetPrecision n) e = set_same _ s _ (refl, refl)
@@ -112,11 +119,13 @@ call_same s (call.ChangeFace pos_mode atr_mode dummy) e = cc
 call_same s (call.FineAdjust area_hz area_v dummy) e = cc
 call_same s asked e = (refl, refl)
 
+-- a positioning leaves the telescope in its direction, in the same face
 position_points : (s : State) (hz v : Decimal) (pos_mode atr_mode dummy : _) → let t = (exec s (call.Position hz v pos_mode atr_mode dummy)).state in
     (t.pointing ≡ record { hz = hz; v = v }) × (t.face ≡ s.face)
 unfolding exec
 position_points s hz v pos_mode atr_mode dummy = (refl, refl)
 
+-- calls that turn no telescope leave where it points
 executing_same : (calls : List Call) (s : State) → Each (λ x. turns x ≡ false) calls → IsSame s (executing behind_call s calls)
 executing_same [] s h = (refl, refl)
 executing_same (x ∷ calls) s h =
@@ -126,6 +135,7 @@ executing_same (x ∷ calls) s h =
 
 -- What was executed between.
 
+-- if the requests between m and n turn no telescope, the calls that are executed between don't
 all_still : (sent : List Sent) (m n : ℕ) (ns : List ℕ) (calls : List Call) → AreCalls sent ns calls
     → Each (λ x. (m < x) × (x < n)) ns → ((x : ℕ) (r : Sent) → m < x → x < n → slice_get sent x ≡ Some r → turns r.call ≡ false)
     → Each (λ x. turns x ≡ false) calls
@@ -142,6 +152,7 @@ get_own (suc k) n j [] x e got = absurd (none_is_not x got)
 get_own (suc k) n zero (y ∷ xs) x e got = absurd (omega (arith, e))
 get_own (suc k) n (suc j) (y ∷ xs) x e got = get_own k n j xs x (omega (arith, e)) got
 
+-- a null procedure turns no telescope
 null_still : (a : Asked) (r : Sent) → asked r ≡ a → a ≡ record { target = 0; call = call.NullProc } → turns r.call ≡ false
 null_still a r e f = ap (λ (o : Asked). turns o.call) (e ∙ f)
 
@@ -196,6 +207,7 @@ module _ (plan : Plan) (commands : List Task) (scope : Scope) (acts : List Act) 
   all_so P Q f [] h = tt
   all_so P Q f (x ∷ xs) h = (f x h.0, all_so P Q f xs h.1)
 
+  -- where parts of a run go on as the laws of stations say, each record of a run over the simulator is `IsPointedInChain`
   pub pointed : ChainsStay → MarksGoOn → RecordsStay → AllByRecursion (IsPointedInChain plan commands scope acts u rs) (stood plan commands scope acts).records
   pointed stay go_on records_stay =
       all_so (IsExecutedInChain ends IsFittingState kept_of plan commands scope acts u rs) (IsPointedInChain plan commands scope acts u rs)

@@ -9,18 +9,22 @@ use Rattle.gc_field.specs.Shown.{first_heard, shown, shows}
 
 -- turns leave of the word what the lines leave that they show
 module _ {State : Type 0} (ends : Ends State) where
+  -- asking leaves what is left of the word
   left_asks : (s : Model State) (word : List ℕ) → s.left ≡ word → (asks s word).left ≡ s.left
   left_asks s [] e = refl
   left_asks s (asked ∷ rest) e = refl
 
+  -- a reply that comes leaves of the word what its line leaves
   left_comes : (s : Model State) (q : List (Aged (List ℕ))) → (comes s q).left ≡ left_behind s.left (heard_in (first_heard q))
   left_comes s [] = refl
   left_comes s (x ∷ rest) = refl
 
+  -- a request that reaches the instrument leaves what is left of the word
   left_reaches : (s : Model State) (q : List _) → (reaches ends s q).left ≡ s.left
   left_reaches s [] = refl
   left_reaches s (x ∷ rest) = refl
 
+  -- what a turn leaves of the word is what the lines leave that it shows
   left_turn : (s : Model State) (t : Turn State) → (turns ends s t).left ≡ left_behind s.left (heard_in (shows s t))
   left_turn s Asks = left_asks s s.left refl
   left_turn s Comes = left_comes s s.down
@@ -33,6 +37,7 @@ module _ {State : Type 0} (ends : Ends State) where
   left_turn s Anew = refl
   left_turn s (Changes state) = refl
 
+  -- what turns leave of the word is what the lines leave that they show
   pub left_is : (ts : List (Turn State)) (s : Model State) → (turned ends ts s).left ≡ left_behind s.left (heard_in (shown ends ts s))
   left_is [] s = refl
   left_is (t ∷ ts) s =

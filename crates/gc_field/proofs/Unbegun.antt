@@ -10,14 +10,14 @@ use Rattle.gc_field.specs.Begin.{UnderWay}
 use Rattle.gc_field.specs.Begun.{IsFaithful, nulls, nulls_settled}
 use Rattle.gc_field.proofs.BegunFaithful.{of_last}
 
--- no settlement is the client's
+-- no settlement behind a beginning is the client's
 none_own : (m : ℕ) (s : Settlement) → 8 ≤ m → slice_get nulls_settled m ≡ Some s → ⊥
 none_own m s ge e = let low : m < 8 = below nulls_settled m s e in omega (arith, low, ge)
 
 none_at : (j n : ℕ) → slice_get [] j ≡ Some n → ⊥
 none_at j n e = cc
 
--- what is under way is of request 7
+-- what is under way behind a beginning is of request 7
 of_seven : (xs : List (List ℕ)) (n : ℕ) (line : List ℕ) (rest : List (Numbered (List ℕ))) → of_last xs ≡ record { number = n; line = line } ∷ rest → 8 ≤ n → ⊥
 of_seven [] n line rest e ge = cc
 of_seven (x ∷ xs) n line rest e ge = let is : 7 ≡ n = first (record { number = 7; line = x }) (record { number = n; line = line }) (of_last xs) rest e in omega (arith, is, ge) where
@@ -26,6 +26,7 @@ of_seven (x ∷ xs) n line rest e ge = let is : 7 ≡ n = first (record { number
     head : (a b : Numbered (List ℕ)) (xs ys : List (Numbered (List ℕ))) → a ∷ xs ≡ b ∷ ys → a ≡ b
     head a b xs ys e = cc
 
+-- where nothing happened behind a beginning, the moves are faithful
 pub faithful_none : {State : Type 0} (ends : Ends State) (Good : State → Type 0) (kept : State → Option KeptReply) (u : UnderWay State) → IsFaithful 7 ends u [] Good kept
 faithful_none ends Good kept u =
     record {

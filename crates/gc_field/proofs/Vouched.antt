@@ -24,11 +24,12 @@ use Rattle.gc_field.specs.Instrument.{IsAnInstrument, KeepsItsReply}
 use Rattle.gc_field.proofs.Answered.{AllSo, all_so_more, all_so_append, all_so_settle}
 use Rattle.gc_field.proofs.Once.{IsClimbing, IsOrdered, climbing_started, climbing_acted, climbing_kept, ordered_acted, newer}
 
--- no number under way upward is below the one in front
+-- no request under way has a number below the one in front
 pub rising_each : (low : ℕ) (xs : List (Numbered Request)) → Rising low (numbers xs) → Each (λ x. low ≤ x.number + 1) xs
 rising_each low [] h = tt
 rising_each low (x ∷ xs) h = (h.0, each_more (λ y. x.number + 1 ≤ y.number + 1) (λ y. low ≤ y.number + 1) (λ y k. omega (arith, k, h.0)) xs (rising_each (x.number + 1) xs h.1))
 
+-- behind one of numbers that never fall, the others don't either, and none is below that one
 pub rising_tail : (low n : ℕ) (xs ys : List ℕ) → Rising low (xs ++ n ∷ ys) → (low ≤ n + 1) × Rising (n + 1) ys
 rising_tail low n [] ys h = h
 rising_tail low n (x ∷ xs) ys h = let r = rising_tail (x + 1) n xs ys h.1 in (omega (arith, h.0, r.0), r.1)
@@ -77,18 +78,18 @@ module _ {State : Type 0} (width : ℕ) (narrow : width ≤ 7) (ends : Ends Stat
   kept_none : (P : ℕ → List ℕ → Type 0) (since top : ℕ) (k : Option KeptReply) → k ≡ None → KeptIs P since top k
   kept_none P since top k e = subst (λ k. KeptIs P since top k) (sym e) tt
 
-  -- where nothing is kept, or this line with this id
+  -- where nothing is kept, or this line with the id of the last request, `KeptIs` holds
   pub kept_one : (P : ℕ → List ℕ → Type 0) (since top id : ℕ) (line : List ℕ) (k : Option KeptReply) → since < top → id ≡ (top - 1 - since) % 8
       → P (top - 1) line → (k ≡ None) ⊎ (k ≡ Some (record { id = id; line = line })) → KeptIs P since top k
   kept_one P since top id line k low own p (inl none) = kept_none P since top k none
   kept_one P since top id line k low own p (inr e) = subst (λ k. KeptIs P since top k) (sym e) (low, own, p)
 
-  -- nothing is kept, or what was
+  -- where what was kept stays, or nothing is kept any more, `KeptIs` lasts
   kept_still : (P : ℕ → List ℕ → Type 0) (since top : ℕ) (k after : Option KeptReply) → (after ≡ None) ⊎ (after ≡ k) → KeptIs P since top k → KeptIs P since top after
   kept_still P since top k after (inl none) h = kept_none P since top after none
   kept_still P since top k after (inr same) h = subst (λ k. KeptIs P since top k) (sym same) h
 
-  -- an instrument that keeps its reply executed a request: it is a later one than the last, or nothing was kept
+  -- where an instrument that keeps its reply executes a request, that request is a later one than the last, or nothing was kept
   later_or_none : (P : ℕ → List ℕ → Type 0) (since top n id : ℕ) (k : Option KeptReply) → KeptIs P since top k → id ≡ (n - since) % 8 → top ≤ n + 1
       → ((line : List ℕ) → k ≡ Some (record { id = id; line = line }) → ⊥) → (k ≡ None) ⊎ (top ≤ n)
   later_or_none P since top n id None h mine le other = inl refl
@@ -113,7 +114,7 @@ module _ {State : Type 0} (width : ℕ) (narrow : width ≤ 7) (ends : Ends Stat
   abbrev pub True : World ByNumber State → Type 0
   True w = IsTrue w.client.since w.client.count w.wire.sent w.wire.executed w.wire.starts w.wire.made w.wire.settled w.wire.up w.wire.down (kept w.wire.state)
 
-  -- a request goes out
+  -- `IsTrue` lasts where a request goes out
   true_sent : (since count : ℕ) (sent : List Sent) (executed starts : List ℕ) (made : List (Numbered (List ℕ))) (settled : List Settlement)
       (up : List (Numbered Request)) (down : List (Numbered (List ℕ))) (k : Option KeptReply) (target id : ℕ) (call : Call) → id < 8
       → IsTrue since count sent executed starts made settled up down k
@@ -148,7 +149,7 @@ module _ {State : Type 0} (width : ℕ) (narrow : width ≤ 7) (ends : Ends Stat
       subst (λ z. True (requested w target call (Some z))) (some_is y x e)
       (true_sent c.since c.count w.wire.sent w.wire.executed w.wire.starts w.wire.made w.wire.settled w.wire.up w.wire.down (kept w.wire.state) target id call (omega arith) h)
 
-  -- a further entry
+  -- `IsTrue` lasts over a further entry
   true_made : (since count : ℕ) (sent : List Sent) (executed starts : List ℕ) (made : List (Numbered (List ℕ))) (settled : List Settlement)
       (up : List (Numbered Request)) (down : List (Numbered (List ℕ))) (k : Option KeptReply) (m : Numbered (List ℕ))
       → IsTrue since count sent executed starts made settled up down k → IsTrue since count sent executed starts (made ++ m ∷ []) settled up down k
@@ -170,7 +171,7 @@ module _ {State : Type 0} (width : ℕ) (narrow : width ≤ 7) (ends : Ends Stat
         once = h.once;
       }
 
-  -- the last one comes again, and has the kept line
+  -- `True` lasts where the last request comes again, and has the kept line
   true_again : (w : World ByNumber State) (x : Numbered Request) (rest : List (Numbered Request)) (hd : Handed State) (k : Option KeptReply)
       → kept w.wire.state ≡ k → w.wire.up ≡ x ∷ rest → k ≡ Some (record { id = x.line.id; line = hd.reply })
       → (kept hd.state ≡ None) ⊎ (kept hd.state ≡ Some (record { id = x.line.id; line = hd.reply }))
@@ -206,7 +207,7 @@ module _ {State : Type 0} (width : ℕ) (narrow : width ≤ 7) (ends : Ends Stat
         once = λ keeps. climbing_kept h.top v.executed v.starts (kept v.state) (kept hd.state) (record { id = x.line.id; line = line }) (always keeps) (h.once keeps);
       }
 
-  -- one is executed
+  -- `True` lasts where a request is executed
   true_new : (w : World ByNumber State) (x : Numbered Request) (rest : List (Numbered Request)) (hd : Handed State) → w.wire.up ≡ x ∷ rest
       → ends.handed w.wire.state x.line.id x.line.call ≡ hd → hd.executed ≡ true → M x.number x.line.call hd.reply → Sound width ends Good w → True w
       → True (on_wire w (replied w.wire x.number rest (record hd { executed = true })))
@@ -322,7 +323,7 @@ module _ {State : Type 0} (width : ℕ) (narrow : width ≤ 7) (ends : Ends Stat
         once = h.once;
       }
 
-  -- the instrument starts anew, whatever is under way
+  -- `True` lasts where the instrument starts anew, whatever is under way
   pub true_started : (w : World ByNumber State) (b : Bool) → Good w.wire.state → True w → True (on_wire w (started ends w.wire b))
   true_started w false good h = h
   true_started w true good h =
@@ -341,7 +342,7 @@ module _ {State : Type 0} (width : ℕ) (narrow : width ≤ 7) (ends : Ends Stat
         once = λ keeps. climbing_started h.top v.executed v.starts (kept v.state) (kept (ends.restarted v.state)) (h.once keeps);
       }
 
-  -- its state changes by itself
+  -- `True` lasts where the instrument's state changes by itself
   pub true_changed : (w : World ByNumber State) (state : State) → kept state ≡ kept w.wire.state → True w → True (on_wire w (record w.wire { state = state }))
   true_changed w state same h =
       let v = w.wire in
@@ -377,7 +378,7 @@ module _ {State : Type 0} (width : ℕ) (narrow : width ≤ 7) (ends : Ends Stat
     once = h.once;
   }
 
-  -- nothing but a count changes
+  -- `True` lasts where nothing but a count changes
   true_idle : (w : World ByNumber State) → True w → True (on_wire w (idle w.wire))
   true_idle w h = h
 
@@ -388,6 +389,7 @@ module _ {State : Type 0} (width : ℕ) (narrow : width ≤ 7) (ends : Ends Stat
   IsOn w x =
       (ends.handed w.wire.state x.line.id x.line.call).executed ≡ true → M x.number x.line.call (ends.handed w.wire.state x.line.id x.line.call).reply
 
+  -- `True` lasts where the request in front reaches the instrument, if `IsOn` holds of it
   pub true_up : (w : World ByNumber State) (q : List (Numbered Request)) → w.wire.up ≡ q
       → ((x : Numbered Request) (rest : List (Numbered Request)) → q ≡ x ∷ rest → IsOn w x) → Sound width ends Good w → True w
       → True (on_wire w (up_delivered ends w.wire q))
@@ -395,6 +397,7 @@ module _ {State : Type 0} (width : ℕ) (narrow : width ≤ 7) (ends : Ends Stat
   true_up w (x ∷ rest) e on s h =
       true_handed w x rest (ends.handed w.wire.state x.line.id x.line.call) (ends.handed w.wire.state x.line.id x.line.call).executed e refl refl (on x rest refl) s h
 
+  -- `True` lasts where the reply in front comes
   pub true_down : (w : World ByNumber State) (q : List (Numbered (List ℕ))) → w.wire.down ≡ q → Sound width ends Good w → True w → True (down_delivered (by_numbers width) w q)
   true_down w [] e s h = true_idle w h
   true_down w (x ∷ rest) e s h = true_reply w x rest (ltb x.number w.client.count) refl e s.booked h
@@ -410,11 +413,13 @@ module _ {State : Type 0} (width : ℕ) (narrow : width ≤ 7) (ends : Ends Stat
   true_with_down w down false h l c = true_idle w h
   true_with_down w down true h l c = true_queues w w.wire.up down h h.above h.lines l c
 
+  -- `True` lasts over a send, refused or not
   pub true_requested : (w : World ByNumber State) (target : ℕ) (call : Call) (deadline : ℕ) (o : Option (Sending ByNumber))
       → (by_numbers width).send w.client target call deadline ≡ o → True w → True (requested w target call o)
   true_requested w target call deadline None e h = h
   true_requested w target call deadline (Some x) e h = true_send w target call deadline (eqb (length w.client.requests - w.client.count) width) x e h
 
+  -- `True` lasts over a step of the line
   pub true_line : (w : World ByNumber State) (step : Step) → IsOfLine step
       → ((x : Numbered Request) (rest : List (Numbered Request)) → step ≡ Up_deliver → w.wire.up ≡ x ∷ rest → IsOn w x) → Sound width ends Good w → True w
       → True (happens ends (by_numbers width) w step)

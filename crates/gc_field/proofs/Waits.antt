@@ -12,7 +12,7 @@ use Rattle.gc_world.proofs.Rows.{length-settle}
 use Rattle.gc_field.specs.Field.{Move, Sends, Tells, Comes, Foreign, OnLine, Anew, Changes, Joins, IsOfLine, moves, moved, ArePossible}
 use Rattle.gc_field.specs.Runs.{gives_up}
 
--- what becomes of a request that waits
+-- a request that waits, behind these moves: given up by a moment at or past its deadline
 abbrev pub after_moves : {State : Type 0} → Pending → List (Move State) → Pending
 after_moves p [] = p
 after_moves p (Tells now ∷ ms) = after_moves (expired now p) ms
@@ -32,6 +32,7 @@ or_none : (a : Bool) → a ≡ (a || false)
 or_none true = refl
 or_none false = refl
 
+-- a request is given up behind moves if it was before, or if a moment at or past its deadline is told
 pub after_is : {State : Type 0} (p : Pending) (ms : List (Move State)) → after_moves p ms ≡ record p { given_up = p.given_up || gives_up p.deadline ms }
 after_is p [] = ap (λ b. record p { given_up = b }) (or_none p.given_up)
 after_is p (Tells now ∷ ms) = after_is (expired now p) ms ∙ ap (λ b. record p { given_up = b }) (or_assoc p.given_up (nat_le p.deadline now) (gives_up p.deadline ms))
@@ -43,10 +44,11 @@ after_is p (Anew ∷ ms) = after_is p ms
 after_is p (Changes state ∷ ms) = after_is p ms
 after_is p (Joins line ∷ ms) = after_is p ms
 
--- request n, where it isn't settled yet, waits so
+-- request n, if it isn't settled yet, waits at its place as this
 abbrev pub WaitsAt : ℕ → List Pending → ℕ → Pending → Type 0
 WaitsAt size waiting n p = size ≤ n → slice_get waiting (n - size) ≡ Some p
 
+-- in this world, request n, if it isn't settled yet, waits at its place as this
 abbrev pub Waits : {State : Type 0} → World ById State → ℕ → Pending → Type 0
 Waits w n p = WaitsAt (length w.wire.settled) w.client.waiting n p
 
@@ -68,12 +70,14 @@ get_map now (x ∷ xs) zero p e = same x p e where
   same x p e = cc
 get_map now (x ∷ xs) (suc k) p e = get_map now xs k p e
 
+-- the last element of a list is at the place that its length says
 pub get_last : (xs : List Pending) (n : ℕ) (p : Pending) → n ≡ length xs → slice_get (xs ++ p ∷ []) n ≡ Some p
 get_last [] zero p e = refl
 get_last [] (suc n) p e = absurd (omega (arith, e))
 get_last (x ∷ xs) zero p e = absurd (omega (arith, e))
 get_last (x ∷ xs) (suc n) p e = get_last xs n p (omega (arith, e))
 
+-- a request that a reply leaves unsettled waits on
 waits_settled : (c : ById) (line : List ℕ) (k : ℕ) (b : Bool) (before : List Settlement) (n : ℕ) (p : Pending) → nat_lt k (length c.waiting) ≡ b → WaitsAt (length before) c.waiting n p
     → WaitsAt (length (before ++ (id_settled c line k b).settlements)) (id_settled c line k b).client.waiting n p
 waits_settled c line k true before n p fits h = λ le.
@@ -86,6 +90,7 @@ waits_settled c line k false before n p fits h = λ le.
     let same : n - length before ≡ n - length (before ++ []) = omega (arith, size) in
     subst (λ i. slice_get c.waiting i ≡ Some p) same (h (omega (arith, size, le)))
 
+-- a request that a line leaves unsettled waits on
 waits_heard : (c : ById) (line : List ℕ) (o : Option ℕ) (before : List Settlement) (n : ℕ) (p : Pending) → WaitsAt (length before) c.waiting n p
     → WaitsAt (length (before ++ (hears c line o).settlements)) (hears c line o).client.waiting n p
 waits_heard c line None before n p h = λ le.
@@ -95,27 +100,33 @@ waits_heard c line None before n p h = λ le.
 waits_heard c line (Some id) before n p h = waits_settled c line (place_in c id) (nat_lt (place_in c id) (length c.waiting)) before n p refl h
 
 module _ {State : Type 0} (ends : Ends State) (Good : State → Type 0) (kept : State → Option KeptReply) where
+  -- a request waits on where a reply comes
   waits_came : (w : World ById State) (q : List (Numbered (List ℕ))) (n : ℕ) (p : Pending) → Waits w n p → Waits (down_delivered (by_ids 7 ends) w q) n p
   waits_came w [] n p h = h
   waits_came w (x ∷ rest) n p h = waits_heard w.client x.line (ends.heard x.line) w.wire.settled n p h
 
+  -- a request waits on where another is sent
   waits_sent : (w : World ById State) (target : ℕ) (call : Call) (deadline : ℕ) (b : Bool) (n : ℕ) (p : Pending) → Waits w n p
       → Waits (requested w target call (id_send w.client target call deadline b)) n p
   waits_sent w target call deadline true n p h = h
   waits_sent w target call deadline false n p h = λ le. get_front w.client.waiting (pending_of target call deadline ∷ []) (n - length w.wire.settled) p (h le)
 
+  -- a request waits on where another one reaches the instrument
   waits_up : (w : World ById State) (q : List (Numbered Request)) (n : ℕ) (p : Pending) → Waits w n p → Waits (on_wire w (up_delivered ends w.wire q)) n p
   waits_up w [] n p h = h
   waits_up w (x ∷ rest) n p h = h
 
+  -- a request waits on where the requests under way change
   waits_with_up : (w : World ById State) (q : List (Numbered Request)) (b : Bool) (n : ℕ) (p : Pending) → Waits w n p → Waits (on_wire w (with_up w.wire q b)) n p
   waits_with_up w q true n p h = h
   waits_with_up w q false n p h = h
 
+  -- a request waits on where the replies under way change
   waits_with_down : (w : World ById State) (q : List (Numbered (List ℕ))) (b : Bool) (n : ℕ) (p : Pending) → Waits w n p → Waits (on_wire w (with_down w.wire q b)) n p
   waits_with_down w q true n p h = h
   waits_with_down w q false n p h = h
 
+  -- a request waits on where a step of the line happens
   waits_line : (w : World ById State) (step : Step) (n : ℕ) (p : Pending) → IsOfLine step → Waits w n p → Waits (moves ends (by_ids 7 ends) w (OnLine step)) n p
   waits_line w (Send target call deadline) n p o h = absurd o
   waits_line w Up_deliver n p o h = waits_up w w.wire.up n p h
@@ -129,6 +140,7 @@ module _ {State : Type 0} (ends : Ends State) (Good : State → Type 0) (kept : 
   waits_line w Restart_instrument n p o h = absurd o
   waits_line w Nothing n p o h = h
 
+  -- a request waits on behind moves, given up as `after_moves` says
   pub waits_all : (ms : List (Move State)) (w : World ById State) (n : ℕ) (p : Pending) → ArePossible ends Good kept (by_ids 7 ends) ms w → Waits w n p
       → Waits (moved ends (by_ids 7 ends) ms w) n (after_moves p ms)
   waits_all [] w n p o h = h

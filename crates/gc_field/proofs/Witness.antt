@@ -39,7 +39,7 @@ pub units : (n : ℕ) → Units n
 units zero = tt
 units (suc n) = (tt, units n)
 
--- acts go on
+-- acts that are a run, and others that are a run behind them, are a run
 pub run_on :
     (p : Plan) (tasks : List Task) (s : Model) (front later : List Act) → Runs p tasks s front → Runs p tasks (after_all p tasks s front) later
     → Runs p tasks s (front ++ later)
@@ -54,19 +54,21 @@ unfolding is_elsewhere header_at reply_at digits
 opens width tasks reads =
     (tt, (refl, (tt, (refl, (tt, (tt, (refl, (tt, (tt, (refl, (tt, (tt, (refl, (tt, (tt, (refl, (tt, (tt, (refl, (tt, (tt, (refl, (tt, (tt, (refl, (tt, (tt, tt)))))))))))))))))))))))))))
 
--- a part with requests of the first cycle, each by its place and by when it went out; and a run in one part, behind which nothing happens
+-- the part with these turns and steps, whose requests are of the first cycle: each by its place, and the moment before it went out
 abbrev pub part_of : List part.Turn → List Step → List (ℕ × ℕ) → Part
 part_of turns steps sent = record { turns = turns; steps = steps; marks = map (λ x. Some (record { cycle = 1; place = x.0; sent = x.1; near = None })) sent }
 
+-- a run in one part, behind which nothing happens
 abbrev pub one_part : List part.Turn → List Step → List (ℕ × ℕ) → List Part
 one_part turns steps sent = part_of turns steps sent ∷ nothing ∷ []
 
 -- The run of one command.
 
--- bytes of a name
+-- bytes above 34 are bytes of a string
 above : (b : ℕ) → 34 < b → IsStringByte b
 above b more = ((λ e. absurd (omega (arith, more, e))), (λ e. absurd (omega (arith, more, e))), (λ e. absurd (omega (arith, more, e))))
 
+-- a space is a byte of a string
 space : IsStringByte 32
 space = ((λ e. (cc)), (λ e. (cc)), (λ e. (cc)))
 
@@ -86,6 +88,7 @@ named =
       );
     }
 
+-- the simulator's opening state fits
 pub fits : IsFittingState simulator_opening
 fits =
     record {
@@ -97,25 +100,27 @@ fits =
       kept = tt;
     }
 
--- the word isn't a subsequence of two ids 0
+-- two equal numbers aren't 6 and 0
 six : (n m : ℕ) → n ≡ m → n ≡ 6 → m ≡ 0 → ⊥
 six n m e a b = omega (arith, e, a, b)
 
+-- the word isn't a subsequence of two ids 0
 none_here : IsSubsequence the_word (0 ∷ 0 ∷ []) → ⊥
 none_here (inl h) = six 6 0 h.0 refl refl
 none_here (inr (inl h)) = six 6 0 h.0 refl refl
 none_here (inr (inr h)) = h
 
--- the command's request is the client's first one, and reaches the simulator at the fourth move
+-- the answer was made on executing the command's request, the client's first one
 was_made : WasMadeOn WINDOW ends (leaves (turned ends turns (begins before))) moves 8 InstrumentNo answer
 unfolding is_elsewhere header_at reply_at handed exec digits
 was_made = record { front = take 3 moves; later = drop 4 moves; split = refl; id = 0; rest = []; reaches = refl; executed = refl; reply = refl }
 
--- a null procedure goes out, and this is heard, for each of these
+-- the turns of a beginning in which a null procedure goes out, and then a line is heard, for each of these
 abbrev pub asked_each : List (List ℕ) → List part.Turn
 asked_each [] = []
 asked_each (line ∷ lines) = part.Asks ∷ part.Hears line ∷ asked_each lines
 
+-- what the turns of this run's beginning show
 abbrev all_turns : List part.Turn
 all_turns = part.Asks ∷ part.Hears (codes "%R1P,0,0:0,654321") ∷ part.Hears answer ∷ part.Hears (codes "%R1P,0,6:0") ∷ asked_each (drop 1 replies)
 

@@ -1,4 +1,4 @@
--- Why the first request goes out alone, this project's own: an instrument that keeps a reply of before takes a second request with its id
+-- Why the first request goes out alone, this project's own: an instrument that keeps an older reply takes a second request with the id of that
 -- for a repeat.
 use Rattle.std.specs.Prelude.{◌≡◌, ℕ, List, [], ◌∷◌, Some}
 use Rattle.gc_catalogue.specs.declared.call.Call.TheVariants.{NullProc}
@@ -17,13 +17,15 @@ use Rattle.gc_field.specs.Made.{WasMadeOn}
 abbrev pub two_at_once : List ℕ → List (Move State)
 two_at_once line = Sends 1 NullProc 9 ∷ Sends 2 NullProc 9 ∷ OnLine (Up_lose 0) ∷ OnLine Up_deliver ∷ Comes line ∷ []
 
--- that reply is booked as the second request's answer, though no request was executed: so it wasn't made on executing that
--- one
+-- the reply that is kept is booked as the second request's answer, though no request was executed: so it wasn't made on executing
+-- that request
 pub record IsBookedUnexecuted (state : State) (line : List ℕ) : Type 0 where
   pub possible : ArePossible ends IsFittingState kept_of (by_ids WINDOW ends) (two_at_once line) (ids_open state)
   pub settled : (left WINDOW ends state (two_at_once line)).wire.settled ≡ record { target = 1; call = NullProc; outcome = Lost } ∷ record { target = 2; call = NullProc; outcome = Answered line } ∷ []
   pub executed : (left WINDOW ends state (two_at_once line)).wire.executed ≡ []
   pub unmade : WasMadeOn WINDOW ends state (two_at_once line) 1 NullProc line → ⊥
 
+-- where the simulator keeps a reply with id 1, that reply is booked for the second of two requests that go out at once, which
+-- isn't executed
 abbrev pub TwoAtOnceAreBookedWrong : Type 0
 TwoAtOnceAreBookedWrong = (state : State) (line : List ℕ) → IsFittingState state → kept_line state.kept (Some 1) ≡ Some line → IsBookedUnexecuted state line

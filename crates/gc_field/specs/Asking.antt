@@ -1,22 +1,22 @@
--- What the acts of a link are to a station that begins, this project's own: turns.
+-- What the acts of a link are to a station while it begins, this project's own: turns.
 use Rattle.std.specs.Prelude.{◌≡◌, ◌⊎◌, ℕ, List, [], ◌∷◌, map}
 use Rattle.gc_lines.specs.Frames.{rest_behind}
 use Rattle.gc_links.specs.Acts.{Act, Put, Cut, Gave, Closed}
 use Rattle.gc_station.specs.Parts.{Turn, Asks, Hears}
 use Rattle.gc_station.specs.Model.{lines_behind, null_text}
 
--- what goes out while a station begins: a line feed, which clears the receiver; or the line of the null procedure that is
--- asked for, the first whose id isn't answered
+-- what bytes that go out are while a station begins: a line feed, which clears the receiver and is no turn; or the line of the null
+-- procedure of the first id that isn't answered
 abbrev pub IsAskedFor : List ℕ → List ℕ → List Turn → Type 0
 IsAskedFor word bytes turns = ((bytes ≡ 10 ∷ []) × (turns ≡ [])) ⊎ ((bytes ≡ null_text word) × (turns ≡ Asks ∷ []))
 
--- what becomes of a piece that comes while a station begins: it is heard line by line, or it is dropped: then its lines
--- count as lost by the line
+-- what becomes of a piece that comes while a station begins: it is heard line by line; or it is dropped, as if its lines had been
+-- lost
 abbrev pub IsTaken : List ℕ → List ℕ → List Turn → List ℕ → Type 0
 IsTaken before piece turns behind = ((turns ≡ map Hears (lines_behind before piece)) × (behind ≡ rest_behind before piece)) ⊎ ((turns ≡ []) × (behind ≡ before))
 
--- what an act is while these ids aren't answered: these turns, and the bytes since the last line feed before and behind it, which a close
--- forgets
+-- what an act is while these ids aren't answered: these turns, and the bytes since the last line feed, before and behind the act, which a
+-- close forgets
 abbrev pub MeansTurns : List ℕ → List ℕ → Act → List Turn → List ℕ → Type 0
 MeansTurns word before (Put bytes) turns behind = IsAskedFor word bytes turns × (behind ≡ before)
 MeansTurns word before (Cut bytes count) turns behind = IsAskedFor word bytes turns × (behind ≡ before)

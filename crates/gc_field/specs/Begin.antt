@@ -1,6 +1,6 @@
 -- A beginning in the field, this project's own: a beginner, an instrument, and a line between them that keeps order, loses lines whole, and
--- repeats one directly behind it. What is under way from before may be anything. A connection has no word in it, since a close is a loss of
--- lines; a request that is cut is lost, since a line feed arrives behind its front; and the instrument may start anew at any moment.
+-- repeats one directly behind it. What is under way from before may be anything. Connections aren't spoken of, because a close is a loss of
+-- lines. A request that is cut is lost, because a line feed arrives behind its front. The instrument may start anew at any moment.
 use Rattle.std.specs.Prelude.{◌≡◌, ℕ, ◌<◌, Bool, true, false, List, [], ◌∷◌, ◌++◌, map, Option, None}
 use Rattle.std.specs.List.{filter_map}
 use Rattle.gc_catalogue.specs.declared.call.Call.TheVariants.{NullProc}
@@ -24,8 +24,8 @@ pub record UnderWay (State : Type 0) : Type 0 where
 abbrev pub none_under_way : {State : Type 0} → State → UnderWay State
 none_under_way state = record { up = []; down = []; state = state }
 
--- the ids under way, in order: of the replies, then of the requests. The reply that the instrument keeps doesn't count, since it is sent only
--- for a request; nor does a line without an id
+-- the ids under way, in order: of the replies, then of the requests. The reply that the instrument keeps doesn't count, because it is sent
+-- only for a request; nor does a line without an id
 abbrev pub ids_under_way : {State : Type 0} → UnderWay State → List ℕ
 ids_under_way u = filter_map heard u.down ++ map (λ x. x.id) u.up
 
@@ -60,8 +60,8 @@ leaves s = record { up = map (λ x. x.line) s.up; down = map (λ x. x.line) s.do
 
 -- one step of a beginning
 pub data Turn (State : Type 0) : Type 0 where
-  -- the beginner's part: the null procedure that is asked for goes out, the first time or again, whole or in part; the reply in front comes; a
-  -- line comes that is no reply with an id
+  -- the beginner's part: the null procedure of the first id that isn't answered goes out, the first time or again, whole or in part; the reply
+  -- in front comes; a line comes that is no reply with an id
   Asks : Turn State
   Comes : Turn State
   Foreign : (line : List ℕ) → Turn State
@@ -73,28 +73,28 @@ pub data Turn (State : Type 0) : Type 0 where
   Down_repeat : (which : ℕ) → Turn State
   -- the instrument starts anew, whatever is under way
   Anew : Turn State
-  -- its state changes by itself, to this one
+  -- the instrument's state changes by itself, to this one
   Changes : (state : State) → Turn State
 
 module _ {State : Type 0} where
-  -- the null procedure of the first id that isn't answered goes out; once it has begun, none does
+  -- the state once the null procedure of the first id that isn't answered went out; where all are answered, none goes out
   abbrev pub asks : Model State → List ℕ → Model State
   asks s [] = s
   asks s (asked ∷ rest) = record s { up = s.up ++ record { old = false; line = record { id = asked; call = NullProc } } ∷ [] }
 
-  -- a reply that comes answers where it has that id, and else it is dropped
+  -- the state once the reply in front came: it answers where it has the first id that isn't answered, and else it is dropped
   abbrev pub comes : Model State → List (Aged (List ℕ)) → Model State
   comes s [] = s
   comes s (x ∷ rest) = record s { down = rest; left = left_by s.left (heard x.line) }
 
-  -- the instrument is handed the request in front, and its reply is for that
+  -- the state once the request in front was handed to the instrument, whose reply goes out, and is as old as the request
   abbrev pub reaches : Ends State → Model State → List (Aged Request) → Model State
   reaches ends s [] = s
   reaches ends s (x ∷ rest) =
       let handed = ends.handed s.state x.line.id x.line.call in
       record s { up = rest; down = s.down ++ record { old = x.old; line = handed.reply } ∷ []; state = handed.state }
 
-  -- what a turn does; one that isn't possible changes nothing
+  -- what a turn does. A turn that takes a line changes nothing where there is no such line
   abbrev pub turns : Ends State → Model State → Turn State → Model State
   turns ends s Asks = asks s s.left
   turns ends s Comes = comes s s.down
@@ -107,18 +107,19 @@ module _ {State : Type 0} where
   turns ends s Anew = record s { state = ends.restarted s.state }
   turns ends s (Changes state) = record s { state = state }
 
-  -- a turn for each of the list, in order
+  -- the state behind these turns, in order
   abbrev pub turned : Ends State → List (Turn State) → Model State → Model State
   turned ends [] s = s
   turned ends (t ∷ ts) s = turned ends ts (turns ends s t)
 
-  -- a foreign line is no reply with an id: an echo, noise, or what is left of a line that was cut
+  -- a turn is possible: a foreign line is no reply with an id, but an echo, noise, or what is left of a line that was cut; and the instrument
+  -- changes by itself as it may
   abbrev pub IsTurn : (State → Type 0) → (State → Option KeptReply) → Model State → Turn State → Type 0
   IsTurn Good kept s (Foreign line) = heard line ≡ None
   IsTurn Good kept s (Changes state) = MayBecome Good kept s.state state
   IsTurn Good kept s _ = Unit {0}
 
-  -- each of the list is possible in its turn
+  -- each of these turns is possible when it comes
   abbrev pub AreTurns : Ends State → (State → Type 0) → (State → Option KeptReply) → List (Turn State) → Model State → Type 0
   AreTurns ends Good kept [] s = Unit {0}
   AreTurns ends Good kept (t ∷ ts) s = IsTurn Good kept s t × AreTurns ends Good kept ts (turns ends s t)

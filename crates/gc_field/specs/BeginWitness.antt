@@ -1,4 +1,4 @@
--- Some runs are such runs, and the premise on the word is needed: this project's own.
+-- Some runs meet the premises of the law on runs one after the other, and the premise on the word is needed: this project's own.
 use Rattle.std.specs.Prelude.{◌≡◌, List, [], ◌∷◌, ◌++◌, codes}
 use Rattle.gc_catalogue.specs.declared.call.Call.TheVariants.{InstrumentNo}
 use Rattle.gc_client.specs.declared.window.TheConstants.{WINDOW}
@@ -29,9 +29,9 @@ before =
 abbrev pub killed : Run State
 killed = record { turns = Asks ∷ Comes ∷ Asks ∷ []; moves = [] }
 
--- the next one begins. The two requests are answered, and both replies dropped. Null procedures 6 and 5 of the run before answer two of its
--- own, and then its own ones answer; the instrument starts anew, one is lost and goes out again, and the eighth comes twice. Two commands go
--- out at once
+-- the next run begins. The two old requests are answered, and both replies dropped. The replies to null procedures 6 and 5 of the run before
+-- answer two of its own, and then the replies to its own ones do; the instrument starts anew, one is lost and goes out again, and the eighth
+-- comes twice. Then two commands go out at once
 abbrev pub next : Run State
 next =
     record {
@@ -80,9 +80,11 @@ with_the_word =
       state = simulator_opening;
     }
 
+-- the turns of a beginning that hears these eight replies, with nothing sent
 abbrev pub eight_come : List (Turn State)
 eight_come = Comes ∷ Comes ∷ Comes ∷ Comes ∷ Comes ∷ Comes ∷ Comes ∷ Comes ∷ []
 
+-- the moves behind that beginning: the first command goes out, and the reply behind the eight comes
 abbrev pub one_more : List (Move State)
 one_more = Sends 7 InstrumentNo 100 ∷ field.Comes (codes "%R1P,0,0:0,654321") ∷ []
 

@@ -1,5 +1,5 @@
 -- One run after the other over a line that outlives them, this project's own: each begins by its null procedures, then sends commands, and is
--- killed at any moment, also while it begins; and one may begin anew within itself. No clock has a part in it.
+-- killed at any moment, also while it begins; and one may begin anew within itself. Nothing here depends on a clock.
 use Rattle.std.specs.Prelude.{◌≡◌, ℕ, ◌+◌, ◌%◌, ◌<◌, ◌≤◌, List, [], ◌∷◌, map, Option}
 use Rattle.gc_client.specs.Beginning.{IsSubsequence, the_word}
 use Rattle.gc_client.specs.declared.window.TheConstants.{WINDOW}
@@ -18,7 +18,7 @@ abbrev pub on_line : {State : Type 0} → Wire State → UnderWay State
 on_line w = record { up = map (λ x. x.line) w.up; down = map (λ x. x.line) w.down; state = w.state }
 
 -- what a run that measures may have in flight, if anything: replies and then requests whose numbers never fall from one to
--- the next; at most seven numbers are unaccounted for, and the ids are the numbers modulo 8
+-- the next, and lie within eight consecutive numbers; and the ids are the numbers modulo 8
 pub record IsRow {State : Type 0} (u : UnderWay State) : Type 0 where
   pub low : ℕ
   pub numbers : List ℕ
@@ -27,12 +27,12 @@ pub record IsRow {State : Type 0} (u : UnderWay State) : Type 0 where
   pub few : Each (λ n. n < low + WINDOW) numbers
   pub ids : ids_under_way u ≡ map (λ n. n % 8) numbers
 
--- no such row contains the word: seven ids that rise, and a repeat of the one before them, don't contain even the first
--- three ids of the word
+-- the word is no subsequence of the ids of an `IsRow`: eight ids that rise modulo 8 don't contain even the first three ids of
+-- the word
 abbrev pub RowsHaveNotTheWord : Type 0 → Type 0
 RowsHaveNotTheWord State = (u : UnderWay State) → IsRow u → IsSubsequence the_word (ids_under_way u) → ⊥
 
--- once a beginning has begun cleanly, what is in flight is such a row at any time
+-- once a beginning has begun cleanly, what is under way is `IsRow` at any time
 abbrev pub RunsLeaveRows : Type 0 → Type 0
 RunsLeaveRows State =
     (ends : Ends State) (kept : State → Option KeptReply) → IsAnInstrument ends AnyState kept →
@@ -47,30 +47,32 @@ pub record Run (State : Type 0) : Type 0 where
   pub moves : List (Move State)
 
 module _ {State : Type 0} (width : ℕ) (ends : Ends State) where
-  -- where its beginning stands when that is done, or killed
+  -- the state of a run's beginning when the run has begun, or is killed before
   abbrev pub stood : UnderWay State → Run State → Model State
   stood u r = turned ends r.turns (begins u)
 
-  -- what is under way behind a run that had begun, where nothing was left of its word, or that was killed while it began
+  -- what is under way behind a run, by what is left of its word: nothing, and it had begun; or some ids, and it was killed while it began
   abbrev pub left_if : List ℕ → Model State → List (Move State) → UnderWay State
   left_if [] s ms = on_line (behind width ends (leaves s) ms).wire
   left_if (asked ∷ rest) s ms = leaves s
 
+  -- what is under way behind a run
   abbrev pub left_by_run : UnderWay State → Run State → UnderWay State
   left_by_run u r = left_if (stood u r).left (stood u r) r.moves
 
-  -- how many were killed in a row while they began, up to this one
+  -- how many runs in a row were killed while they began, up to a run of whose word these ids are left, where `n` were before
+  -- it: none where the run has begun
   abbrev pub killed_if : List ℕ → ℕ → ℕ
   killed_if [] n = 0
   killed_if (asked ∷ rest) n = n + 1
 
-  -- no more than five in a row, where so many were before
+  -- no more than five runs in a row are killed while they begin, up to each of these, where `n` were before
   abbrev pub AreFewKilled : ℕ → UnderWay State → List (Run State) → Type 0
   AreFewKilled n u [] = Unit {0}
   AreFewKilled n u (r ∷ rs) = (killed_if (stood u r).left n ≤ 5) × AreFewKilled (killed_if (stood u r).left n) (left_by_run u r) rs
 
   module _ (Good : State → Type 0) (kept : State → Option KeptReply) where
-    -- no command goes out before the eighth answer
+    -- the moves of a run are possible: those of a client, once the run has begun, and none before the eighth answer
     abbrev pub ArePossibleIf : List ℕ → Model State → List (Move State) → Type 0
     ArePossibleIf [] s ms = ArePossible ends Good kept (by_ids width ends) ms (ids_begun (leaves s))
     ArePossibleIf (asked ∷ rest) s ms = ms ≡ []
@@ -80,24 +82,25 @@ module _ {State : Type 0} (width : ℕ) (ends : Ends State) where
     AreRuns u [] = Unit {0}
     AreRuns u (r ∷ rs) = (AreTurns ends Good kept r.turns (begins u) × ArePossibleIf (stood u r).left (stood u r) r.moves) × AreRuns (left_by_run u r) rs
 
-    -- where a run has begun, it has begun cleanly, and each answer of a command is its own
+    -- where a run has begun, it has begun cleanly, and its moves are faithful
     abbrev pub IsOwnIf : List ℕ → Model State → List (Move State) → Type 0
     IsOwnIf [] s ms = HasBegunCleanly kept s × IsFaithful width ends (leaves s) ms Good kept
     IsOwnIf (asked ∷ rest) s ms = Unit {0}
 
+    -- each run that has begun has begun cleanly, and is faithful, over what the one before it left
     abbrev pub AreOwn : UnderWay State → List (Run State) → Type 0
     AreOwn u [] = Unit {0}
     AreOwn u (r ∷ rs) = IsOwnIf (stood u r).left (stood u r) r.moves × AreOwn (left_by_run u r) rs
 
 -- for any instrument, behind a run that measured, or over a line with nothing under way: as long as fewer than six runs in a row end while they
--- begin, each run that begins begins cleanly, and each of its answers is its own
+-- begin, each run that has begun has begun cleanly, and each of its answers is its own
 abbrev pub RunsAreTheirOwn : Type 0 → Type 0
 RunsAreTheirOwn State =
     (ends : Ends State) (kept : State → Option KeptReply) → IsAnInstrument ends AnyState kept →
     (width : ℕ) → width ≤ WINDOW → (u : UnderWay State) → AreLines AnyState u → IsRow u →
     (rs : List (Run State)) → AreRuns width ends AnyState kept u rs → AreFewKilled width ends 0 u rs → AreOwn width ends AnyState kept u rs
 
--- the same for the simulated instrument, in any state that fits
+-- `RunsAreTheirOwn` for the simulator, in any state that fits
 abbrev pub SimulatorsRunsAreTheirOwn : Type 0
 SimulatorsRunsAreTheirOwn =
     (width : ℕ) → width ≤ WINDOW → (u : UnderWay State) → AreLines IsFittingState u → IsRow u →

@@ -36,6 +36,7 @@ plan = plan_of 7
 abbrev pub command : ℕ → Command
 command target = record { target = target; call = InstrumentNo }
 
+-- the eight commands of this run, with a deadline of 100 ms each
 abbrev pub commands : List Task
 commands = map (λ target. record { command = command target; deadline = 100; chained = false; near = None }) (1 ∷ 2 ∷ 3 ∷ 4 ∷ 5 ∷ 6 ∷ 7 ∷ 8 ∷ [])
 
@@ -43,26 +44,28 @@ commands = map (λ target. record { command = command target; deadline = 100; ch
 abbrev pub scope : Scope
 scope = record { turns = 100; reads = λ call line. Value (Long (pos 45)) }
 
--- the lines of the seven requests that go out at once, and the replies to the first and the seventh of them: the instrument
--- counts what it executes
+-- the lines of the seven requests that go out at once
 abbrev pub seven : List (List ℕ)
 seven =
     codes "%R1Q,5003,0:" ∷ codes "%R1Q,5003,1:" ∷ codes "%R1Q,5003,2:" ∷ codes "%R1Q,5003,3:" ∷ codes "%R1Q,5003,4:" ∷ codes "%R1Q,5003,5:"
     ∷ codes "%R1Q,5003,6:" ∷ []
 
+-- the reply to the first of the seven, with the number of requests that the instrument had executed by then
 abbrev pub first : List ℕ
 first = codes "%R1P,0,0:0,36"
 
+-- the reply to the seventh of the seven
 abbrev pub seventh : List ℕ
 seventh = codes "%R1P,0,6:0,37"
 
--- the replies to the null procedures behind the first, and to the last command. The first null procedure has the seventh request's id, so the
--- reply to that answers it, and is all that the instrument has for it
+-- the replies to the null procedures behind the first. The first null procedure has the seventh request's id, so the reply to that request
+-- answers it, and is all that the instrument sends for it
 abbrev pub replies : List (List ℕ)
 replies =
     codes "%R1P,0,5:0,38" ∷ codes "%R1P,0,4:0,39" ∷ codes "%R1P,0,3:0,40" ∷ codes "%R1P,0,2:0,41" ∷ codes "%R1P,0,1:0,42" ∷ codes "%R1P,0,0:0,43"
     ∷ codes "%R1P,0,7:0,44" ∷ []
 
+-- the reply to the last command
 abbrev pub answer : List ℕ
 answer = codes "%R1P,0,0:0,45"
 
@@ -75,8 +78,9 @@ put_all now (line ∷ others) acts = Put (with_end line) ∷ Told (at now) ∷ p
 abbrev pub given_up : List Act
 given_up = begun_with begun (Told (at 15) ∷ put_all 15 seven (Silent (at 115) ∷ []))
 
--- then it begins anew: the first null procedure goes out, and the reply to the first command comes, which is dropped; that to the seventh
--- comes, and once more, which is dropped too; the others are answered. Then the eighth command goes out and is answered, and it is closed
+-- the acts from there on: the station begins anew, and its first null procedure goes out. The reply to the first command comes, and is
+-- dropped; the reply to the seventh comes twice, and the second is dropped; the other null procedures are answered. Then the eighth command
+-- goes out and is answered, and the connection is closed
 abbrev pub anew : List Act
 anew =
     Told (at 115)
@@ -96,6 +100,7 @@ anew =
     ∷ []
     )
 
+-- all acts of the run
 abbrev pub acts : List Act
 acts = given_up ++ anew
 
@@ -119,35 +124,38 @@ moves =
     ∷ Tells 115
     ∷ Tells 115
     ∷ []
-    -- what the line does while the station begins anew: the reply to the first comes, and the last reaches the instrument, whose
-    -- reply is sent again for the first null procedure, which has its id
     )
 
--- the reply to the first comes, and the last reaches the instrument, whose reply is sent again for the first null procedure, which has its id
+-- what the line does while the station begins anew: the reply to the first command comes, and the seventh request reaches the instrument, whose
+-- reply is sent again for the first null procedure, which has that request's id
 abbrev pub turns : List (Turn Counter)
 turns = Asks ∷ turn.Comes ∷ Reaches ∷ turn.Comes ∷ Asks ∷ Reaches ∷ turn.Comes ∷ Reaches ∷ turn.Comes ∷ drop 6 eight
 
+-- what the line does once the station has begun anew: the eighth command is answered
 abbrev pub moves_anew : List (Move Counter)
 moves_anew = Sends 8 InstrumentNo 220 ∷ Tells 120 ∷ OnLine Up_deliver ∷ Tells 125 ∷ Comes answer ∷ []
 
--- the run as two stretches: until it began anew, and from there on; behind the end nothing happens
+-- what happens until the run begins anew
 abbrev pub run : Run Counter
 run = record { turns = eight; moves = moves }
 
+-- the whole run: until it begins anew, and from there on; behind the end nothing happens
 abbrev pub runs : List (Run Counter)
 runs = run ∷ record { turns = turns; moves = moves_anew } ∷ record { turns = []; moves = [] } ∷ []
 
--- what is in flight where the run begins anew, and where it has begun again
+-- what is in flight where the run begins anew
 abbrev pub left : UnderWay Counter
 left = left_by_run WINDOW counting before run
 
+-- what is in flight where the run has begun again
 abbrev pub from : UnderWay Counter
 from = leaves (turned counting turns (begins left))
 
--- the records of the run: the first seven commands are lost, and the eighth has its answer
+-- the record of a lost command, at this place and for this target
 abbrev pub lost : ℕ → ℕ → Record
 lost place target = record { sent = Some 15; utc = 115; cycle = 1; place = place; command = command target; end = end.Lost }
 
+-- the records of the run: the first seven commands are lost, and the eighth has its answer
 abbrev pub records : List Record
 records =
     lost 0 1

@@ -1,5 +1,5 @@
--- Once it has begun, this project's own: nothing from before is under way; and each answer of the client that sends then is its own, from its
--- first request on.
+-- What holds once a station has begun, this project's own: nothing from before is under way; and each answer of the client that sends then is
+-- its own, from its first request on.
 use Rattle.std.specs.Prelude.{◌≡◌, ℕ, ◌-◌, ◌≤◌, true, false, List, [], ◌∷◌, ◌++◌, length, map, Option, Some, slice_get}
 use Rattle.gc_catalogue.specs.declared.call.Call.{Call}
 use Rattle.gc_catalogue.specs.declared.call.Call.TheVariants.{NullProc}
@@ -22,10 +22,11 @@ use Rattle.gc_field.specs.Once.{ActsOnce, IsInOrder}
 
 -- Clean.
 
--- a request, and a line that is heard with this id
+-- the eighth null procedure of a beginning, as a request
 abbrev pub eighth : Request
 eighth = record { id = 7; call = NullProc }
 
+-- what the instrument keeps in this state, if it keeps anything, has the id of the eighth null procedure
 abbrev pub IsOfEighth : {State : Type 0} → (State → Option KeptReply) → State → Type 0
 IsOfEighth kept state = (k : KeptReply) → kept state ≡ Some k → k.id ≡ 7
 
@@ -46,17 +47,19 @@ BeginsCleanly State =
 
 -- The client behind it.
 
--- the state that a beginning leaves once it has begun cleanly
+-- what a beginning leaves once it has begun cleanly: the instrument in a good state, copies of the eighth null procedure, replies to it,
+-- and a kept reply with its id, or none
 pub record IsClean {State : Type 0} (Good : State → Type 0) (kept : State → Option KeptReply) (u : UnderWay State) : Type 0 where
   pub good : Good u.state
   pub up : Each (λ x. x ≡ eighth) u.up
   pub down : Each (λ line. heard line ≡ Some 7) u.down
   pub keeps : IsOfEighth kept u.state
 
--- the null procedures of a beginning, as requests and as settlements: none of them is the client's
+-- the null procedures of a beginning, as requests: none of them is the client's
 abbrev pub nulls : List Sent
 nulls = map (λ id. record { target = 0; call = NullProc; line = request_line (Some id) NullProc }) the_word
 
+-- the null procedures of a beginning, as settlements
 abbrev pub nulls_settled : List Settlement
 nulls_settled = map (λ id. record { target = 0; call = NullProc; outcome = Lost }) the_word
 
@@ -76,21 +79,24 @@ begun_wire u =
       idle = 0;
     }
 
+-- the world behind a beginning, with a new client that knows ids
 abbrev pub ids_begun : {State : Type 0} → UnderWay State → World ById State
 ids_begun u = record { wire = begun_wire u; client = fresh }
 
--- the waiting requests of the client that is told the numbers
+-- the null procedures of a beginning, as requests of the client that is given the number of each reply's request
 abbrev pub nulls_pending : List Pending
 nulls_pending = map (λ id. record { target = 0; call = NullProc; deadline = 0; given_up = false }) the_word
 
+-- the world behind a beginning, with the client that is given the numbers
 abbrev pub numbers_begun : {State : Type 0} → UnderWay State → World ByNumber State
 numbers_begun u = record { wire = begun_wire u; client = record { count = 8; requests = nulls_pending; since = 0 } }
 
 module _ {State : Type 0} (width : ℕ) (ends : Ends State) (u : UnderWay State) where
-  -- the world behind the moves, with the client that knows ids, and with the one that is told the numbers
+  -- the world behind the moves, with the client that knows ids
   abbrev pub behind : List (Move State) → World ById State
   behind ms = moved ends (by_ids width ends) ms (ids_begun u)
 
+  -- the wire behind the moves, with the client that is given the numbers
   abbrev pub behind_by_numbers : List (Move State) → Wire State
   behind_by_numbers ms = (moved ends (by_numbers width) ms (numbers_begun u)).wire
 
@@ -108,7 +114,7 @@ module _ {State : Type 0} (width : ℕ) (ends : Ends State) (u : UnderWay State)
 
   -- what holds behind these moves, for an instrument whose states are good ones. Settlement 8 + n is the client's settlement n
   pub record IsFaithful (ms : List (Move State)) (Good : State → Type 0) (kept : State → Option KeptReply) : Type 0 where
-    -- a client that takes these steps settles what the world's settled, and stands where that stands
+    -- a client that takes the steps of the moves settles what the world's client settled, and ends in the same state
     pub settled : (behind ms).wire.settled ≡ nulls_settled ++ (course width begun (seen ms)).settlements
     pub stands : (course width begun (seen ms)).client ≡ (behind ms).client
     -- one for one: what was settled and what waits are the requests that were sent, in order, each once; so settlement m has the target and
@@ -140,7 +146,7 @@ module _ {State : Type 0} (width : ℕ) (ends : Ends State) (u : UnderWay State)
         (n : ℕ) (line : List ℕ) (rest : List (Numbered (List ℕ))) → (behind ms).wire.down ≡ record { number = n; line = line } ∷ rest → length (behind ms).wire.settled ≤ n →
         (moves ends (by_ids width ends) (behind ms) (Comes line)).wire.settled ≡ (behind ms).wire.settled ++ settle (n - length (behind ms).wire.settled) line (behind ms).client.waiting
 
--- for any instrument, behind any beginning that has begun cleanly, whenever the client sends; no request has to go out alone
+-- moves behind a clean beginning are faithful, for any instrument, whenever the client sends; no request has to go out alone
 abbrev pub AnswersAreTheirOwnOnceBegun : Type 0 → Type 0
 AnswersAreTheirOwnOnceBegun State =
     (ends : Ends State) (kept : State → Option KeptReply) → IsAnInstrument ends AnyState kept →

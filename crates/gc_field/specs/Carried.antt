@@ -21,18 +21,18 @@ pub record IsCarried {State : Type 0} (ends : Ends State) (Good : State → Type
   pub steps : Amount fresh rest acts (seen ms)
   pub possible : ArePossible ends Good kept (by_ids WINDOW ends) ms (ids_begun u)
 
--- all that is said of a client holds of these moves, and the station's client is where the world's is
+-- `IsFaithful` holds of these moves, and the station's client is in the state of the world's
 pub record IsStationFaithful {State : Type 0} (ends : Ends State) (Good : State → Type 0) (kept : State → Option KeptReply) (u : UnderWay State) (ms : List (Move State)) : Type 0 where
   pub faithful : IsFaithful WINDOW ends u ms Good kept
   pub client : client_after fresh (seen ms) ≡ (behind WINDOW ends u ms).client
 
--- for any instrument, and any acts of a station
+-- acts of a station that has begun cleanly are faithful, for any instrument, whenever the station sends
 abbrev pub StationsAnswersAreTheirOwn : Type 0 → Type 0
 StationsAnswersAreTheirOwn State =
     (ends : Ends State) (kept : State → Option KeptReply) → IsAnInstrument ends AnyState kept →
     (u : UnderWay State) (rest : List ℕ) (acts : List Act) (ms : List (Move State)) → IsCarried ends AnyState kept u rest acts ms → IsStationFaithful ends AnyState kept u ms
 
--- the same for the simulated instrument
+-- `StationsAnswersAreTheirOwn` for the simulator, in any state that fits
 abbrev pub SimulatorsStationsAnswersAreTheirOwn : Type 0
 SimulatorsStationsAnswersAreTheirOwn =
     (u : UnderWay State) (rest : List ℕ) (acts : List Act) (ms : List (Move State)) → IsCarried ends IsFittingState kept_of u rest acts ms → IsStationFaithful ends IsFittingState kept_of u ms

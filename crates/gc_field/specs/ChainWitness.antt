@@ -1,5 +1,5 @@
--- Some run of a chain is one in the field, this project's own: it points the telescope at a target, measures the distance, and reads both
--- there.
+-- Some run of a chain is one in the field, this project's own: it points the telescope at a target, measures the distance, and
+-- reads angles and distance there.
 use Rattle.std.specs.Prelude.{◌≡◌, ℕ, true, false, List, [], ◌∷◌, take, codes, pos, Some, refl, None}
 use Rattle.gc_lines.specs.Lines.{with_end}
 use Rattle.gc_values.specs.Decimals.{decimal}
@@ -28,21 +28,23 @@ use Rattle.gc_field.specs.Runs.{IsInField}
 use Rattle.gc_field.specs.Shown.{Stretch}
 use Rattle.gc_field.specs.Witness.{plan, at, begun_with, eight, replies}
 
--- the direction of a target, in radians: horizontal and vertical
+-- the horizontal direction of a target, in radians
 abbrev pub hz : Decimal
 hz = decimal (pos 225) 2 refl
 
+-- the vertical angle of the target, in radians
 abbrev pub v : Decimal
 v = decimal (pos 1625) 3 refl
 
--- the calls of the three commands: to point the telescope there, to measure a distance, and to read angles and distance
+-- the call of the first command: to point the telescope at the target
 abbrev pub points : Call
 points = Position hz v (pos 0) (pos 0) false
 
--- the parameters of the measuring call: command 1 starts a measurement; the simulator takes any mode
+-- the call of the second command, which starts a measurement of the distance; the simulator takes any mode
 abbrev pub measures : Call
 measures = DoMeasure (pos 1) (pos 1)
 
+-- the call of the third command: to read angles and distance
 abbrev pub reads_all : Call
 reads_all = SimpleMea (pos 3000) (pos 1)
 
@@ -58,18 +60,20 @@ commands =
 abbrev pub scope : Scope
 scope = record { turns = 100; reads = λ call line. Value (Long (pos 0)) }
 
--- the simulator's replies to the three commands
+-- the simulator's reply to the first command
 abbrev pub first : List ℕ
 first = codes "%R1P,0,0:0"
 
+-- the simulator's reply to the second command
 abbrev pub second : List ℕ
 second = codes "%R1P,0,1:0"
 
+-- the simulator's reply to the third command
 abbrev pub third : List ℕ
 third = codes "%R1P,0,2:0,2.25,1.625,110.0625"
 
--- the acts of the run, with these replies: it begins; then one command goes out after the other, each once the one before it
--- is answered; and the connection is closed
+-- the acts of the run, with these replies: the station begins; then one command goes out after the other, each once the one
+-- before it is answered; and the connection is closed
 abbrev pub acts_with : List (List ℕ) → List ℕ → List ℕ → List ℕ → List Act
 acts_with answers a b c =
     begun_with answers (
@@ -116,20 +120,23 @@ records_with a b c =
     ∷ record { sent = Some 25; utc = 30; cycle = 1; place = 2; command = record { target = 7; call = reads_all }; end = end.Answered (Some (Long (pos 0))) c }
     ∷ []
 
--- the acts of the run over the simulator as it is at the start, with nothing in flight
+-- the acts of the run over the simulator
 abbrev pub acts : List Act
 acts = acts_with replies first second third
 
+-- what the line does meanwhile, once the run has begun
 abbrev pub moves : List (Move State)
 moves = moves_with first second third
 
+-- at the start of the run nothing is in flight
 abbrev pub before : UnderWay State
 before = none_under_way simulator_opening
 
--- the run as one stretch, with nothing behind the end
+-- the run as one stretch
 abbrev pub stretch : Stretch State
 stretch = record { from = leaves (turned ends eight (begins before)); moves = moves }
 
+-- the whole run, with nothing behind the end
 abbrev pub runs : List (Run State)
 runs = record { turns = eight; moves = moves } ∷ record { turns = []; moves = [] } ∷ []
 

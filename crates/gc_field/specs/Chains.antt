@@ -84,7 +84,7 @@ behind ends s ms = (begun.behind WINDOW ends s.from ms).wire
 module _ {State : Type 0} (ends : Ends State) (Good : State → Type 0) (kept : State → Option KeptReply) where
   -- Two executions of a stretch.
 
-  -- in a stretch request m was executed, and this line was its reply; and behind that request n was, and that line was its
+  -- in a stretch request m was executed, with `line_m` as its reply, and later request n, with `line_n`
   pub record IsExecutedAfter (s : Stretch State) (m n : ℕ) (call_m call_n : Call) (line_m line_n : List ℕ) : Type 0 where
     pub first : WasMadeOn WINDOW ends s.from s.moves m call_m line_m
     pub second : WasMadeOn WINDOW ends s.from s.moves n call_n line_n
@@ -97,7 +97,8 @@ module _ {State : Type 0} (ends : Ends State) (Good : State → Type 0) (kept : 
     pub within : Each (λ x. (m ≤ x) × (x ≤ n)) numbers
     -- where the instrument keeps its reply and didn't start between, each was sent behind m and before n
     pub strictly : KeepsItsReply ends Good kept → HasNoStartBetween between → Each (λ x. (m < x) × (x < n)) numbers
-    -- and where it didn't change by itself either, it was, when n reached it, what m and these made of what it was when m did
+    -- where it neither started nor changed by itself between, its state, when n reached it, was what executing m and these made of its state
+    -- when m did
     pub calls : List Call
     pub asked : AreCalls (behind ends s s.moves).sent numbers calls
     pub state :
@@ -106,7 +107,7 @@ module _ {State : Type 0} (ends : Ends State) (Good : State → Type 0) (kept : 
 
   -- A chain of a run.
 
-  -- where the command of record b was executed in a run: behind that at place a of its cycle
+  -- in a run the command of record b was executed behind the command at place a of the same cycle
   pub record IsChainedTo (reads : Call → List ℕ → Reading) (ps : List Part) (ss : List (Stretch State)) (records : List Record) (a : ℕ) (b : Record) (line_b : List ℕ) : Type 0 where
     -- that has a record, too, which is an answer, with both codes 0 and values that read
     pub k : ℕ
@@ -136,17 +137,18 @@ module _ {State : Type 0} (ends : Ends State) (Good : State → Type 0) (kept : 
     -- and they were executed in this order, with these replies
     pub executed : IsExecutedAfter stretch (8 + m) (8 + n) record_a.command.call b.command.call line_a line_b
 
-  -- each record of a command that was answered, from each place on from which it is chained
+  -- if the command of record b was answered, it was executed behind each one from which it is chained
   abbrev pub IsExecutedInChain : Plan → List Task → Scope → List Act → UnderWay State → List (Run State) → Record → Type 0
   IsExecutedInChain plan commands scope acts u rs b =
       (line : List ℕ) (a : ℕ) → answer_of b.end ≡ Some line → a < b.place → AreChained commands a b.place
       → IsChainedTo scope.reads (parts_of plan commands (opening plan scope) acts) (stretches ends u rs) (stood plan commands scope acts).records a b line
 
-  -- of a run, each
+  -- each record of a run is `IsExecutedInChain`
   abbrev pub AreExecutedInChain : Plan → List Task → Scope → List Act → UnderWay State → List (Run State) → Type 0
   AreExecutedInChain plan commands scope acts u rs = AllByRecursion (IsExecutedInChain plan commands scope acts u rs) (stood plan commands scope acts).records
 
--- for any instrument, every plan, all commands, every run of the station, and all that the line and the instrument may do meanwhile
+-- each record is `IsExecutedInChain`: for any instrument, every plan, all commands, every run of the station, and all that the line and the
+-- instrument may do meanwhile
 abbrev pub ChainsAreExecuted : Type 0 → Type 0
 ChainsAreExecuted State =
     (ends : Ends State) (kept : State → Option KeptReply) → IsAnInstrument ends AnyState kept →

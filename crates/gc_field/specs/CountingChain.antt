@@ -34,6 +34,7 @@ abbrev pub counted_or : Counter → ℕ → Option ℕ → Handed Counter
 counted_or s id (Some n) = record { state = s; reply = value id n; executed = false }
 counted_or s id None = record { state = record { count = suc s.count; keeps = Some (id, suc s.count) }; reply = value id (suc s.count); executed = true }
 
+-- the instrument, which starts with the count 0, and nothing kept
 abbrev pub counting : Ends Counter
 counting = record { handed = λ s id call. counted_or s id (held s.keeps id); restarted = λ s. record { count = 0; keeps = None }; heard = heard; joint = false }
 
@@ -41,48 +42,56 @@ counting = record { handed = λ s id call. counted_or s id (held s.keeps id); re
 abbrev pub kept_by : Counter → Option KeptReply
 kept_by s = kept s.keeps
 
--- the state apart from what is kept, and the effect of a call on it
+-- the state without what is kept
 abbrev pub bare : Counter → Counter
 bare s = record { count = s.count; keeps = None }
 
+-- the effect of executing a call on the state: the count grows by one
 abbrev pub counts : Counter → Call → Counter
 counts s call = record { count = suc s.count; keeps = s.keeps }
 
--- the replies to the eight null procedures and to the three commands: the instrument had executed 27 requests before
+-- the replies to the eight null procedures: the instrument had executed 27 requests before
 abbrev pub begun : List (List ℕ)
 begun =
     codes "%R1P,0,6:0,28" ∷ codes "%R1P,0,5:0,29" ∷ codes "%R1P,0,4:0,30" ∷ codes "%R1P,0,3:0,31" ∷ codes "%R1P,0,2:0,32" ∷ codes "%R1P,0,1:0,33"
     ∷ codes "%R1P,0,0:0,34" ∷ codes "%R1P,0,7:0,35" ∷ []
 
+-- the reply to the first command
 abbrev pub first : List ℕ
 first = codes "%R1P,0,0:0,36"
 
+-- the reply to the second command
 abbrev pub second : List ℕ
 second = codes "%R1P,0,1:0,37"
 
+-- the reply to the third command
 abbrev pub third : List ℕ
 third = codes "%R1P,0,2:0,38"
 
+-- the acts of the run
 abbrev pub acts : List Act
 acts = acts_with begun first second third
 
+-- what the line does once the run has begun
 abbrev pub moves : List (Move Counter)
 moves = moves_with first second third
 
+-- at the start of the run nothing is in flight
 abbrev pub before : UnderWay Counter
 before = none_under_way (record { count = 27; keeps = None })
 
--- the run as one stretch, with nothing behind the end
+-- the run as one stretch
 abbrev pub stretch : Stretch Counter
 stretch = record { from = leaves (turned counting eight (begins before)); moves = moves }
 
+-- the whole run, with nothing behind the end
 abbrev pub runs : List (Run Counter)
 runs = record { turns = eight; moves = moves } ∷ record { turns = []; moves = [] } ∷ []
 
--- this run meets all premises of the law of chains: the instrument is one in each of its states, keeps its reply, and a call
--- has that effect on it. The run is in the field, its third command is of the first one's chain, and nothing disturbs the
--- instrument. So both answers were made on executing their requests, and the state at the third command is what the first
--- and the second made of it
+-- this run meets all premises of the law of chains: `counting` is an instrument in each of its states, keeps its reply, and a call
+-- has the effect `counts` on its state. The run is in the field, its third command is of the first one's chain, and nothing disturbs
+-- the instrument. So both answers were made on executing their requests, and the count at the third command is what the first and the
+-- second made of it
 pub record IsCountedInField : Type 0 where
   pub is : IsAnInstrument counting AnyState kept_by
   pub keeps : KeepsItsReply counting AnyState kept_by

@@ -52,12 +52,13 @@ commands =
 abbrev pub scope : Scope
 scope = record { turns = 100; reads = λ call line. Value (Long (pos 31)) }
 
--- the replies to the null procedures, and to the second command
+-- the replies to the null procedures
 abbrev pub begun : List (List ℕ)
 begun =
     codes "%R1P,0,6:0,12" ∷ codes "%R1P,0,5:0,12" ∷ codes "%R1P,0,4:0,12" ∷ codes "%R1P,0,3:0,12" ∷ codes "%R1P,0,2:0,12" ∷ codes "%R1P,0,1:0,12"
     ∷ codes "%R1P,0,0:0,12" ∷ codes "%R1P,0,7:0,12" ∷ []
 
+-- the reply to the second command
 abbrev pub answer : List ℕ
 answer = codes "%R1P,0,1:0,31"
 
@@ -101,13 +102,13 @@ acts =
     ∷ []
     )
 
--- what the line does while the station begins: it loses the first reply to the first null procedure, and the second sending
--- of that
+-- what the line does while the station begins: it loses the first reply to the first null procedure, and that procedure's
+-- second request
 abbrev pub turns : List (Turn ℕ)
 turns = Asks ∷ Reaches ∷ turn.Down_lose 0 ∷ Asks ∷ turn.Up_lose 0 ∷ turn.Changes 12 ∷ eight
 
--- what the line does then: the first command is answered, and that reply is lost; the second command reaches the instrument
--- behind a start, and is answered with what it measures by then, over another connection
+-- what the line does once the station has begun: the first command is answered, and that reply is lost; the second command
+-- reaches the instrument behind a start, and is answered with what it measures by then, over another connection
 abbrev pub moves : List (Move ℕ)
 moves =
     Tells 220
@@ -134,7 +135,7 @@ moves =
 abbrev pub runs : List (Run ℕ)
 runs = record { turns = turns; moves = moves } ∷ record { turns = []; moves = [] } ∷ []
 
--- the instrument is one, and this is a run in the field, behind which no act follows. It wrote the first command down as
+-- `drifting` is an instrument, and this is a run in the field, behind which no act follows. The run wrote the first command down as
 -- lost, and the second one's answer, which was made on executing the second command's request
 pub record IsAnsweredByDrifting : Type 0 where
   pub is : IsAnInstrument drifting AnyState nothing

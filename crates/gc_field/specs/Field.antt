@@ -1,6 +1,6 @@
 -- The field, this project's own: what happens between a client and an instrument over any number of connections, and what may happen to
--- the lines meanwhile. It is the world's line, which keeps order, loses lines whole and repeats a line directly behind it; a
--- connection has no word in it, since a close is a loss of lines; and the instrument may start anew at any moment.
+-- the lines meanwhile. Between the two is the world's line, which keeps order, loses lines whole and repeats a line directly behind it.
+-- Connections aren't spoken of, because a close is a loss of lines. The instrument may start anew at any moment.
 use Rattle.std.specs.Prelude.{◌≡◌, ℕ, Bool, true, false, List, [], ◌∷◌, ◌++◌, Option, None}
 use Rattle.gc_catalogue.specs.declared.call.Call.{Call}
 use Rattle.gc_client.specs.OneForOne as client
@@ -21,10 +21,10 @@ pub data Move (State : Type 0) : Type 0 where
   OnLine : (step : Step) → Move State
   -- the instrument starts anew, whatever is under way
   Anew : Move State
-  -- its state changes by itself, to this one
+  -- the instrument's state changes by itself, to this one
   Changes : (state : State) → Move State
-  -- the line feed that clears the front of a request that was cut is lost: that front and the next request reach it as one line, and this
-  -- is its reply
+  -- the line feed that clears the front of a request that was cut is lost: that front and the next request reach the instrument as one line,
+  -- and this is its reply
   Joins : (line : List ℕ) → Move State
 
 -- a step of the line alone: the client has no part in it, and nothing starts anew
@@ -60,12 +60,13 @@ module _ {Client State : Type 0} where
   moves ends rule w (Changes state) = on_wire w (record w.wire { state = state })
   moves ends rule w (Joins line) = on_wire w (joined w.wire w.wire.up line)
 
-  -- a move for each of the list, in order
+  -- the world behind these moves, in order
   abbrev pub moved : Ends State → Rule Client → List (Move State) → World Client State → World Client State
   moved ends rule [] w = w
   moved ends rule (m ∷ ms) w = moved ends rule ms (moves ends rule w m)
 
-  -- what comes is the whole reply in front of those under way, or no reply with an id: an echo, noise, or what is left of a line that was cut
+  -- a move is possible in a world. What comes is the whole reply in front of those under way, or no reply with an id: an echo, noise, or what is
+  -- left of a line that was cut
   abbrev pub IsPossible : (State → Type 0) → (State → Option KeptReply) → World Client State → Move State → Type 0
   IsPossible Good kept w (Sends target call deadline) = Unit {0}
   IsPossible Good kept w (Tells now) = Unit {0}
@@ -77,12 +78,12 @@ module _ {Client State : Type 0} where
   -- a line feed arrives behind the front of a request, before the next request does
   IsPossible Good kept w (Joins line) = ⊥
 
-  -- each of the list is possible in its turn
+  -- each of these moves is possible when its turn comes
   abbrev pub ArePossible : Ends State → (State → Type 0) → (State → Option KeptReply) → Rule Client → List (Move State) → World Client State → Type 0
   ArePossible ends Good kept rule [] w = Unit {0}
   ArePossible ends Good kept rule (m ∷ ms) w = IsPossible Good kept w m × ArePossible ends Good kept rule ms (moves ends rule w m)
 
--- the client's steps among these moves; moves of the line are nothing to it
+-- the client's steps among these moves; it doesn't see those of the line
 abbrev pub seen : {State : Type 0} → List (Move State) → List client.Step
 seen [] = []
 seen (Sends target call deadline ∷ ms) = client.Send target call deadline ∷ seen ms
@@ -94,7 +95,7 @@ seen (Anew ∷ ms) = seen ms
 seen (Changes state ∷ ms) = seen ms
 seen (Joins line ∷ ms) = seen ms
 
--- the first request goes out alone: no other one before a reply came. The flag says whether the first one went out already
+-- the first request goes out alone: no other one before a reply came. `out` says whether the first one went out already
 abbrev pub IsFirstAlone : {State : Type 0} → Bool → List (Move State) → Type 0
 IsFirstAlone out [] = Unit {0}
 IsFirstAlone false (Sends target call deadline ∷ ms) = IsFirstAlone true ms

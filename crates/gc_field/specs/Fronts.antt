@@ -1,5 +1,5 @@
--- Requests that are cut, this project's own: where the front of one got through, and a line feed that clears it, or the tail of one
--- behind a start of the instrument, then no request did. So a request that was cut reached the instrument whole or not at all.
+-- Requests that are cut, this project's own. Where only the front of one got through, with a line feed behind it, or only its tail, as
+-- behind a start of the instrument, no request got through. So a request that was cut reaches the instrument whole or not at all.
 use Rattle.std.specs.Prelude.{◌≡◌, ℕ, ◌+◌, ◌<◌, ◌≤◌, List, [], ◌∷◌, ◌++◌, length, take, drop, Some}
 use Rattle.gc_lines.specs.Frames.{lines}
 use Rattle.gc_lines.specs.Lines.{with_end}
@@ -13,6 +13,7 @@ use Rattle.gc_instrument.specs.Laws.{HasNoRequest}
 abbrev pub request_bytes : ℕ → Call → List ℕ
 request_bytes id call = with_end (request_line (Some id) call)
 
+-- a front or a tail of a request with this id and call is no request, unless it is the whole one
 pub record IsWholeOrNothing (id : ℕ) (call : Call) : Type 0 where
   -- a front without its CR, and a line feed, are no line; with its CR they are the request itself
   pub front : (count : ℕ) → count ≤ length (request_line (Some id) call) → lines (take count (request_bytes id call) ++ 10 ∷ []) ≡ []
@@ -20,11 +21,12 @@ pub record IsWholeOrNothing (id : ℕ) (call : Call) : Type 0 where
   -- no line of a tail is a request
   pub tail : (count : ℕ) → 0 < count → HasNoRequest (drop count (request_bytes id call))
 
+-- each request of a call that fits is whole or nothing, whatever its id
 abbrev pub CutRequestsAreWholeOrNothing : Type 0
 CutRequestsAreWholeOrNothing = (id : ℕ) (call : Call) → IsFitting call → IsWholeOrNothing id call
 
--- Where that line feed is lost, the front and the next request are one line. If it is a request at all, then it is one of the front's id
--- and procedure; and so is its reply
+-- where the line feed behind the front of a request is lost, the front and the next request are one line. If that line is a
+-- request at all, it has the front's id and procedure
 abbrev pub JoinedRequestsHaveTheFrontsId : Type 0
 JoinedRequestsHaveTheFrontsId =
     (id : ℕ) (call : Call) (next : ℕ) (behind : Call) (count : ℕ) → id < 8 → IsFitting call → 0 < count → (q : RequestFields) →

@@ -1,8 +1,8 @@
 -- What is asked of an instrument, this project's own: it answers in turn, one request at a time, each with its request's id, and what it
--- sends again is its reply to the request directly before. By this alone each answer is its own request's. Its states are of any kind, and
--- what it does with a request, and what it says of it, are its own: it may carry it out or refuse it, with any codes and any parameters,
--- also such as don't read. `executed` means that its line was made now, for this request, be it an answer or a refusal; where it wasn't,
--- the line is an older one that is sent again.
+-- sends again is its reply to the request directly before. By this alone each answer is its own request's. Its states are of any kind. It
+-- may do with a request whatever it likes, and carry it out or refuse it, with any codes and any parameters, also such as don't read.
+-- `executed` means that the line was made now, for this request, be it an answer or a refusal; where it isn't so, the line is an older one
+-- that is sent again.
 use Rattle.std.specs.Prelude.{◌≡◌, ℕ, ◌<◌, ◌⊎◌, true, false, List, Option, Some, None}
 use Rattle.gc_catalogue.specs.declared.call.Call.{Call}
 use Rattle.gc_client.specs.declared.window.TheConstants.{IDS}
@@ -11,13 +11,13 @@ use Rattle.gc_instrument.specs.State.{KeptReply}
 use Rattle.gc_world.specs.World.{Ends}
 
 module _ {State : Type 0} (ends : Ends State) (Good : State → Type 0) (kept : State → Option KeptReply) where
-  -- these are its good states, and this is what it keeps in each: the line that it sent for a request, with the request's id, or nothing
+  -- an instrument, with its good states, and with what it keeps in each: the line that it sent for a request, with the request's id, or nothing
   pub record IsAnInstrument : Type 0 where
     -- a client reads its lines by the grammar of replies
     pub hears : (line : List ℕ) → ends.heard line ≡ heard line
     -- its line for a request is a reply with the request's id
     pub replies : (state : State) (id : ℕ) (call : Call) → Good state → id < IDS → heard (ends.handed state id call).reply ≡ Some id
-    -- where that wasn't made now, for this request, it is the line that it keeps, of a request with that very id
+    -- where its line wasn't made now, for this request, it is the line that it keeps, of a request with that very id
     pub repeats :
         (state : State) (id : ℕ) (call : Call) → Good state → id < IDS → (ends.handed state id call).executed ≡ false →
         kept state ≡ Some (record { id = id; line = (ends.handed state id call).reply })
@@ -42,8 +42,8 @@ module _ {State : Type 0} (ends : Ends State) (Good : State → Type 0) (kept : 
         (state : State) (id : ℕ) (call : Call) → Good state → id < IDS →
         kept (ends.handed state id call).state ≡ Some (record { id = id; line = (ends.handed state id call).reply })
 
--- its state may change by itself between two requests, as by a hand at its keys, a clock, or the noise of a measurement: into any good
--- state that keeps the same line
+-- an instrument's state may change by itself between two requests, as by a hand at its keys, a clock, or the noise of a measurement: into any
+-- good state that keeps the same line
 abbrev pub MayBecome : {State : Type 0} → (State → Type 0) → (State → Option KeptReply) → State → State → Type 0
 MayBecome Good kept before after = Good after × (kept after ≡ kept before)
 
@@ -51,11 +51,11 @@ MayBecome Good kept before after = Good after × (kept after ≡ kept before)
 abbrev pub AnyState : {State : Type 0} → State → Type 0
 AnyState state = Unit {0}
 
--- nothing is kept
+-- no state keeps a reply
 abbrev pub nothing : {State : Type 0} → State → Option KeptReply
 nothing state = None
 
--- an instrument that keeps no reply is one, whatever it does, if only each reply has its request's id
+-- what keeps no reply, and deals with each request anew, is an instrument, if only each reply has its request's id
 abbrev pub KeepingNothingSuffices : Type 0 → Type 0
 KeepingNothingSuffices State =
     (ends : Ends State) → ((line : List ℕ) → ends.heard line ≡ heard line) →

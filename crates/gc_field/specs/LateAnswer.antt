@@ -27,10 +27,11 @@ commands =
     ∷ record { command = record { target = 8; call = InstrumentNo }; deadline = 100; chained = false; near = None }
     ∷ []
 
--- the replies to the two requests
+-- the reply to the first request, which comes too late
 abbrev pub late : List ℕ
 late = codes "%R1P,0,0:0,123456"
 
+-- the reply to the second request
 abbrev pub answer : List ℕ
 answer = codes "%R1P,0,1:0,123456"
 
@@ -69,13 +70,15 @@ moves =
     ∷ Comes answer
     ∷ []
 
--- the whole run: nothing is in flight at the start, and nothing happens behind the end
+-- the whole run, with nothing behind the end
 abbrev pub runs : List (Run State)
 runs = record { turns = eight; moves = moves } ∷ record { turns = []; moves = [] } ∷ []
 
+-- at the start of the run nothing is in flight
 abbrev pub before : UnderWay State
 before = none_under_way simulator_opening
 
+-- what is in flight once the run has begun
 abbrev pub from : UnderWay State
 from = leaves (turned ends eight (begins before))
 

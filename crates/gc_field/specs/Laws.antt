@@ -21,16 +21,17 @@ abbrev pub WasExecuted : List ℕ → ℕ → Type 0
 WasExecuted executed m = (j : ℕ) × (slice_get executed j ≡ Some m)
 
 module _ {State : Type 0} (width : ℕ) (ends : Ends State) (state : State) (ms : List (Move State)) where
-  -- the world behind the moves, with the client that knows ids, and with the one that is told the numbers
+  -- the world behind the moves, with the client that knows ids
   abbrev pub left : World ById State
   left = moved ends (by_ids width ends) ms (ids_open state)
 
+  -- the wire behind the moves, with the client that is given the number of each reply's request
   abbrev pub left_by_numbers : Wire State
   left_by_numbers = (moved ends (by_numbers width) ms (numbers_open state)).wire
 
-  -- what holds of them, for an instrument whose states are good ones
+  -- what holds behind the moves, for an instrument whose states are good ones
   pub record IsFaithful (Good : State → Type 0) (kept : State → Option KeptReply) : Type 0 where
-    -- a client that takes these steps settles what the world's settled, and stands where that stands
+    -- a client that takes the steps of the moves settles what the world's client settled, and ends in the same state
     pub settled : (course width begun (seen ms)).settlements ≡ left.wire.settled
     pub stands : (course width begun (seen ms)).client ≡ left.client
     -- one for one: what was settled and what waits are the requests that were sent, in order, each once; so settlement m has the target and
@@ -63,7 +64,7 @@ module _ {State : Type 0} (width : ℕ) (ends : Ends State) (state : State) (ms 
         (n : ℕ) (line : List ℕ) (rest : List (Numbered (List ℕ))) → left.wire.down ≡ record { number = n; line = line } ∷ rest → length left.wire.settled ≤ n →
         (moves ends (by_ids width ends) left (Comes line)).wire.settled ≡ left.wire.settled ++ settle (n - length left.wire.settled) line left.client.waiting
 
--- for any instrument in any state, whatever it keeps, and a client with a window of any width
+-- runs in the field are faithful: for any instrument in any state, whatever it keeps, and a client with a window of any width
 abbrev pub AnswersAreTheirOwn : Type 0 → Type 0
 AnswersAreTheirOwn State =
     (ends : Ends State) (kept : State → Option KeptReply) → IsAnInstrument ends AnyState kept →
@@ -73,13 +74,13 @@ AnswersAreTheirOwn State =
 abbrev pub kept_of : State → Option KeptReply
 kept_of s = s.kept
 
--- the simulated instrument is one, in any state that fits, and one that keeps its reply. What it is handed are calls of its table: its
--- refusals of other requests leave what it keeps, so with them it isn't one
+-- the simulator is an instrument, in any state that fits, and one that keeps its reply. What it is handed are calls of its
+-- table: its refusals of other requests leave what it keeps, so with them it would be no instrument
 pub record SimulatorIsAnInstrument : Type 0 where
   pub is : IsAnInstrument ends IsFittingState kept_of
   pub keeps : KeepsItsReply ends IsFittingState kept_of
 
--- the same for the simulator, in any state that fits
+-- `AnswersAreTheirOwn` for the simulator, in any state that fits
 abbrev pub SimulatorsAnswersAreTheirOwn : Type 0
 SimulatorsAnswersAreTheirOwn =
     (width : ℕ) → width ≤ WINDOW → (state : State) → IsFittingState state → (ms : List (Move State)) → IsField width ends IsFittingState kept_of state ms

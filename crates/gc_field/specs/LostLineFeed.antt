@@ -29,7 +29,7 @@ joint = codes "%R1Q,5003,1:%R1Q,0,2:"
 abbrev pub before : List (Move State)
 before = Sends 0 NullProc 9 ∷ OnLine Up_deliver ∷ Comes (codes "%R1P,0,0:0") ∷ Sends 7 InstrumentNo 9 ∷ Sends 8 NullProc 9 ∷ []
 
--- the moves behind: the front of the first and the second come as one line, which is answered
+-- the moves behind: the front of the first request and the second request reach the simulator as one line, whose reply comes
 abbrev pub behind : List (Move State)
 behind = Joins refusal ∷ Comes refusal ∷ []
 
@@ -42,7 +42,7 @@ pub record IsBookedJoined : Type 0 where
   -- the simulator, as it is by then, answers that line with this refusal, and nothing changes
   pub replied : IsReplied (begun.behind WINDOW ends (none_under_way simulator_opening) before).wire.state joint
       (begun.behind WINDOW ends (none_under_way simulator_opening) before).wire.state (Some refusal)
-  -- it wasn't executed
+  -- the reply is booked for the request that was cut, which wasn't executed
   pub settled : slice_get (begun.behind WINDOW ends (none_under_way simulator_opening) (before ++ behind)).wire.settled 9 ≡ Some
       (record { target = 7; call = InstrumentNo; outcome = Answered refusal })
   pub executed : (begun.behind WINDOW ends (none_under_way simulator_opening) (before ++ behind)).wire.executed ≡ 8 ∷ []

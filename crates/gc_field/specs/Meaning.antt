@@ -1,6 +1,6 @@
--- What the acts of a link are to a station's client, this project's own. It doesn't say when a station sends: only that it keeps the
--- client's rule, with the window of seven, and hears each line that comes or drops what came. A connection may be closed and made as
--- often as it will, and that is nothing to the client.
+-- What the acts of a link are to a station's client, this project's own. Nothing is said of when a station sends: only that it keeps the
+-- client's rule, with the window of seven, and hears each line that comes or drops what came. Connections may be closed and made at any
+-- time, and that is nothing to the client.
 use Rattle.std.specs.Prelude.{◌≡◌, ◌⊎◌, ℕ, List, [], ◌∷◌, ◌++◌, map, Some}
 use Rattle.gc_lines.specs.Frames.{rest_behind}
 use Rattle.gc_lines.specs.Lines.{with_end}
@@ -34,14 +34,13 @@ pub record IsHeard (before piece : List ℕ) (m : Moment) (steps : List Step) (b
   pub lines : steps ≡ Expire m.elapsed ∷ map Hear (lines_behind before piece)
   pub rest : behind ≡ rest_behind before piece
 
--- a piece that is dropped, as while a connection is drained: the moment is told, and the lines that came count as lost by
--- the line
+-- a piece that is dropped, as while a connection is drained: the moment is told, and it is as if the lines that came had been lost
 pub record IsDropped (before : List ℕ) (m : Moment) (steps : List Step) (behind : List ℕ) : Type 0 where
   pub lines : steps ≡ Expire m.elapsed ∷ []
   pub rest : behind ≡ before
 
--- what an act is to a client: these steps, and the bytes since the last line feed before and behind it, which a close forgets. A request
--- of which only a part went out is a request: whether its line reaches the instrument is the line's part, which may lose it whole
+-- what an act is to a client: these steps, and the bytes since the last line feed, before and behind the act, which a close forgets. A
+-- request of which only a part went out is a request, too, which may be lost whole on the way to the instrument
 abbrev pub Means : ById → List ℕ → Act → List Step → List ℕ → Type 0
 Means client before (Told m) steps behind = (steps ≡ Expire m.elapsed ∷ []) × (behind ≡ before)
 Means client before Untold steps behind = (steps ≡ []) × (behind ≡ before)
@@ -55,15 +54,16 @@ Means client before Closed steps behind = (steps ≡ []) × (behind ≡ [])
 Means client before Opened steps behind = (steps ≡ []) × (behind ≡ before)
 Means client before Unopened steps behind = (steps ≡ []) × (behind ≡ before)
 
--- a client behind a step, by its rule with the window of seven, and behind several
+-- a client behind a step, by its rule with the window of seven
 abbrev pub stepped : ById → Step → ById
 stepped client step = (goes WINDOW (record { sent = []; settlements = []; client = client }) step).client
 
+-- a client behind several steps, in order
 abbrev pub client_after : ById → List Step → ById
 client_after client [] = client
 client_after client (step ∷ steps) = client_after (stepped client step) steps
 
--- these acts are these steps of the client, from this client on
+-- these acts mean these steps of the client, one behind the other, from this client and these bytes since the last line feed on
 abbrev pub Amount : ById → List ℕ → List Act → List Step → Type 0
 Amount client before [] steps = steps ≡ []
 Amount client before (act ∷ acts) steps =

@@ -46,8 +46,8 @@ pub record IsAllBut {State : Type 0} (x : Clause) (ends : Ends State) (Good : St
   pub stays_good : (x ≡ StaysGood) ⊎ ((state : State) (id : ℕ) (call : Call) → Good state → id < IDS → Good (ends.handed state id call).state)
   pub starts_good : (x ≡ StartsGood) ⊎ ((state : State) → Good state → Good (ends.restarted state))
 
--- in a run in the field, once it has begun cleanly, with nothing under way, request m, which is the client's, is answered with this line, and
--- wasn't executed
+-- behind a clean beginning, with nothing under way, these moves are possible, and the client's request m, with this call, is answered with this
+-- line though it wasn't executed
 pub record IsBookedUnexecuted {State : Type 0} (ends : Ends State) (Good : State → Type 0) (kept : State → Option KeptReply) (state : State)
     (ms : List (Move State)) (m : ℕ) (call : Call) (line : List ℕ) : Type 0 where
   pub beyond : 8 ≤ m
@@ -63,28 +63,29 @@ pub record IsNeeded {State : Type 0} (x : Clause) (ends : Ends State) (Good : St
   pub good : Good state
   pub booked : IsBookedUnexecuted ends Good kept state ms m call line
 
--- a reply with this id that gives a number, and one that refuses
+-- a reply with this id that gives this number
 abbrev pub value : ℕ → ℕ → List ℕ
 value id n = reply_text (record { rc_com = 0; id = Some id; rc = 0; params = decimal n })
 
+-- a reply with this id that refuses the request
 abbrev pub refusal : ℕ → List ℕ
 refusal id = reply_text (record { rc_com = 3081; id = Some id; rc = 0; params = [] })
 
--- a request goes out, reaches the instrument, and is answered with this
+-- the moves by which a request goes out, reaches the instrument, and is answered with this line; then these moves
 abbrev pub asks : {State : Type 0} → Call → List ℕ → List (Move State) → List (Move State)
 asks call line ms = Sends 7 call 9 ∷ OnLine Up_deliver ∷ Comes line ∷ ms
 
--- two requests go out, the first of them reaches it, and is answered with this
+-- the moves by which two requests go out, and the first of them reaches the instrument and is answered with this line
 abbrev pub asks_two : {State : Type 0} → List ℕ → List (Move State)
 asks_two line = Sends 7 NullProc 9 ∷ Sends 7 InstrumentNo 9 ∷ OnLine Up_deliver ∷ Comes line ∷ []
 
 -- Instruments that keep a reply.
 
--- the state of such an instrument: the id of a request and the number in its reply, or nothing
+-- the state of an instrument that keeps a reply: the id of a request and the number in its reply, or nothing
 abbrev pub Keeper : Type 0
 Keeper = Option (ℕ × ℕ)
 
--- the line that is kept
+-- the reply that is kept
 abbrev pub kept : Keeper → Option KeptReply
 kept None = None
 kept (Some x) = Some (record { id = x.0; line = value x.0 x.1 })
@@ -94,8 +95,8 @@ abbrev pub held : Keeper → ℕ → Option ℕ
 held None id = None
 held (Some x) id = if nat_eq x.0 id then Some x.1 else None
 
--- what such an instrument does with a request: it sends the number again that it keeps for this id, or deals with the
--- request and keeps its reply
+-- what an instrument that keeps a reply does with a request: it sends the number again that it keeps for the request's id; or,
+-- where it keeps none, it deals with the request and keeps its reply
 abbrev pub again_or : ℕ → Keeper → Option ℕ → Handed Keeper
 again_or id k (Some n) = record { state = k; reply = value id n; executed = false }
 again_or id k None = record { state = Some (id, 0); reply = value id 0; executed = true }
@@ -104,12 +105,13 @@ again_or id k None = record { state = Some (id, 0); reply = value id 0; executed
 abbrev pub keeper : Ends Keeper
 keeper = record { handed = λ k id call. again_or id k (held k id); restarted = λ k. None; heard = heard; joint = true }
 
--- what an instrument does that refuses what it doesn't know, here all but the null procedure, and still keeps an older
--- reply, which comes again at the ninth request
+-- what an instrument does with a request that it knows, or refuses because it doesn't: behind a refusal it still keeps an older
+-- reply
 abbrev pub refuses_or : Bool → Keeper → ℕ → Handed Keeper
 refuses_or true k id = again_or id k (held k id)
 refuses_or false k id = record { state = k; reply = refusal id; executed = true }
 
+-- an instrument that knows the null procedure alone: its older reply comes again at the ninth request
 abbrev pub keeps_older : Ends Keeper
 keeps_older = record keeper { handed = λ k id call. refuses_or (nat_eq (call_fields call).number 0) k id }
 
@@ -119,11 +121,11 @@ nine =
     asks NullProc (value 0 0) (asks InstrumentNo (refusal 1) (asks InstrumentNo (refusal 2) (asks InstrumentNo (refusal 3) (asks InstrumentNo (refusal 4)
     (asks InstrumentNo (refusal 5) (asks InstrumentNo (refusal 6) (asks InstrumentNo (refusal 7) (asks NullProc (value 0 0) []))))))))
 
--- an instrument that has a line of long ago behind a start
+-- an instrument that keeps an old reply, with id 1, behind each start
 abbrev pub remembers : Ends Keeper
 remembers = record keeper { restarted = λ k. Some (1, 27) }
 
--- its moves: it starts between two requests
+-- the moves of two requests, between which `remembers` starts
 abbrev pub started : List (Move Keeper)
 started = asks NullProc (value 0 0) (Anew ∷ asks InstrumentNo (value 1 27) [])
 
@@ -131,7 +133,7 @@ started = asks NullProc (value 0 0) (Anew ∷ asks InstrumentNo (value 1 27) [])
 abbrev pub shared : List (Move Keeper)
 shared = asks NullProc (value 0 0) (Changes (Some (1, 27)) ∷ asks InstrumentNo (value 1 27) [])
 
--- Instruments that keep none: their state says whether they are in order.
+-- Instruments that keep no reply: their state says whether they are out of order.
 
 -- an id that differs from this one, unless that is 0
 abbrev pub turned : ℕ → ℕ
@@ -143,7 +145,8 @@ abbrev pub id_of : Bool → ℕ → ℕ
 id_of false id = id
 id_of true id = turned id
 
--- each request is executed; out of order it has a reply with another id
+-- what an instrument that may be out of order does with a request: it executes the request, whose reply has another id where it
+-- is out of order
 abbrev pub answers_in : Bool → ℕ → Bool → Handed Bool
 answers_in broken id behind = record { state = behind; reply = value (id_of broken id) 0; executed = true }
 
@@ -163,14 +166,15 @@ misheard = record mistaken { handed = λ b id call. answers_in false id b; heard
 abbrev pub idle : Ends Bool
 idle = record mistaken { handed = λ b id call. record { state = b; reply = value id 0; executed = false } }
 
--- three instruments: one that a request puts out of order, one that a start does, and one that meets every clause in its
--- good states
+-- an instrument that a request puts out of order
 abbrev pub wears_out : Ends Bool
 wears_out = record mistaken { handed = λ b id call. answers_in b id true; restarted = λ b. false }
 
+-- an instrument that a start puts out of order
 abbrev pub starts_broken : Ends Bool
 starts_broken = record mistaken { handed = λ b id call. answers_in b id b; restarted = λ b. true }
 
+-- an instrument that meets every clause in its good states
 abbrev pub sound : Ends Bool
 sound = record mistaken { handed = λ b id call. answers_in b id b }
 
@@ -188,7 +192,7 @@ deals_anew = record keeper { handed = λ k id call. again_or id k None }
 abbrev pub forgets : Ends Bool
 forgets = record mistaken { handed = λ b id call. answers_in false id b }
 
--- it is an instrument, and executes a request twice with no start between
+-- this is an instrument, and it executes a request that comes twice, with no start between, twice
 pub record IsExecutedTwice {State : Type 0} (ends : Ends State) (Good : State → Type 0) (kept : State → Option KeptReply) (state : State) : Type 0 where
   pub is : IsAnInstrument ends Good kept
   pub good : Good state
@@ -196,7 +200,7 @@ pub record IsExecutedTwice {State : Type 0} (ends : Ends State) (Good : State �
   pub field : ArePossible ends Good kept (by_ids WINDOW ends) comes_twice (ids_begun (none_under_way state))
   pub twice : ActsOnce (behind WINDOW ends (none_under_way state) comes_twice).wire.executed (behind WINDOW ends (none_under_way state) comes_twice).wire.starts → ⊥
 
--- each clause is needed
+-- each clause on instruments is needed
 pub record IsAllNeeded : Type 0 where
   pub hears : IsNeeded Hears misheard AnyState nothing false (asks NullProc (value 0 0) (asks_two (value 1 0))) 10 InstrumentNo (value 1 0)
   pub replies : IsNeeded Replies mistaken AnyState nothing false (asks NullProc (value 0 0) (asks_two (value 2 0))) 10 InstrumentNo (value 2 0)

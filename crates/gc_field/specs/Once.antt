@@ -11,8 +11,8 @@ HasNoStart starts j k = Each (λ s. (s ≤ j) ⊎ (k < s)) starts
 abbrev pub IsInOrder : List ℕ → Type 0
 IsInOrder executed = (j k m n : ℕ) → j < k → slice_get executed j ≡ Some m → slice_get executed k ≡ Some n → m ≤ n
 
--- of two executions with no start between them the later one is of a request that was sent later: these are the numbers of the
--- requests that were executed, and how many had been at each start
+-- of two executions with no start between them the later one is of a request that was sent later. `executed` has the numbers of the
+-- requests that were executed, and `starts` how many executions were before each start
 abbrev pub ActsOnce : List ℕ → List ℕ → Type 0
 ActsOnce executed starts =
     (j k m n : ℕ) → j < k → HasNoStart starts j k → slice_get executed j ≡ Some m → slice_get executed k ≡ Some n → m < n

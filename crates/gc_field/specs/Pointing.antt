@@ -30,7 +30,7 @@ use Rattle.gc_field.specs.Shown.{Stretch, stretches}
 abbrev pub behind_call : State → Call → State
 behind_call s call = (exec s call).state
 
--- the simulator's state apart from what it keeps
+-- the simulator's state without the reply that it keeps
 abbrev pub bare : State → State
 bare s = with_kept None s
 
@@ -50,8 +50,9 @@ pub record PointsAs (s t : State) : Type 0 where
   pub pointing : s.pointing ≡ t.pointing
   pub face : s.face ≡ t.face
 
--- where the command of this record was executed behind that at place a, the telescope pointed, when it was, where executing that one had
--- left it; and where that was a positioning, to the direction that it commanded, in the face in which it was
+-- when the command of record b was executed, behind the command at place a, the telescope pointed where executing the latter
+-- had left it; and where the latter was a positioning, in the direction that it commanded, in the face in which the telescope
+-- was before
 pub record IsMeasuredWhereItPointed (reads : Call → List ℕ → Reading) (ps : List Part) (ss : List (Stretch State)) (records : List Record) (a : ℕ) (b : Record) (line : List ℕ)
     (h : IsChainedTo ends IsFittingState kept_of reads ps ss records a b line) : Type 0 where
   pub as_left : PointsAs (behind ends h.stretch h.executed.second.front).state (behind_call (behind ends h.stretch h.executed.first.front).state h.record_a.command.call)
@@ -60,9 +61,9 @@ pub record IsMeasuredWhereItPointed (reads : Call → List ℕ → Reading) (ps 
       → ((behind ends h.stretch h.executed.second.front).state.pointing ≡ record { hz = hz; v = v })
       × ((behind ends h.stretch h.executed.second.front).state.face ≡ (behind ends h.stretch h.executed.first.front).state.face)
 
--- each record of a command that was answered, from each place on from which it is chained: it was executed behind that one; and where no
--- command of the places between turns the telescope, and the instrument neither started anew nor changed by itself between the two
--- executions, it was measured where the telescope pointed
+-- if the command of record b was answered, and is chained to the command at place a, it was executed behind the latter. Where
+-- no command of the places between turns the telescope, and the instrument neither started anew nor changed by itself between
+-- the two executions, it was executed with the telescope as the latter had left it
 abbrev pub IsPointedInChain : Plan → List Task → Scope → List Act → UnderWay State → List (Run State) → Record → Type 0
 IsPointedInChain plan commands scope acts u rs b =
     (line : List ℕ) (a : ℕ) → answer_of b.end ≡ Some line → a < b.place → AreChained commands a b.place
@@ -70,12 +71,13 @@ IsPointedInChain plan commands scope acts u rs b =
     × (AreStill commands a b.place → IsUndisturbed h.executed.between
     → IsMeasuredWhereItPointed scope.reads (parts_of plan commands (opening plan scope) acts) (stretches ends u rs) (stood plan commands scope acts).records a b line h)
 
--- for every plan, all commands, every run of the station over the simulator, and all that the line and it may do meanwhile
+-- each record is `IsPointedInChain`: for every plan, all commands, every run of the station over the simulator, and all that the line and
+-- the simulator may do meanwhile
 abbrev pub ChainsAreMeasuredWhereTheyPointed : Type 0
 ChainsAreMeasuredWhereTheyPointed =
     (plan : Plan) (commands : List Task) (scope : Scope) (acts : List Act) (u : UnderWay State) (rs : List (Run State)) → IsInField ends IsFittingState kept_of plan commands scope acts u rs →
     AllByRecursion (IsPointedInChain plan commands scope acts u rs) (stood plan commands scope acts).records
 
--- what a call of the table makes of the simulator is what carrying it out gives, apart from what is kept
+-- executing a call of the table makes of the simulator's state what the execution table says, apart from the reply that is kept
 abbrev pub SimulatorHasItsEffect : Type 0
 SimulatorHasItsEffect = HasEffect ends bare behind_call

@@ -37,7 +37,7 @@ use Rattle.gc_field.specs.Laws.{WasExecuted, asked, kept_of}
 use Rattle.gc_field.specs.Meaning.{Means}
 use Rattle.gc_field.specs.Shown.{AreShownAs, Stretch, stretches}
 
--- among these moves a moment at or past this deadline is told
+-- whether a moment at or past this deadline is told among these moves
 abbrev pub gives_up : {State : Type 0} → ℕ → List (Move State) → Bool
 gives_up deadline [] = false
 gives_up deadline (Tells now ∷ ms) = nat_le deadline now || gives_up deadline ms
@@ -48,9 +48,11 @@ module _ {State : Type 0} (ends : Ends State) where
   abbrev pub world : Stretch State → World ById State
   world s = behind WINDOW ends s.from s.moves
 
+  -- the requests of the client in a stretch, without the null procedures of the beginning
   abbrev pub own_sent : Stretch State → List Sent
   own_sent s = drop 8 (world s).wire.sent
 
+  -- the settlements of the client's requests in a stretch
   abbrev pub own_settled : Stretch State → List Settlement
   own_settled s = drop 8 (world s).wire.settled
 
@@ -60,8 +62,8 @@ module _ {State : Type 0} (ends : Ends State) where
   AreSentAs commands (p ∷ ps) (s ∷ ss) = AreOf commands p.marks (map asked (own_sent s)) × AreSentAs commands ps ss
   AreSentAs commands _ _ = ⊥
 
-  -- in time: request n goes out, and later a reply to it comes while it isn't settled: that is how it ends. It is answered by that line where
-  -- no moment at or past its deadline was told before, and else late
+  -- in time: where a request goes out, and later a reply to it comes while it isn't settled, that reply settles it. The request is answered by
+  -- that line where no moment at or past its deadline was told before, and else it is late
   abbrev pub IsInTime : Stretch State → Type 0
   IsInTime s =
       (before between later : List (Move State)) (target : ℕ) (call : Call) (deadline : ℕ) (line : List ℕ) (rest : List (Numbered (List ℕ)))
@@ -72,20 +74,22 @@ module _ {State : Type 0} (ends : Ends State) where
       → slice_get (world s).wire.settled (length (behind WINDOW ends s.from before).wire.sent)
       ≡ Some (record { target = target; call = call; outcome = if gives_up deadline between then Late else Answered line })
 
-  -- what is written down over stretches: how each command ended in its own; where the next one begins, what waits is lost
+  -- the records that these stretches write down, with the moment 0: how each command ended in its own stretch, and as lost what waits where the
+  -- next stretch begins
   abbrev pub written_over : (Call → List ℕ → Reading) → List Part → List (Stretch State) → List Record
   written_over reads (p ∷ []) (s ∷ []) = records_of reads 0 p.marks (own_settled s)
   written_over reads (p ∷ q ∷ ps) (s ∷ t ∷ ss) =
       records_of reads 0 p.marks (own_settled s ++ map lost (world s).client.waiting) ++ written_over reads (q ∷ ps) (t ∷ ss)
   written_over reads _ _ = []
 
--- an act means turns while it begins, and then steps: a request that goes out is one whose line these bytes are, and so on; and while it
--- begins, the next null procedure is asked for exactly where the one before it is answered
+-- an act means its part. While the station begins (`false`) these are turns, and the next null procedure takes its turn exactly
+-- where the one before it is answered. Once it has begun (`true`) they are steps of the client, as `Means` has them: a request
+-- that goes out is one whose line the bytes are
 abbrev pub IsMeant : Bool → Model → Act → Part → Model → Type 0
 IsMeant true s act p t = (p.turns ≡ []) × Means s.client s.rest act p.steps t.rest
 IsMeant false s act p t = (p.steps ≡ []) × MeansTurns s.progress.word s.rest act p.turns t.rest × (t.progress.word ≡ left_behind s.progress.word (heard_in p.turns))
 
--- each act of a run means what its parts are made of
+-- each act of a run means the part that the run's parts have of it
 abbrev pub AreMeant : Plan → List Task → Model → List Act → Type 0
 AreMeant plan commands s [] = Unit {0}
 AreMeant plan commands s (act ∷ acts) =
@@ -94,7 +98,7 @@ AreMeant plan commands s (act ∷ acts) =
 module _ {State : Type 0} (ends : Ends State) (Good : State → Type 0) (kept : State → Option KeptReply) where
   -- a run of a station, and for each of its parts what happens on the line and to an instrument: first while it begins, then once it has
   -- begun. Under way at its start may be anything, in which the word isn't a subsequence of the ids; and each part is over what the one before
-  -- it left. To the station and its client this is the run itself
+  -- it left. What the station and its client see of it is the run itself
   pub record IsInField (plan : Plan) (commands : List Task) (scope : Scope) (acts : List Act) (u : UnderWay State) (rs : List (Run State)) : Type 0 where
     pub runs : Runs plan commands (opening plan scope) acts
     pub lines : AreLines Good u
@@ -126,12 +130,12 @@ module _ {State : Type 0} (ends : Ends State) (Good : State → Type 0) (kept : 
     -- instrument, which executed it, and this line was its reply
     pub made_on : WasMadeOn WINDOW ends stretch.from stretch.moves (8 + m) task.command.call line
 
-  -- a record, where it is an answer
+  -- if a record is of a reply in time, its line was made on executing its own request: by `IsItsOwn`
   abbrev pub IsOwnAnswer : List Task → List Part → List (Stretch State) → Record → Type 0
   IsOwnAnswer commands ps ss r = (line : List ℕ) → answer_of r.end ≡ Some line → IsItsOwn commands ps ss r line
 
-  -- a late one: in one of the stretches the client's request m is the command of the record's cycle and place, and the instrument dealt with it, and
-  -- made a line on that, which came too late
+  -- the instrument dealt with the command of a late record: in one of the stretches the client's request m is the command of the record's cycle
+  -- and place, and the instrument made a line on executing that request
   pub record WasDealtWith (commands : List Task) (ps : List Part) (ss : List (Stretch State)) (r : Record) : Type 0 where
     pub k : ℕ
     pub part : Part
@@ -146,15 +150,15 @@ module _ {State : Type 0} (ends : Ends State) (Good : State → Type 0) (kept : 
     pub line : List ℕ
     pub made_on : WasMadeOn WINDOW ends stretch.from stretch.moves (8 + m) task.command.call line
 
-  -- a record, where it is late
+  -- if a record is late, the instrument dealt with its command all the same: by `WasDealtWith`
   abbrev pub IsDealtWith : List Task → List Part → List (Stretch State) → Record → Type 0
   IsDealtWith commands ps ss r = r.end ≡ end.Late → WasDealtWith commands ps ss r
 
-  -- a stretch is faithful at any time of it
+  -- a stretch is faithful behind its first moves, however many
   abbrev pub IsFaithfulThroughout : Stretch State → Type 0
   IsFaithfulThroughout s = (front later : List (Move State)) → s.moves ≡ front ++ later → IsFaithful WINDOW ends s.from front Good kept
 
-  -- what holds of it
+  -- what holds of a run in the field, from its records back to what the instrument executed
   pub record IsRunFaithful (plan : Plan) (commands : List Task) (scope : Scope) (acts : List Act) (u : UnderWay State) (rs : List (Run State)) : Type 0 where
     -- no command goes out before the eighth null procedure is answered: neither at first, nor where it begins anew
     pub begun : AreBegun the_word (parts_of plan commands (opening plan scope) acts)
@@ -162,7 +166,7 @@ module _ {State : Type 0} (ends : Ends State) (Good : State → Type 0) (kept : 
     pub clean : AreOwn WINDOW ends Good kept u rs
     -- its own: the answer of each record was made on executing the request of that very cycle and place
     pub own : AllByRecursion (IsOwnAnswer commands (parts_of plan commands (opening plan scope) acts) (stretches ends u rs)) (stood plan commands scope acts).records
-    -- and where its reply came too late the instrument dealt with it all the same
+    -- and where a reply came too late, the instrument dealt with the request all the same
     pub late : AllByRecursion (IsDealtWith commands (parts_of plan commands (opening plan scope) acts) (stretches ends u rs)) (stood plan commands scope acts).records
     -- one for one: the records and what waits are the commands sent, and those written down without being sent, in order, each once
     pub one_for_one : EachOnce plan commands scope acts
@@ -172,19 +176,20 @@ module _ {State : Type 0} (ends : Ends State) (Good : State → Type 0) (kept : 
     pub written : map timeless (sent_of (stood plan commands scope acts).records) ≡ written_over ends scope.reads (parts_of plan commands (opening plan scope) acts) (stretches ends u rs)
     -- the turns and steps of a run are what its acts are to a beginning and to a client: the bytes that go out are the lines of these requests
     pub meant : AreMeant plan commands (opening plan scope) acts
-    -- in time: the first reply to a request that comes unsettled is booked, and where its deadline was told before it is told as late
+    -- in time: the first reply to a request that isn't settled settles it, as answered, or as late where its deadline was told before
     pub in_time : AllByRecursion (IsInTime ends) (stretches ends u rs)
     -- each stretch is faithful, and so acts once: between two starts of the instrument each request is executed at most once, in order
     pub each : AllByRecursion IsFaithfulThroughout (stretches ends u rs)
 
--- for any instrument, every plan, all commands, every run of the station, and all that the line and the instrument may do meanwhile
+-- every run in the field is faithful: for any instrument, every plan, all commands, every run of the station, and all that the line and the
+-- instrument may do meanwhile
 abbrev pub RunsAreFaithful : Type 0 → Type 0
 RunsAreFaithful State =
     (ends : Ends State) (kept : State → Option KeptReply) → IsAnInstrument ends AnyState kept →
     (plan : Plan) (commands : List Task) (scope : Scope) (acts : List Act) (u : UnderWay State) (rs : List (Run State)) → IsInField ends AnyState kept plan commands scope acts u rs →
     IsRunFaithful ends AnyState kept plan commands scope acts u rs
 
--- the same for the simulated instrument, in any state that fits
+-- `RunsAreFaithful` for the simulator, in any state that fits
 abbrev pub SimulatorsRunsAreFaithful : Type 0
 SimulatorsRunsAreFaithful =
     (plan : Plan) (commands : List Task) (scope : Scope) (acts : List Act) (u : UnderWay State) (rs : List (Run State)) → IsInField ends IsFittingState kept_of plan commands scope acts u rs →

@@ -9,14 +9,14 @@ use Rattle.gc_field.specs.Begin.{Aged, Model, Turn, Asks, Comes, Foreign, Reache
 use Rattle.gc_field.specs.Beginnings.{Run, left_by_run}
 use Rattle.gc_field.specs.Field.{Move, seen}
 
--- the turn at which the reply in front is heard
+-- the turn at which the reply in front of these is heard; none where there is none
 abbrev pub first_heard : List (Aged (List ℕ)) → List part.Turn
 first_heard [] = []
 first_heard (x ∷ rest) = part.Hears x.line ∷ []
 
 module _ {State : Type 0} where
-  -- what a turn is to the station that begins: the null procedure that is asked for goes out, or a line is heard; what happens on the line
-  -- is nothing to it
+  -- what a turn of the field shows to the station that begins: its null procedure goes out, or a line is heard; what happens on the line is
+  -- nothing to the station
   abbrev pub shows : Model State → Turn State → List part.Turn
   shows s Asks = part.Asks ∷ []
   shows s Comes = first_heard s.down
@@ -29,6 +29,7 @@ module _ {State : Type 0} where
   shows s Anew = []
   shows s (Changes state) = []
 
+  -- what these turns of the field show to the station that begins, in order
   abbrev pub shown : Ends State → List (Turn State) → Model State → List part.Turn
   shown ends [] s = []
   shown ends (t ∷ ts) s = shows s t ++ shown ends ts (turns ends s t)
@@ -39,7 +40,8 @@ pub record Stretch (State : Type 0) : Type 0 where
   pub moves : List (Move State)
 
 module _ {State : Type 0} (ends : Ends State) where
-  -- the stretches of runs, each over what the run before it left. That of a run that never began has no moves
+  -- the stretches of runs, each over what the run before it left. The stretch of a run that never began has no moves, where the
+  -- runs are possible
   abbrev pub stretches : UnderWay State → List (Run State) → List (Stretch State)
   stretches u [] = []
   stretches u (r ∷ rs) = record { from = leaves (turned ends r.turns (begins u)); moves = r.moves } ∷ stretches (left_by_run WINDOW ends u r) rs

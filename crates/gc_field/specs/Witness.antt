@@ -1,5 +1,5 @@
--- Some run is one in the field, this project's own: over a line with a request and a reply of before under way it begins, and a command is
--- asked and answered. So what is said of all such runs is said of some.
+-- Some run is one in the field, this project's own: the station begins over a line with an older request and an older reply under way, and a
+-- command is asked and answered. So what is said of all such runs is said of some.
 use Rattle.std.specs.Prelude.{◌≡◌, ℕ, true, false, List, [], ◌∷◌, codes, drop, pos, Some, None}
 use Rattle.gc_lines.specs.Lines.{with_end}
 use Rattle.gc_catalogue.specs.declared.answer.Answer.TheVariants.{Long}
@@ -41,13 +41,15 @@ commands = record { command = record { target = 7; call = InstrumentNo }; deadli
 abbrev pub scope : Scope
 scope = record { turns = 100; reads = λ call line. Value (Long (pos 123456)) }
 
+-- the moment that is this one by both clocks
 abbrev pub at : ℕ → Moment
 at now = record { elapsed = now; utc = now }
 
--- the null procedures of a beginning, in order, and the simulator's replies to them
+-- the lines of a beginning's null procedures, in order
 abbrev pub asked : List (List ℕ)
 asked = codes "%R1Q,0,6:" ∷ codes "%R1Q,0,5:" ∷ codes "%R1Q,0,4:" ∷ codes "%R1Q,0,3:" ∷ codes "%R1Q,0,2:" ∷ codes "%R1Q,0,1:" ∷ codes "%R1Q,0,0:" ∷ codes "%R1Q,0,7:" ∷ []
 
+-- the simulator's replies to a beginning's null procedures, in order
 abbrev pub replies : List (List ℕ)
 replies = codes "%R1P,0,6:0" ∷ codes "%R1P,0,5:0" ∷ codes "%R1P,0,4:0" ∷ codes "%R1P,0,3:0" ∷ codes "%R1P,0,2:0" ∷ codes "%R1P,0,1:0" ∷ codes "%R1P,0,0:0" ∷ codes "%R1P,0,7:0" ∷ []
 
@@ -56,11 +58,11 @@ abbrev pub exchanged : ℕ → List (List ℕ) → List (List ℕ) → List Act 
 exchanged now (line ∷ others) (reply ∷ later) acts = Put (with_end line) ∷ Told (at now) ∷ Gave (with_end reply) (at now) ∷ exchanged now others later acts
 exchanged now _ _ acts = acts
 
--- the acts of a beginning: a connection is made and cleared, and all eight null procedures are answered at once
+-- the acts of a beginning, and these acts behind it: a connection is made and cleared, and all eight null procedures are answered at once
 abbrev pub begun_with : List (List ℕ) → List Act → List Act
 begun_with answers acts = Opened ∷ Put (10 ∷ []) ∷ Told (at 0) ∷ exchanged 10 asked answers acts
 
--- what the line does meanwhile: each null procedure reaches the instrument, and its reply comes
+-- what the line does in a beginning: each null procedure reaches the instrument, and its reply comes
 abbrev pub eight : {S : Type 0} → List (Turn S)
 eight =
     Asks ∷ Reaches ∷ turn.Comes ∷ Asks ∷ Reaches ∷ turn.Comes ∷ Asks ∷ Reaches ∷ turn.Comes ∷ Asks ∷ Reaches ∷ turn.Comes
@@ -70,7 +72,7 @@ eight =
 abbrev pub before : UnderWay State
 before = record { up = record { id = 0; call = InstrumentNo } ∷ []; down = codes "%R1P,0,0:0,654321" ∷ []; state = simulator_opening }
 
--- the reply to the command, and that to the request from before
+-- the reply to the command; the one to the request from before has the same bytes
 abbrev pub answer : List ℕ
 answer = codes "%R1P,0,0:0,123456"
 
@@ -95,11 +97,11 @@ acts =
     ∷ []
     )
 
--- what the line does meanwhile: each request reaches the simulator as it is at the start, the old one first, and each reply
--- comes
+-- what the line does while the station begins: each request reaches the simulator, the old one first, and each reply comes
 abbrev pub turns : List (Turn State)
 turns = Asks ∷ turn.Comes ∷ Reaches ∷ turn.Comes ∷ Reaches ∷ turn.Comes ∷ drop 3 eight
 
+-- what the line does once the station has begun: the command reaches the simulator, and its reply comes
 abbrev pub moves : List (Move State)
 moves = Tells 15 ∷ Sends 7 InstrumentNo 115 ∷ Tells 15 ∷ OnLine Up_deliver ∷ Tells 20 ∷ Comes answer ∷ []
 
@@ -117,5 +119,6 @@ pub record IsAnsweredInField : Type 0 where
       ≡ record { sent = Some 15; utc = 20; cycle = 1; place = 0; command = record { target = 7; call = InstrumentNo }; end = end.Answered (Some (Long (pos 123456))) answer } ∷ []
   pub made_on : WasMadeOn WINDOW ends (leaves (turned ends turns (begins before))) moves 8 InstrumentNo answer
 
+-- some run is one in the field
 abbrev pub SomeRunIsInField : Type 0
 SomeRunIsInField = IsAnsweredInField

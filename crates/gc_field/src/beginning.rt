@@ -5,26 +5,26 @@ ghost use Rattle.gc_field.specs.BeginWitness.{AreSomeRuns, IsBookedFromBefore};
 ghost use Rattle.gc_field.specs.Beginnings.{RowsHaveNotTheWord, RunsAreTheirOwn, RunsLeaveRows, SimulatorsRunsAreTheirOwn};
 ghost use Rattle.gc_field.specs.Begun.{AnswersAreTheirOwnOnceBegun, BeginsCleanly, SimulatorsAnswersAreTheirOwnOnceBegun};
 
-/// For any instrument, whatever the line loses or repeats, and whatever is under way when a beginning begins, unless the word
-/// 6 5 4 3 2 1 0 7 is a subsequence of the ids of that: once it has begun, no request from before is under way, nor a reply to one. At most
-/// copies of its eighth null procedure are, and of replies to that; and the instrument keeps a reply with its id, or nothing.
+/// For any instrument, whatever the line loses or repeats, and whatever is under way when a beginning begins, unless the ids under way then
+/// have the word 6 5 4 3 2 1 0 7 as a subsequence: once the beginning has begun, no request from before is under way, nor a reply to one. At
+/// most copies of its eighth null procedure are, and of replies to that; and the instrument keeps a reply with that procedure's id, or nothing.
 pub fn begins_cleanly<State>()
     ensures { BeginsCleanly State }
 {}
 
 /// Behind a beginning that has begun cleanly each answer that a new client settles was made on executing that very request, from its first
-/// request on, however many go out at once; and all else holds that `answers_are_their_own` says.
+/// request on, however many go out at once; and the rest of what `answers_are_their_own` says holds as well.
 pub fn answers_are_their_own_once_begun<State>()
     ensures { AnswersAreTheirOwnOnceBegun State }
 {}
 
-/// The same of the simulator, in any state that fits.
+/// `answers_are_their_own_once_begun` of the simulator, in any state whose values lie in their types (`IsFittingState`).
 pub fn simulators_answers_are_their_own_once_begun()
     ensures { SimulatorsAnswersAreTheirOwnOnceBegun }
 {}
 
-/// What a run has under way once it has begun doesn't contain the word as a subsequence of its ids. So a beginning within a
-/// run, or behind a run that had begun, needs no premise.
+/// The ids of an `IsRow`, which a run has under way once it has begun, don't have the word as a subsequence. So a beginning within
+/// a run, or behind a run that had begun, needs no premise.
 pub fn rows_have_not_the_word<State>()
     ensures { RowsHaveNotTheWord State }
 {}
@@ -35,13 +35,14 @@ pub fn runs_leave_rows<State>()
     ensures { RunsLeaveRows State }
 {}
 
-/// One run after the other, each killed at any moment: as long as fewer than six in a row end while they begin, each run that begins begins
-/// cleanly, and each answer of a command is its own.
+/// One run after the other, each killed at any moment. At the start nothing is under way, or what a run that had begun may leave
+/// (`IsRow`). As long as fewer than six in a row end while they begin, each run that has begun has begun cleanly, and each answer of a
+/// command was made on executing that command's request.
 pub fn runs_are_their_own<State>()
     ensures { RunsAreTheirOwn State }
 {}
 
-/// The same over the simulator, in any state that fits.
+/// `runs_are_their_own` of the simulator, in any state whose values lie in their types (`IsFittingState`).
 pub fn simulators_runs_are_their_own()
     ensures { SimulatorsRunsAreTheirOwn }
 {}

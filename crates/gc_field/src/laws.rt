@@ -19,75 +19,79 @@ ghost use Rattle.gc_field.specs.Runs.{RunsAreFaithful, SimulatorsRunsAreFaithful
 ghost use Rattle.gc_field.specs.SecondExecution.{IsExecutedAgain};
 ghost use Rattle.gc_field.specs.Witness.{SomeRunIsInField};
 
-/// For any instrument, and a client without a beginning, as that of `geocom ask`, with nothing under way: over any number of connections,
-/// whenever it sends, each answer that it settles was made on executing that very request, but for the first one, which goes out alone; the
-/// instrument dealt with each that is late; executions keep the order of sending; and where the instrument keeps its reply, between two of its
-/// starts it executes each request at most once.
+/// For any instrument, and a client without a beginning, as that of `geocom ask`, with nothing under way: over any number of connections, and
+/// whenever the client sends, each answer that it settles was made on executing that very request. The first request is excepted, and goes
+/// out alone. The instrument dealt with each request that is late; executions keep the order of sending; and where the instrument keeps its
+/// reply, it executes each request at most once between two of its starts.
 pub fn answers_are_their_own<State>()
     ensures { AnswersAreTheirOwn State }
 {}
 
-/// For any instrument: of a station's acts once it has begun cleanly, whenever it sends, each answer is its own, from its first request on.
+/// For any instrument, and the acts of a station that has begun cleanly, whenever it sends: each answer was made on executing its very
+/// request, from the first request on.
 pub fn stations_answers_are_their_own<State>()
     ensures { StationsAnswersAreTheirOwn State }
 {}
 
-/// Of every run of a station, for any instrument, over any number of connections, with whatever the line does, and with an instrument
-/// that may start anew and change by itself at any time; and whatever is under way at its start, unless the word 6 5 4 3 2 1 0 7 is a
-/// subsequence of the ids of that: it begins cleanly, at first and wherever it begins anew; each answer that it writes down, from its first
-/// command on, also one that is unreadable or elsewhere, was made on executing the very request of that cycle and place; the instrument dealt with each that is late; the records
-/// and what waits are the commands sent, one for one; and each stretch from one beginning to the next is faithful.
+/// What holds of every run of a station, for any instrument, which may start anew and change by itself at any time, over any number of
+/// connections, with whatever the line does, and whatever is under way at the start, unless the ids under way then have the word
+/// 6 5 4 3 2 1 0 7 as a subsequence. The run begins cleanly, at first and wherever it begins anew. Each answer that it writes down, from its first command on,
+/// also one that is unreadable or elsewhere, was made on executing the very request of that cycle and place. The instrument dealt with each
+/// request that is late. The records and the commands that wait are the commands that had their turn, one for one. And each stretch from one
+/// beginning to the next is faithful.
 pub fn runs_are_faithful<State>()
     ensures { RunsAreFaithful State }
 {}
 
-/// Of stations one after the other over a line that outlives them, each with its own plan and commands, and killed at any moment: as long
-/// as fewer than six in a row end while they begin, all this is so of each, with no premise on what is under way.
+/// Stations run one after the other over a line that outlives them, each with its own plan and commands, and each killed at any moment. At
+/// the start nothing is under way, or what a run that had begun may leave (`IsRow`). As long as fewer than six in a row end while they
+/// begin, all that `runs_are_faithful` says holds of each, without the premise on the word.
 pub fn stations_in_a_row_are_faithful<State>()
     ensures { StationsInARowAreFaithful State }
 {}
 
-/// The same over the simulator, in any state that fits.
+/// `stations_in_a_row_are_faithful` of the simulator, in any state whose values lie in their types (`IsFittingState`).
 pub fn simulators_stations_in_a_row_are_faithful()
     ensures { SimulatorsStationsInARowAreFaithful }
 {}
 
-/// In every such run, for any instrument, a command of a chain is executed behind each one before it in the chain, whose answer is the
-/// reply to that execution: in the same stretch, with nothing executed between the two but what was sent between them; and where nothing
-/// else disturbed the instrument, it is what these made of it.
+/// In every run that `runs_are_faithful` speaks of, for any instrument: a command of a chain that is answered is executed behind each one
+/// before it in the chain, in the same stretch, and the answers of both are the replies to these executions. What is executed between the
+/// two was sent between them, if the instrument keeps its reply and didn't start between. And where it neither started nor changed by itself
+/// between, its state at the later execution is what the executions from the earlier one on made of it.
 pub fn chains_are_executed<State>()
     ensures { ChainsAreExecuted State }
 {}
 
-/// In every such run over the simulator: where no command of a chain between two turned the telescope, and the instrument neither
-/// started anew nor changed by itself between their executions, the telescope pointed, when the later one was executed, where the
-/// earlier one had left it: where that was a positioning, to the direction that it commanded, in the same face.
+/// In every such run over the simulator, of two commands of a chain that are answered: where no command between them turns the telescope,
+/// and the simulator neither started anew nor changed by itself between their executions, the telescope pointed, when the later one was
+/// executed, where the earlier one had left it. Where that one was a positioning, this is the direction that it commanded, in the same face.
 pub fn chains_are_measured_where_they_pointed()
     ensures { ChainsAreMeasuredWhereTheyPointed }
 {}
 
-/// The simulated instrument is an instrument for the calls of its table, and one that keeps its reply.
+/// The simulator is an instrument for the calls of its table, and one that keeps its reply.
 pub fn simulator_is_an_instrument()
     ensures { SimulatorIsAnInstrument }
 {}
 
-/// What a call makes of the simulator is what carrying it out gives, apart from the reply that is kept; a reply that is sent again
-/// changes nothing.
+/// Executing a call makes of the simulator's state what the execution table says, apart from the reply that is kept; a reply that is sent
+/// again changes nothing.
 pub fn simulator_has_its_effect()
     ensures { SimulatorHasItsEffect }
 {}
 
-/// `answers_are_their_own` of the simulator, in any state that fits.
+/// `answers_are_their_own` of the simulator, in any state whose values lie in their types (`IsFittingState`).
 pub fn simulators_answers_are_their_own()
     ensures { SimulatorsAnswersAreTheirOwn }
 {}
 
-/// `stations_answers_are_their_own` of the simulator, in any state that fits.
+/// `stations_answers_are_their_own` of the simulator, in any state whose values lie in their types (`IsFittingState`).
 pub fn simulators_stations_answers_are_their_own()
     ensures { SimulatorsStationsAnswersAreTheirOwn }
 {}
 
-/// `runs_are_faithful` of the simulator, in any state that fits.
+/// `runs_are_faithful` of the simulator, in any state whose values lie in their types (`IsFittingState`).
 pub fn simulators_runs_are_faithful()
     ensures { SimulatorsRunsAreFaithful }
 {}
@@ -114,13 +118,14 @@ pub fn joined_requests_have_the_fronts_id()
     ensures { JoinedRequestsHaveTheFrontsId }
 {}
 
-/// Why that line feed has to arrive: the reply to that line is booked for the request that was cut, which was not executed.
+/// Why the line feed that clears the front of a request has to arrive: where it is lost, the reply to the joined line is booked for
+/// the request that was cut, which was not executed.
 pub fn a_lost_line_feed_is_booked_wrong()
     ensures { IsBookedJoined }
 {}
 
-/// Why a client without a beginning sends its first request alone: an instrument that keeps a reply with the id of the second one gives that,
-/// and it would be booked, with nothing executed: a line that was not made on executing its request.
+/// Why a client without a beginning sends its first request alone: an instrument that keeps a reply with the id of the second request answers
+/// with that reply. It is booked, though nothing was executed.
 pub fn two_at_once_are_booked_wrong()
     ensures { TwoAtOnceAreBookedWrong }
 {}
@@ -148,7 +153,8 @@ pub fn some_run_begins_anew()
     ensures { IsAnsweredAnew }
 {}
 
-/// Some run of a chain is such a run: it points the telescope, measures, and reads the angles and the distance there.
+/// Some run of a chain over the simulator meets every premise of `runs_are_faithful`: it points the telescope, measures, and reads the angles
+/// and the distance there.
 pub fn some_chain_is_in_the_field()
     ensures { IsPointedInField }
 {}
@@ -159,7 +165,7 @@ pub fn some_chain_is_over_a_counting_instrument()
     ensures { IsCountedInField }
 {}
 
-/// A request may be executed twice where the instrument starts between, and its answer be the second execution's.
+/// Some request is executed twice, where the instrument starts between, and its answer is the second execution's.
 pub fn some_answer_is_of_a_second_execution()
     ensures { IsExecutedAgain }
 {}

@@ -9,27 +9,33 @@ use Rattle.gc_files.specs.Files.{Step, Append, Cut, Sync, Life, has_sync, conten
 use Rattle.gc_files.specs.Runs.{synced}
 use Rattle.gc_files.specs.Rows.{whole, is_none, mended, cuts_none, appended, Ran, IsFront, Opens, OpensInPart, PutsAll}
 
+-- a life with steps behind it and more behind these has both behind it
 pub later_two : (xs ys : List Step) (life : Life) → later_by ys (later_by xs life) ≡ later_by (xs ++ ys) life
 later_two xs ys life = ap (λ (steps : List Step). record { start = life.start; steps = steps }) (append_assoc life.steps xs ys)
 
+-- a life is the same with no steps behind it
 pub later_none : (life : Life) → life ≡ later_by [] life
 later_none life = ap (λ (steps : List Step). record { start = life.start; steps = steps }) (sym (append-nil life.steps))
 
+-- steps behind a file's life, and more behind these, are both behind it
 pub adds_two : (old mid new : Option Life) (xs ys : List Step) → Adds old mid xs → Adds mid new ys → Adds old new (xs ++ ys)
 adds_two old mid new xs ys first second life is = second (later_by xs life) (first life is) ∙ ap (λ (l : Life). Some l) (later_two xs ys life)
 
+-- where neither of two lists of steps has a cut, both together have none
 pub cuts_two : (xs ys : List Step) → cuts_none xs ≡ true → cuts_none ys ≡ true → cuts_none (xs ++ ys) ≡ true
 cuts_two [] ys one two = two
 cuts_two (Append bytes ∷ xs) ys one two = cuts_two xs ys one two
 cuts_two (Sync ∷ xs) ys one two = cuts_two xs ys one two
 cuts_two (Cut size ∷ xs) ys one two = let wrong : false ≡ true = one in cc
 
+-- steps, and others behind them, append what the first append, and behind that what the others do
 pub appended_two : (xs ys : List Step) → appended (xs ++ ys) ≡ appended xs ++ appended ys
 appended_two [] ys = refl
 appended_two (Append bytes ∷ xs) ys = ap (λ (l : List ℕ). bytes ++ l) (appended_two xs ys) ∙ sym (append_assoc bytes (appended xs) (appended ys))
 appended_two (Sync ∷ xs) ys = appended_two xs ys
 appended_two (Cut size ∷ xs) ys = appended_two xs ys
 
+-- where bytes were appended, and then more by one append, both were appended
 pub puts_more : (old mid new : Option Life) (done bytes : List ℕ) → PutsAll old mid done → Adds mid new (Append bytes ∷ []) → PutsAll old new (done ++ bytes)
 puts_more old mid new done bytes puts adds life is =
     let first = puts life is in (
@@ -41,13 +47,14 @@ puts_more old mid new done bytes puts adds life is =
       },
     )
 
--- a file that is to be cut, and one that isn't
+-- a file with bytes behind its whole rows is mended by a cut and a sync
 pub is_cut : (held : List ℕ) (end len : ℕ) → end < len → len ≡ length held → end ≡ length (whole held) → mended held ≡ Cut end ∷ Sync ∷ []
 is_cut held end len less is ends = elim (cases_Bool (length (whole held) == length held)) [
   | inl same ↦ absurd (omega (arith, less, is, ends, eqb-true (length (whole held)) (length held) same))
   | inr differs ↦ rw (differs) (ap (λ n. Cut n ∷ Sync ∷ []) (sym ends))
 ]
 
+-- a file of whole rows alone is mended by nothing
 pub is_whole : (held : List ℕ) (end len : ℕ) → len ≤ end → end ≤ len → len ≡ length held → end ≡ length (whole held) → mended held ≡ []
 is_whole held end len more within is ends = elim (cases_Bool (length (whole held) == length held)) [
   | inl same ↦ rw (same) refl
@@ -57,20 +64,23 @@ is_whole held end len more within is ends = elim (cases_Bool (length (whole held
     wrong : (a b : ℕ) → a ≡ b → (a == b) ≡ false → ⊥
     wrong a b same differs = let both : true ≡ false = sym (eq-eqb a b same) ∙ differs in cc
 
+-- a cut behind the whole rows, and a sync behind it, mend a file
 pub mend_all : (old mid new : Option Life) (known : Life) (end len : ℕ) → end < len → len ≡ length (content known) → end ≡ length (whole (content known))
     → Adds old mid (Cut end ∷ []) → Adds mid new (Sync ∷ []) → Adds old new (mended (content known))
 mend_all old mid new known end len less is ends cut sync =
     subst (λ (steps : List Step). Adds old new steps) (sym (is_cut (content known) end len less is ends)) (adds_two old mid new (Cut end ∷ []) (Sync ∷ []) cut sync)
 
+-- behind whole rows no head is written
 start_by : (head l : List ℕ) → 0 < length l → (if is_none l then head else []) ≡ []
 start_by head [] more = absurd (omega (arith, more))
 start_by head (b ∷ l) more = refl
 
+-- where no row is whole the head is written
 start_at : (head l : List ℕ) → length l ≡ 0 → (if is_none l then head else []) ≡ head
 start_at head [] none = refl
 start_at head (b ∷ l) none = absurd (omega (arith, none))
 
--- mended, and nothing more is wanted
+-- a file with a whole row is opened once it is mended
 pub opens_whole : (head : List ℕ) (old new : Option Life) (end : ℕ) → 0 < end → ((life : Life) → old ≡ Some life → end ≡ length (whole (content life)))
     → ((known : Life) → old ≡ Some known → Adds old new (mended (content known))) → Opens head old new
 opens_whole head old new end more ends adds life is = (
@@ -83,7 +93,7 @@ opens_whole head old new end more ends adds life is = (
   },
 )
 
--- mended, and then these bytes
+-- where a file was mended, and then got these bytes, that is what `Ran` says
 pub ran_more : (old mid new : Option Life) (bytes : List ℕ) → ((known : Life) → old ≡ Some known → Adds old mid (mended (content known)))
     → PutsAll mid new bytes → (life : Life) → old ≡ Some life → (steps : List Step) × (new ≡ Some (later_by steps life)) × Ran (content life) steps bytes
 ran_more old mid new bytes adds puts life is =
@@ -93,17 +103,20 @@ ran_more old mid new bytes adds puts life is =
       record { later = second.0; split = refl; puts = second.2 },
     )
 
+-- a file without a whole row is opened once it is mended and has the head
 pub opens_head : (head : List ℕ) (old mid new : Option Life) (end : ℕ) → end ≤ 0 → ((life : Life) → old ≡ Some life → end ≡ length (whole (content life)))
     → ((known : Life) → old ≡ Some known → Adds old mid (mended (content known))) → PutsAll mid new head → Opens head old new
 opens_head head old mid new end none ends adds puts life is =
     let ran = ran_more old mid new head adds puts life is in
     (ran.0, ran.1, subst (λ (bytes : List ℕ). Ran (content life) ran.0 bytes) (sym (start_at head (whole (content life)) (omega (arith, none, ends life is)))) ran.2)
 
+-- an opening that mended the file in part did a part of its steps
 pub opens_part : (head : List ℕ) (old new : Option Life) → ((known : Life) → old ≡ Some known → (count : ℕ) × Adds old new (take count (mended (content known)))) → OpensInPart head old new
 opens_part head old new part life is =
     let p = part life is in
     (take p.0 (mended (content life)), p.1 life is, inl (record { count = p.0; is = refl }))
 
+-- an opening that mended the file and appended a front of the head did a part of its steps
 pub opens_head_part : (head : List ℕ) (old mid new : Option Life) (end : ℕ) → end ≤ 0
     → ((life : Life) → old ≡ Some life → end ≡ length (whole (content life))) → ((known : Life) → old ≡ Some known → Adds old mid (mended (content known)))
     → (front : List ℕ) × IsFront front head × PutsAll mid new front → OpensInPart head old new
@@ -111,7 +124,7 @@ opens_head_part head old mid new end none ends adds part life is =
     let ran = ran_more old mid new part.0 adds part.2 life is in
     (ran.0, ran.1, inr (part.0, ran.2, subst (λ (all : List ℕ). IsFront part.0 all) (sym (start_at head (whole (content life)) (omega (arith, none, ends life is)))) part.1))
 
--- what is known to be there grows by what is appended
+-- the known content of a file grows by what is appended
 pub content_more : (old new : Option Life) (bytes : List ℕ) → Adds old new (Append bytes ∷ []) → Appends (known_content old) (known_content new) bytes
 content_more None new bytes adds = tt
 content_more (Some life) new bytes adds =
@@ -123,20 +136,22 @@ content_same None new adds = tt
 content_same (Some life) new adds =
     subst (λ (now : Option Life). Keeps (Some (content life)) (known_content now)) (sym (adds life refl)) (behind_two life.start life.steps (Sync ∷ []))
 
--- one more append, and one more sync
+-- one more append appends its bytes
 pub appended_more : (steps : List Step) (bytes : List ℕ) → appended (steps ++ Append bytes ∷ []) ≡ appended steps ++ bytes
 appended_more steps bytes = appended_two steps (Append bytes ∷ []) ∙ ap (λ (xs : List ℕ). appended steps ++ xs) (append-nil bytes)
 
+-- one more sync appends none
 pub appended_sync : (steps : List Step) → appended (steps ++ Sync ∷ []) ≡ appended steps
 appended_sync steps = appended_two steps (Sync ∷ []) ∙ append-nil (appended steps)
 
--- all that was appended stands before a sync behind it
+-- a sync at the end is among the steps
 has_last : (steps : List Step) → has_sync (steps ++ Sync ∷ []) ≡ true
 has_last [] = refl
 has_last (Append bytes ∷ steps) = has_last steps
 has_last (Cut size ∷ steps) = has_last steps
 has_last (Sync ∷ steps) = refl
 
+-- all that was appended stands before a sync at the end
 pub synced_all : (steps : List Step) → synced (steps ++ Sync ∷ []) ≡ appended steps
 synced_all [] = refl
 synced_all (Append bytes ∷ steps) = ap (λ (b : Bool). if b then bytes ++ synced (steps ++ Sync ∷ []) else []) (has_last steps) ∙ ap (λ (xs : List ℕ). bytes ++ xs) (synced_all steps)

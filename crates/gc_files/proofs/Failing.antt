@@ -19,6 +19,7 @@ record Good (head before : List ℕ) (runs : List Run) (sides : Sides) (doubted 
 hole_is_none : (head front hole : List ℕ) → has_feed hole ≡ false → table head (front ++ hole) ≡ table head front
 hole_is_none head front hole none = ap (λ (l : List ℕ). l ++ (if is_none l then head else [])) (whole_front front hole none)
 
+-- what has the same table has the same rows
 same_rows : (head before : List ℕ) (runs : List Run) (held left : List ℕ) → HasRows head before runs held → table head left ≡ table head held → HasRows head before runs left
 same_rows head before runs held left has same = (has.0, has.1, same ∙ has.2)
 
@@ -32,12 +33,12 @@ lost_has head before runs life now lasts lost =
     same_rows head before runs lost.front now (lasts lost.front lost.may) (ap (table head) lost.is ∙ hole_is_none head lost.front lost.hole lost.none)
 
 module _ (head before : List ℕ) (heads : IsHead head) where
-  -- a run in a file that isn't in doubt
+  -- behind a run in a file that isn't in doubt, the disk has the run's rows, too
   run_lasts : (runs : List Run) (sides : Sides) (run : Run) → Lasts head before runs sides.disk → sides.read ≡ sides.disk → IsRun head (content sides.read) run
       → Lasts head before (runs ++ run ∷ []) (later_by run.steps sides.disk)
   run_lasts runs sides run lasts same is = one_more head before heads runs sides.disk run lasts (subst (λ (life : Life). IsRun head (content life) run) same is)
 
-  -- behind it both sides are one
+  -- behind a run in a file that isn't in doubt both sides have the run's rows, and are one
   ran : (runs : List Run) (sides : Sides) (run : Run) → Lasts head before runs sides.disk → sides.read ≡ sides.disk → IsRun head (content sides.read) run
       → Good head before (runs ++ run ∷ []) (done_by run.steps sides) false
   ran runs sides run lasts same is =
@@ -50,6 +51,7 @@ module _ (head before : List ℕ) (heads : IsHead head) where
         same = λ _. both;
       }
 
+  -- behind a run whose last sync failed both sides have its rows, and the file is in doubt
   failed : (runs : List Run) (sides : Sides) (run : Run) (read disk : List ℕ) → Lasts head before runs sides.disk → sides.read ≡ sides.disk → IsRun head (content sides.read) run
       → Loses (later_by run.steps sides.read) read → Loses (later_by run.steps sides.disk) disk
       → Good head before (runs ++ run ∷ []) (record { read = settled read; disk = settled disk }) true
@@ -63,6 +65,7 @@ module _ (head before : List ℕ) (heads : IsHead head) where
         same = λ wrong. let clash : true ≡ false = wrong in cc;
       }
 
+  -- whatever is found behind more events has the rows of their runs, too
   lasts_on : (done : List Run) (sides : Sides) (doubted : Bool) (events : List Event) → Good head before done sides doubted → Occur is_trusted head sides doubted events
       → (left : List ℕ) → IsFound (sides_after sides events) left → HasRows head before (done ++ runs_of events) left
   lasts_on done sides doubted [] good occur left found =
@@ -97,7 +100,7 @@ module _ (head before : List ℕ) (heads : IsHead head) where
       let next : Good head before done (one (settled there)) false = record { read = has; disk = settled_lasts head before done there has; same = λ _. refl } in
       lasts_on done (one (settled there)) false events next occur.1 left found
 
--- the law
+-- the law: the table lasts over failed syncs, too
 pub tables_outlast_failures : (head held : List ℕ) → IsHead head → (events : List Event) → Occur is_trusted head (one (settled held)) false events
     → (left : List ℕ) → IsFound (sides_after (one (settled held)) events) left → HasRows head (table head held) (runs_of events) left
 tables_outlast_failures head held heads events occur left found =

@@ -8,11 +8,13 @@ use Rattle.gc_files.specs.Files.{Sync, Life, later_by, Adds}
 use Rattle.gc_files.specs.Rows.{appended, PutsAll}
 use Rattle.gc_files.proofs.Adding.{cuts_two, appended_two, later_two, later_none}
 
+-- the first n + 1 bytes have the line feeds of the first n, and one more if byte n is a line feed
 feeds_suc : (xs : List ℕ) (n : ℕ) → n < length xs → feeds (take (suc n) xs) ≡ feeds (take n xs) + feed_of (slice_index xs n)
 feeds_suc [] n less = absurd (omega (arith, less))
 feeds_suc (b ∷ xs) zero less = omega arith
 feeds_suc (b ∷ xs) (suc n) less = omega (arith, feeds_suc xs n (omega (arith, less)))
 
+-- a byte counts as one line feed at most
 one_feed : (b : ℕ) → feed_of b ≤ 1
 one_feed b = elim (cases_Bool (b == 10)) [
   | inl is ↦ rw (is) (omega arith)
@@ -25,7 +27,7 @@ pub record Counted (xs : List ℕ) (count at : ℕ) : Type 0 where
   pub few : count ≤ at
   pub is : count ≡ feeds (take at xs)
 
--- one byte more
+-- the count stays right with one byte more
 pub counted_next : (xs : List ℕ) (count at more : ℕ) → at < length xs → count ≤ at → count ≡ feeds (take at xs) → more ≡ feed_of (slice_index xs at) → Counted xs (count + more) (at + 1)
 counted_next xs count at more less few is feed =
     let next : at + 1 ≡ suc at = omega arith in
@@ -35,6 +37,7 @@ counted_next xs count at more less few is feed =
       is = omega (arith, is, feed, feeds_suc xs at less, ap (λ n. feeds (take n xs)) next);
     }
 
+-- two texts together have the line feeds of both
 pub feeds_two : (xs ys : List ℕ) → feeds (xs ++ ys) ≡ feeds xs + feeds ys
 feeds_two [] ys = omega arith
 feeds_two (b ∷ xs) ys = omega (arith, feeds_two xs ys)
@@ -43,7 +46,7 @@ feeds_two (b ∷ xs) ys = omega (arith, feeds_two xs ys)
 pub puts_none : (old : Option Life) → PutsAll old old []
 puts_none old life is = ([], is ∙ ap (λ (l : Life). Some l) (later_none life), record { none_cut = refl; all = refl })
 
--- bytes, and more behind them
+-- bytes were appended, and then more: both were
 pub puts_two : (old mid new : Option Life) (xs ys : List ℕ) → PutsAll old mid xs → PutsAll mid new ys → PutsAll old new (xs ++ ys)
 puts_two old mid new xs ys first second life is =
     let one = first life is in
@@ -56,27 +59,29 @@ puts_two old mid new xs ys first second life is =
       },
     )
 
--- and a sync behind them
+-- where bytes were appended, and then a sync was made, still these bytes were appended
 pub puts_synced : (old mid new : Option Life) (xs : List ℕ) → PutsAll old mid xs → Adds mid new (Sync ∷ []) → PutsAll old new xs
 puts_synced old mid new xs puts sync =
     subst (PutsAll old new) (append-nil xs) (puts_two old mid new xs [] puts (λ life is. (Sync ∷ [], sync life is, record { none_cut = refl; all = refl })))
 
--- a block is copied behind the first so many bytes
+-- where the first `at` bytes were appended, and then the block behind them, the first `at + size` bytes were
 pub puts_block : (old mid new : Option Life) (held block : List ℕ) (at size : ℕ) → block ≡ take (length block) (drop at held) → length block ≡ size
     → PutsAll old mid (take at held) → PutsAll mid new block → PutsAll old new (take (at + size) held)
 puts_block old mid new held block at size is long first second =
     subst (PutsAll old new) (ap (λ (l : List ℕ). take at held ++ l) (is ∙ ap (λ n. take n (drop at held)) long) ∙ sym (take-add at size held))
     (puts_two old mid new (take at held) block first second)
 
+-- the line feeds of a block are added to those of the bytes before it
 pub counts_block : (held block : List ℕ) (at size lines more : ℕ) → block ≡ take (length block) (drop at held) → length block ≡ size
     → lines ≡ feeds (take at held) → more ≡ feeds block → lines + more ≡ feeds (take (at + size) held)
 counts_block held block at size lines more is long first second =
     let whole : take (at + size) held ≡ take at held ++ block = take-add at size held ∙ ap (λ (l : List ℕ). take at held ++ l) (sym (is ∙ ap (λ n. take n (drop at held)) long)) in
     omega (arith, first, second, ap feeds whole, feeds_two (take at held) block)
 
--- all of it is copied
+-- where the place is at the end, the whole file was copied
 pub puts_all : (old mid new : Option Life) (held : List ℕ) (at : ℕ) → length held ≤ at → PutsAll old mid (take at held) → Adds mid new (Sync ∷ []) → PutsAll old new held
 puts_all old mid new held at all puts sync = subst (PutsAll old new) (take_all at held all) (puts_synced old mid new (take at held) puts sync)
 
+-- where the place is at the end, all line feeds of the file are counted
 pub counts_all : (held : List ℕ) (at lines : ℕ) → length held ≤ at → lines ≡ feeds (take at held) → lines ≡ feeds held
 counts_all held at lines all is = is ∙ ap feeds (take_all at held all)

@@ -22,13 +22,14 @@ all_synced (Append bytes ∷ steps) none = rw (ends_synced steps) (ap (λ (l : L
 all_synced (Sync ∷ steps) none = all_synced steps none
 all_synced (Cut size ∷ steps) none = let wrong : false ≡ true = none in cc
 
+-- a sync behind a run keeps all that the run appended
 pub ran_synced : (held : List ℕ) (steps : List Step) (bytes : List ℕ) → Ran held steps bytes → synced (steps ++ Sync ∷ []) ≡ bytes
 ran_synced held steps bytes ran =
     let at : steps ++ Sync ∷ [] ≡ take 2 (mended held) ++ (ran.later ++ Sync ∷ []) =
     ap (λ (xs : List Step). xs ++ Sync ∷ []) ran.split ∙ append_assoc (mended held) ran.later (Sync ∷ []) ∙ ap (λ (xs : List Step). xs ++ (ran.later ++ Sync ∷ [])) (sym (two_steps held)) in
     ap synced at ∙ mend_synced held 2 (ran.later ++ Sync ∷ []) ∙ all_synced ran.later ran.puts.none_cut ∙ ran.puts.all
 
--- an opening and what was put behind it
+-- an opening, and what was put behind it, is a run
 pub calls_opened : (head held : List ℕ) (opening later : List Step) (front : List ℕ) (rows : List (List ℕ)) (kept : ℕ) (left : Option (List ℕ))
     → Ran held opening (start_of head held) → Puts later front → IsFront front (lines rows) → AreRows rows → kept ≤ length rows
     → WereKept head held rows kept (opening ++ later)
@@ -54,6 +55,7 @@ calls_opened head held opening later front rows kept left ran puts is_front are 
   kept = were;
 }
 
+-- an opening that failed is a run without rows
 pub calls_failed : (head held : List ℕ) (steps : List Step) (left : Option (List ℕ)) → ComesTo held (start_of head held) steps
     → IsRun head held (record { rows = []; steps = steps; kept = 0; left = left })
 calls_failed head held steps left comes = record {
@@ -67,7 +69,7 @@ calls_failed head held steps left comes = record {
 abbrev synced_run : Run → Run
 synced_run run = record run { steps = run.steps ++ Sync ∷ [] }
 
--- what a run left that was killed
+-- what a killed run left has its rows
 killed_has : (head held : List ℕ) (run : Run) → IsHead head → IsKilled head held run → RunHas head held run (behind held run.steps)
 killed_has head held run heads one = elim one.written [
   | inl none ↦ run_moments head held run (behind held run.steps) heads (record { rows = one.rows; steps = one.steps; few = one.few; kept = inl none }) (may_stay held run.steps)
@@ -106,6 +108,7 @@ killed_has head held run heads one = elim one.written [
 left_by : (life : Life) (run : Run) → content (later_by run.steps life) ≡ behind (content life) run.steps
 left_by life run = behind_two life.start life.steps run.steps
 
+-- runs that end by themselves or by a kill add their rows, one after the other
 kills : (head before : List ℕ) → IsHead head → (done runs : List Run) (life : Life) → HasRows head before done (content life) → AreKilled head life runs
     → HasRows head before (done ++ runs) (content (life_after life runs))
 kills head before heads done [] life has killed = subst (λ (rs : List Run). HasRows head before rs (content life)) (sym (append-nil done)) has
@@ -117,6 +120,7 @@ kills head before heads done (run ∷ runs) life has killed =
     subst (λ (rs : List Run). HasRows head before rs (content (life_after life (run ∷ runs)))) (append_assoc done (run ∷ []) runs)
     (subst (λ (o : Option (List ℕ)). HasRows head before ((done ++ run ∷ []) ++ runs) (content (life_after (lived life run o) runs))) (sym killed.0.killed) all)
 
+-- the law: while the machine goes on no row is lost
 pub kills_lose_nothing : (head : List ℕ) → IsHead head → (life : Life) (runs : List Run) → AreKilled head life runs
     → HasRows head (table head (content life)) runs (content (life_after life runs))
 kills_lose_nothing head heads life runs killed = kills head (table head (content life)) heads [] runs life ([], tt, sym (append-nil (table head (content life)))) killed

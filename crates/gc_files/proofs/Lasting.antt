@@ -15,7 +15,7 @@ pub record Has (head held : List ℕ) (rows : List (List ℕ)) (k : ℕ) (left :
   pub is : table head left ≡ table head held ++ lines (take count rows)
   pub least : (m : ℕ) → m ≤ length rows → length (start_of head held ++ lines (take m rows)) ≤ k → m ≤ count
 
--- a table by what is whole
+-- a file's table is its whole rows, or the head where there are none
 table_by : (head left : List ℕ) (rows : List ℕ) → whole left ≡ rows → table head left ≡ rows ++ (if is_none rows then head else [])
 table_by head left rows is = ap (λ (l : List ℕ). l ++ (if is_none l then head else [])) is
 
@@ -30,15 +30,16 @@ none_more head held rows left are same =
       least = λ m few le. w.least m few (omega (arith, le, length-append (start_of head held) (lines (take m rows))));
     }
 
--- a table whose rows aren't none
+-- the table of a file with a whole row is its whole rows
 filled : (head : List ℕ) (b : ℕ) (bs : List ℕ) (left : List ℕ) → whole left ≡ b ∷ bs → table head left ≡ b ∷ bs
 filled head b bs left is = table_by head left (b ∷ bs) is ∙ append-nil (b ∷ bs)
 
+-- the line of a row has a first byte
 line_first : (row : List ℕ) → (b : ℕ) × (bs : List ℕ) × (line row ≡ b ∷ bs)
 line_first [] = (10, [], refl)
 line_first (b ∷ row) = (b, row ++ 10 ∷ [], refl)
 
--- behind rows that are there
+-- in a file with a whole row, the first k bytes that a run appends have the rows that end within them (`Has`)
 behind_rows : (head held : List ℕ) (b : ℕ) (bs : List ℕ) (rows : List (List ℕ)) (k : ℕ) (left : List ℕ) → AreRows rows → whole held ≡ b ∷ bs
     → left ≡ whole held ++ take k (start_of head held ++ lines rows) → Has head held rows k left
 behind_rows head held b bs rows k left are some is =
@@ -54,7 +55,7 @@ behind_rows head held b bs rows k left are some is =
       least = λ m few le. w.least m few (subst (λ (l : List ℕ). length (l ++ lines (take m rows)) ≤ k) start le);
     }
 
--- in a file without a whole row and without a head
+-- in a file without a whole row, and without a head, the first k bytes that a run appends have the rows that end within them
 behind_nothing : (held : List ℕ) (rows : List (List ℕ)) (k : ℕ) (left : List ℕ) → AreRows rows → whole held ≡ []
     → left ≡ whole held ++ take k (start_of [] held ++ lines rows) → Has [] held rows k left
 behind_nothing held rows k left are none is =
@@ -75,7 +76,7 @@ behind_nothing held rows k left are none is =
     plain : (l : List ℕ) → table [] l ≡ whole l
     plain l = ap (λ (e : List ℕ). whole l ++ e) (either_same [] (is_none (whole l))) ∙ append-nil (whole l)
 
--- in a file without a whole row, behind a head
+-- in a file without a whole row, where the head comes first, the whole lines behind a run are the head and the rows that the run left
 head_first : (row held : List ℕ) (rows : List (List ℕ)) (k : ℕ) (left : List ℕ) → whole held ≡ [] → (count : ℕ) → count ≤ length (row ∷ rows) → whole left ≡ lines (take count (row ∷ rows))
     → ((m : ℕ) → m ≤ length (row ∷ rows) → length (lines (take m (row ∷ rows))) ≤ k → m ≤ count) → Has (line row) held rows k left
 head_first row held rows k left none zero few is least =
@@ -97,6 +98,7 @@ head_first row held rows k left none (suc n) few is least =
       least = λ m few le. omega (arith, least (suc m) (omega (arith, few)) (subst (λ (l : List ℕ). length (l ++ lines (take m rows)) ≤ k) start le));
     }
 
+-- a list is empty, or has a first item
 list_cases : (xs : List ℕ) → (xs ≡ []) ⊎ ((b : ℕ) × (bs : List ℕ) × (xs ≡ b ∷ bs))
 list_cases [] = inl refl
 list_cases (b ∷ bs) = inr (b, bs, refl)
@@ -125,9 +127,11 @@ pub record RunHas (head held : List ℕ) (run : Run) (left : List ℕ) : Type 0 
   pub few : count ≤ length run.rows
   pub is : table head left ≡ table head held ++ lines (take count run.rows)
 
+-- a front is no longer than the whole
 front_length : (front all : List ℕ) → IsFront front all → length front ≤ length all
 front_length front all f = omega (arith, ap length f.split, length-append front f.rest)
 
+-- where at least what was synced is there, so are the rows that were kept
 kept_within : (head held : List ℕ) (run : Run) (left : List ℕ) (k : ℕ) → IsRun head held run → length (synced run.steps) ≤ k → Has head held run.rows k left → RunHas head held run left
 kept_within head held run left k one enough has = record {
   count = has.count;
@@ -139,7 +143,7 @@ kept_within head held run left k one enough has = record {
   is = has.is;
 }
 
--- nothing of a run was synced, and nothing is there of it
+-- where nothing of a run was synced, a file to which nothing was added has what the run must leave (`RunHas`)
 none_of : (head held : List ℕ) (run : Run) (left : List ℕ) → IsRun head held run → synced run.steps ≡ [] → RunHas head left run left
 none_of head held run left one nothing =
     let w = within run.rows 0 one.rows in
@@ -154,9 +158,11 @@ none_of head held run left one nothing =
       is = sym (ap (λ (l : List ℕ). table head left ++ l) (sym w.is) ∙ append-nil (table head left));
     }
 
+-- files with the same whole rows have the same table
 same_table : (head left held : List ℕ) → whole left ≡ whole held → table head left ≡ table head held
 same_table head left held same = ap (λ (l : List ℕ). l ++ (if is_none l then head else [])) same
 
+-- the first k bytes of a front are the first bytes of the whole: at least k, or all of the front
 front_take : (held all bytes : List ℕ) (k : ℕ) (f : IsFront bytes all) → (count : ℕ) × (k ≤ count ⊎ length bytes ≤ count) × (held ++ take k bytes ≡ held ++ take count all)
 front_take held all bytes k f = elim (cases_lt k (length bytes)) [
   | inl less ↦ (k, inl (omega arith), ap (λ (l : List ℕ). held ++ l) (sym (take-append-le k bytes f.rest (omega (arith, less))) ∙ ap (take k) (sym f.split)))
@@ -173,7 +179,7 @@ synced_length (Append bytes ∷ steps) = elim (cases_Bool (has_sync steps)) [
 synced_length (Sync ∷ steps) = synced_length steps
 synced_length (Cut size ∷ steps) = synced_length steps
 
--- whatever a crash leaves of a run
+-- whatever a crash leaves of a run has its rows
 pub run_moments : (head held : List ℕ) (run : Run) (left : List ℕ) → IsHead head → IsRun head held run → MayLeave held run.steps left → RunHas head held run left
 run_moments head held run left heads one may = elim one.steps [
   | inl mending ↦
@@ -208,13 +214,14 @@ run_moments head held run left heads one may = elim one.steps [
         whole_mended : (later : List Step) → synced (mended held ++ later) ≡ synced later
         whole_mended later = ap (λ (steps : List Step). synced (steps ++ later)) (sym (two_steps held)) ∙ mend_synced held 2 later
 
--- runs that went before
+-- the counts of runs, and that of one more
 pub counts_more : (runs : List Run) (counts : List ℕ) (run : Run) (n : ℕ) → Counts runs counts → run.kept ≤ n → n ≤ length run.rows → Counts (runs ++ run ∷ []) (counts ++ n ∷ [])
 counts_more [] [] run n cs least few = (least, few, tt)
 counts_more [] (m ∷ counts) run n cs least few = absurd cs
 counts_more (r ∷ runs) [] run n cs least few = absurd cs
 counts_more (r ∷ runs) (m ∷ counts) run n cs least few = (cs.0, cs.1, counts_more runs counts run n cs.2 least few)
 
+-- the rows of one more run come behind those of the others
 pub rows_more : (runs : List Run) (counts : List ℕ) (run : Run) (n : ℕ) → Counts runs counts → rows_of (runs ++ run ∷ []) (counts ++ n ∷ []) ≡ rows_of runs counts ++ lines (take n run.rows)
 rows_more [] [] run n cs = append-nil (lines (take n run.rows))
 rows_more [] (m ∷ counts) run n cs = absurd cs
@@ -222,7 +229,7 @@ rows_more (r ∷ runs) [] run n cs = absurd cs
 rows_more (r ∷ runs) (m ∷ counts) run n cs = ap (λ (l : List ℕ). lines (take m r.rows) ++ l) (rows_more runs counts run n cs.2)
     ∙ sym (append_assoc (lines (take m r.rows)) (rows_of runs counts) (lines (take n run.rows)))
 
--- one run more
+-- one more run adds its rows
 pub has_more : (head before : List ℕ) (runs : List Run) (run : Run) (held left : List ℕ) → HasRows head before runs held → RunHas head held run left → HasRows head before (runs ++ run ∷ []) left
 has_more head before runs run held left has more = (
   has.0 ++ more.count ∷ [],
@@ -236,6 +243,7 @@ abbrev pub Lasts : List ℕ → List ℕ → List Run → Life → Type 0
 Lasts head before runs life = (left : List ℕ) → MayLeave life.start life.steps left → HasRows head before runs left
 
 module _ (head before : List ℕ) (heads : IsHead head) where
+  -- the table lasts over one more run
   pub one_more : (runs : List Run) (life : Life) (run : Run) → Lasts head before runs life → IsRun head (content life) run → Lasts head before (runs ++ run ∷ []) (later_by run.steps life)
   one_more runs life run lasts one left may = elim (leaves_two life.start life.steps run.steps left may) [
     | inl old ↦
@@ -245,19 +253,20 @@ module _ (head before : List ℕ) (heads : IsHead head) where
     | inr new ↦ has_more head before runs run (content life) left (lasts (content life) (may_stay life.start life.steps)) (run_moments head (content life) run left heads one new)
   ]
 
-  -- what the run's end leaves
+  -- the table lasts over what the run's end leaves
   ended : (runs : List Run) (life : Life) (run : Run) (left : Option (List ℕ)) → Lasts head before runs life → IsRun head (content life) run
       → Ended life run left → Lasts head before (runs ++ run ∷ []) (lived life run left)
   ended runs life run None lasts one end = one_more runs life run lasts one
   ended runs life run (Some there) lasts one end = λ left may. subst (HasRows head before (runs ++ run ∷ [])) (sym may) (one_more runs life run lasts one there end)
 
+  -- the table lasts over all runs
   all_runs : (earlier runs : List Run) (life : Life) → Lasts head before earlier life → Happen head life runs → Lasts head before (earlier ++ runs) (life_after life runs)
   all_runs earlier [] life lasts happen = subst (λ (rs : List Run). Lasts head before rs life) (sym (append-nil earlier)) lasts
   all_runs earlier (run ∷ runs) life lasts happen =
       subst (λ (rs : List Run). Lasts head before rs (life_after (lived life run run.left) runs)) (append_assoc earlier (run ∷ []) runs)
       (all_runs (earlier ++ run ∷ []) runs (lived life run run.left) (ended earlier life run run.left lasts happen.0 happen.1) happen.2)
 
--- the law
+-- the law: over any runs and crashes the table lasts
 pub tables_last : (head held : List ℕ) → IsHead head → (runs : List Run) → Happen head (record { start = held; steps = [] }) runs
     → Lasts head (table head held) runs (life_after (record { start = held; steps = [] }) runs)
 tables_last head held heads runs happen =

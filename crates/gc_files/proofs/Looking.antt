@@ -15,16 +15,19 @@ pub fits_behind : (xs sign held : List ℕ) → fits (xs ++ sign) (xs ++ held) �
 fits_behind [] sign held = refl
 fits_behind (x ∷ xs) sign held = ap (λ t. t && fits (xs ++ sign) (xs ++ held)) (eq-eqb x x refl) ∙ fits_behind xs sign held
 
+-- an empty file fits each sign
 pub fits_none : (sign : List ℕ) → fits sign [] ≡ true
 fits_none [] = refl
 fits_none (a ∷ sign) = refl
 
+-- where the first k bytes are the same, the bytes behind them decide
 pub fits_on : (k : ℕ) (sign held : List ℕ) → take k sign ≡ take k held → fits sign held ≡ fits (drop k sign) (drop k held)
 fits_on k sign held same =
     ap (λ (s : List ℕ). fits s held) (sym (take-append-drop k sign)) ∙ ap (λ (h : List ℕ). fits (take k sign ++ drop k sign) h)
     (sym (take-append-drop k held) ∙ ap (λ (l : List ℕ). l ++ drop k held) (sym same))
     ∙ fits_behind (take k sign) (drop k sign) (drop k held)
 
+-- where the first k bytes differ, neither begins with the other
 pub fits_not : (k : ℕ) (sign held : List ℕ) → k ≤ length sign → k ≤ length held → (take k sign ≡ take k held → ⊥) → fits sign held ≡ false
 fits_not zero sign held one two differ = absurd (differ refl)
 fits_not (suc k) [] held one two differ = absurd (omega (arith, one))
@@ -35,17 +38,19 @@ fits_not (suc k) (a ∷ sign) (b ∷ held) one two differ = elim (cases_Bool (a 
   | inr isnt ↦ ap (λ t. t && fits sign held) isnt
 ]
 
--- one piece of a look at the sign
+-- where a piece of the file is as in the sign, the bytes behind it decide
 pub looked_on : (at k : ℕ) (sign held rest : List ℕ) → rest ≡ drop at sign → take k rest ≡ take k (drop at held) → fits (drop at sign) (drop at held) ≡ fits (drop (at + k) sign) (drop (at + k) held)
 looked_on at k sign held rest is same =
     fits_on k (drop at sign) (drop at held) (ap (take k) (sym is) ∙ same)
     ∙ ap (λ (s : List ℕ). fits s (drop k (drop at held))) (drop-drop k at sign) ∙ ap (λ (h : List ℕ). fits (drop (at + k) sign) h) (drop-drop k at held)
 
+-- a piece of the file that differs from the sign: the file hasn't the sign
 pub looked_not : (at k : ℕ) (sign held rest : List ℕ) → rest ≡ drop at sign → k ≤ length rest → at + k ≤ length held
     → (take k rest ≡ take k (drop at held) → ⊥) → fits (drop at sign) (drop at held) ≡ false
 looked_not at k sign held rest is one two differ =
     ap (λ (s : List ℕ). fits s (drop at held)) (sym is) ∙ fits_not k rest (drop at held) one (omega (arith, two, length-drop at held)) differ
 
+-- at the end of the file nothing can differ any more
 pub looked_all : (at : ℕ) (sign held : List ℕ) → length held ≤ at → fits (drop at sign) (drop at held) ≡ true
 looked_all at sign held past = ap (fits (drop at sign)) (drop_all at held past) ∙ fits_none (drop at sign)
 
@@ -60,6 +65,7 @@ read_more done n at k buf ys held within few first second =
     ∙ ap (λ (l : List ℕ). take done (drop at held) ++ l) (second ∙ ap (take n) (sym (drop-drop done at held)))
     ∙ sym (take-add done n (drop at held))
 
+-- a buffer keeps its length as a piece is put into it
 pub length-put : (done k : ℕ) (buf ys : List ℕ) → done ≤ length buf → k ≡ length buf - done → length ys ≡ k → length (put_mid done k buf ys) ≡ length buf
 length-put done k buf ys within is size =
     omega (
@@ -75,7 +81,7 @@ length-put done k buf ys within is size =
       length-drop done buf,
     )
 
--- where the last line feed of a block is
+-- bytes of which none is 10 have no line feed
 none_feed : (xs : List ℕ) → ((j : ℕ) → j < length xs → (slice_index xs j == 10) ≡ true → ⊥) → has_feed xs ≡ false
 none_feed [] none = refl
 none_feed (b ∷ xs) none = elim (cases_Bool (b == 10)) [
@@ -83,6 +89,7 @@ none_feed (b ∷ xs) none = elim (cases_Bool (b == 10)) [
   | inr isnt ↦ rw (isnt) (none_feed xs (λ j less. none (suc j) (omega (arith, less))))
 ]
 
+-- bytes of which one is 10 have a line feed
 some_feed : (xs : List ℕ) (k : ℕ) → k < length xs → (slice_index xs k == 10) ≡ true → has_feed xs ≡ true
 some_feed [] k less is = absurd (omega (arith, less))
 some_feed (b ∷ xs) zero less is = rw (is) refl
@@ -91,6 +98,7 @@ some_feed (b ∷ xs) (suc k) less is = elim (cases_Bool (b == 10)) [
   | inr isnt ↦ rw (isnt) (some_feed xs k (omega (arith, less)) is)
 ]
 
+-- the last line feed ends the whole rows
 last_feed : (xs : List ℕ) (k : ℕ) → k < length xs → (slice_index xs k == 10) ≡ true → ((j : ℕ) → k < j → j < length xs → (slice_index xs j == 10) ≡ true → ⊥) → suc k ≡ length (whole xs)
 last_feed [] k less is none = absurd (omega (arith, less))
 last_feed (b ∷ xs) zero less is none =
@@ -106,19 +114,22 @@ last_feed (b ∷ xs) (suc k) less is none =
     whole_first : (b : ℕ) (xs : List ℕ) → has_feed (b ∷ xs) ≡ true → length (whole (b ∷ xs)) ≡ suc (length (whole xs))
     whole_first b xs some = rw (some) refl
 
+-- the whole rows of a block end with the last line feed that was found
 pub last_some : (block : List ℕ) (last : ℕ) → IsLastByte (is_byte 10) block (Some last) → last + 1 ≡ length (whole block)
 last_some block last h = omega (arith, last_feed block last h.0.high h.1 (λ j above below. h.0.after j (omega (arith, above)) below))
 
+-- a block in which no line feed was found has no whole row
 pub last_none : (block : List ℕ) → IsLastByte (is_byte 10) block None → 0 ≡ length (whole block)
 last_none block h = sym (ap length (whole_none block (none_feed block (λ j below. h j (omega arith) below))))
 
--- a block at the end of what has no line feed behind it
+-- a file is what stands before a block, the block, and what stands behind it
 split_at : (at size : ℕ) (held block : List ℕ) → block ≡ take size (drop at held) → held ≡ take at held ++ (block ++ drop (at + size) held)
 split_at at size held block is =
     sym (take-append-drop at held) ∙ ap (λ (l : List ℕ). take at held ++ l)
     (sym (take-append-drop size (drop at held)) ∙ ap (λ (l : List ℕ). l ++ drop size (drop at held)) (sym is)
     ∙ ap (λ (l : List ℕ). block ++ l) (drop-drop size at held))
 
+-- bytes without a whole row have no line feed
 none_whole : (xs : List ℕ) → length (whole xs) ≡ 0 → has_feed xs ≡ false
 none_whole xs none = elim (cases_Bool (has_feed xs)) [
   | inl some ↦ absurd (first xs some none)
@@ -129,12 +140,14 @@ none_whole xs none = elim (cases_Bool (has_feed xs)) [
     first [] some none = let wrong : false ≡ true = some in cc
     first (b ∷ xs) some none = let is : length (whole (b ∷ xs)) ≡ suc (length (whole xs)) = rw (some) refl in omega (arith, none, is)
 
+-- bytes with a whole row have a line feed
 some_whole : (xs : List ℕ) → 0 < length (whole xs) → has_feed xs ≡ true
 some_whole xs some = elim (cases_Bool (has_feed xs)) [
   | inl is ↦ is
   | inr isnt ↦ absurd (omega (arith, some, ap length (whole_none xs isnt)))
 ]
 
+-- a block has no whole row, and no line feed is behind it: no line feed is behind its beginning
 pub block_none : (at size end : ℕ) (held block : List ℕ) → block ≡ take size (drop at held) → at + size ≡ end → has_feed (drop end held) ≡ false
     → length (whole block) ≤ 0 → has_feed (drop at held) ≡ false
 block_none at size end held block is ends none no_rows =
@@ -142,6 +155,7 @@ block_none at size end held block is ends none no_rows =
     ∙ ap (λ (l : List ℕ). l ++ drop size (drop at held)) (sym is) ∙ ap (λ (l : List ℕ). block ++ l) (drop-drop size at held) in
     ap has_feed rest ∙ feed_front block (drop (at + size) held) (ap (λ n. has_feed (drop n held)) ends ∙ none) ∙ none_whole block (omega (arith, no_rows))
 
+-- a block has a whole row, and no line feed is behind it: the file's whole rows end where the block's do
 pub block_some : (at size end : ℕ) (held block : List ℕ) → block ≡ take size (drop at held) → at + size ≡ end → at ≤ length held
     → has_feed (drop end held) ≡ false → 0 < length (whole block) → at + length (whole block) ≡ length (whole held)
 block_some at size end held block is ends within none rows =
@@ -151,12 +165,13 @@ block_some at size end held block is ends within none rows =
     ∙ whole_front (take at held ++ block) (drop (at + size) held) behind ∙ whole_behind (take at held) block (some_whole block rows) in
     omega (arith, ap length whole_is, length-append (take at held) (whole block), length-take-le at held within)
 
--- bytes went out, and some more
+-- the first bytes were appended, and then some more of them
 pub put_more : (old mid new : Option Life) (bytes piece : List ℕ) (done n : ℕ) → piece ≡ drop done bytes → PutsAll old mid (take done bytes)
     → Adds mid new (Append (take n piece) ∷ []) → PutsAll old new (take (done + n) bytes)
 put_more old mid new bytes piece done n is puts adds =
     subst (PutsAll old new) (ap (λ (l : List ℕ). take done bytes ++ take n l) is ∙ sym (take-add done n bytes)) (puts_more old mid new (take done bytes) (take n piece) puts adds)
 
+-- where no more was appended, a front of the bytes was
 pub put_part : (old mid new : Option Life) (bytes : List ℕ) (done : ℕ) → PutsAll old mid (take done bytes) → new ≡ mid → (front : List ℕ) × IsFront front bytes × PutsAll old new front
 put_part old mid new bytes done puts same = (
   take done bytes,
@@ -165,9 +180,11 @@ put_part old mid new bytes done puts same = (
       (λ (life : Option Life). PutsAll old life (take done bytes)) (sym same) puts,
 )
 
+-- a block as long as the first k bytes of a buffer has k bytes
 pub size_of : (k : ℕ) (buf block : List ℕ) → k ≤ length buf → length block ≡ length (take k buf) → length block ≡ k
 size_of k buf block within same = same ∙ length-take-le k buf within
 
+-- a file without a line feed has no whole row
 pub nothing_whole : (held : List ℕ) (end : ℕ) → end ≤ 0 → has_feed (drop end held) ≡ false → 0 ≡ length (whole held)
 nothing_whole held zero none feed = sym (ap length (whole_none held feed))
 nothing_whole held (suc end) none feed = absurd (omega (arith, none))

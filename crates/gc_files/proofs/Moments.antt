@@ -13,6 +13,7 @@ pub may_stay : (held : List ℕ) (steps : List Step) → MayLeave held steps (be
 may_stay held [] = refl
 may_stay held (step ∷ steps) = inr (may_stay (stepped held step) steps)
 
+-- behind steps, and others behind them, a file holds what the others make of what the first made
 pub behind_two : (held : List ℕ) (xs ys : List Step) → behind held (xs ++ ys) ≡ behind (behind held xs) ys
 behind_two held [] ys = refl
 behind_two held (step ∷ xs) ys = behind_two (stepped held step) xs ys
@@ -23,6 +24,7 @@ take_nil n = take_all n [] (omega arith)
 is_not : true ≡ false → ⊥
 is_not e = cc
 
+-- where steps and others behind them have no sync, neither the first nor the others have one
 sync_two : (xs ys : List Step) → has_sync (xs ++ ys) ≡ false → (has_sync xs ≡ false) × (has_sync ys ≡ false)
 sync_two [] ys none = (refl, none)
 sync_two (Append bytes ∷ xs) ys none = sync_two xs ys none
@@ -40,13 +42,14 @@ leaves_two held (step ∷ xs) ys left (inr next) = elim (leaves_two (stepped hel
   | inr second ↦ inr second
 ]
 
+-- without a sync nothing was synced
 pub no_sync : (steps : List Step) → has_sync steps ≡ false → synced steps ≡ []
 no_sync [] none = refl
 no_sync (Append bytes ∷ steps) none = rw (none) refl
 no_sync (Cut size ∷ steps) none = no_sync steps none
 no_sync (Sync ∷ steps) none = absurd (is_not none)
 
--- mending a file leaves its whole rows, at each moment
+-- mending a file leaves its whole rows
 pub mends : (held : List ℕ) → behind held (mended held) ≡ whole held
 mends held = elim (cases_Bool (length (whole held) == length held)) [
   | inl same ↦
@@ -66,6 +69,7 @@ mends held = elim (cases_Bool (length (whole held) == length held)) [
     all held t same = sym (take_all (length held) held (omega arith)) ∙ ap
         (λ n. take n held) (sym same) ∙ ap (take (length (whole held))) t.split ∙ take_at (whole held) t.torn (length (whole held)) refl
 
+-- a cut behind the whole rows, and a sync, leave these at each moment
 cut_moments : (held : List ℕ) (count : ℕ) (left : List ℕ) → MayLeave held (take count (Cut (length (whole held)) ∷ Sync ∷ [])) left → whole left ≡ whole held
 cut_moments held zero left may = ap whole may
 cut_moments held (suc zero) left (inl now) = ap whole now.1.2 ∙ whole_take held now.1.0 now.1.1
@@ -75,6 +79,7 @@ cut_moments held (suc (suc n)) left (inr (inl now)) = absurd (is_not now.0)
 cut_moments held (suc (suc n)) left (inr (inr next)) =
     ap whole (subst (λ (steps : List Step). MayLeave (take (length (whole held)) held) steps left) (take_nil n) next) ∙ whole_take held (length (whole held)) (omega arith)
 
+-- mending a file, in part or whole, leaves its whole rows at each moment
 pub mend_moments : (held : List ℕ) (count : ℕ) (left : List ℕ) → MayLeave held (take count (mended held)) left → whole left ≡ whole held
 mend_moments held count left may = elim (cases_Bool (length (whole held) == length held)) [
   | inl same ↦
@@ -86,13 +91,14 @@ mend_moments held count left may = elim (cases_Bool (length (whole held) == leng
       cut_moments held count left (subst (λ (steps : List Step). MayLeave held (take count steps) left) two may)
 ]
 
--- there are no more than two steps
+-- a file is mended by two steps at most
 pub two_steps : (held : List ℕ) → take 2 (mended held) ≡ mended held
 two_steps held = elim (cases_Bool (length (whole held) == length held)) [
   | inl same ↦ rw (same) (take_nil 2)
   | inr less ↦ rw (less) refl
 ]
 
+-- mending a file appends nothing, so what was synced is that of the later steps
 pub mend_synced : (held : List ℕ) (count : ℕ) (later : List Step) → synced (take count (mended held) ++ later) ≡ synced later
 mend_synced held count later = elim (cases_Bool (length (whole held) == length held)) [
   | inl same ↦
@@ -114,12 +120,14 @@ pub record Reached (held all least left : List ℕ) : Type 0 where
   pub is : left ≡ held ++ take count all
   pub enough : length least ≤ count
 
+-- the first bytes of a front are some first bytes of the whole
 part_of : (held bytes rest : List ℕ) (k : ℕ) → (count : ℕ) × (held ++ take k bytes ≡ held ++ take count (bytes ++ rest))
 part_of held bytes rest k = elim (cases_lt k (length bytes)) [
   | inl less ↦ (k, ap (λ (l : List ℕ). held ++ l) (sym (take-append-le k bytes rest (omega (arith, less)))))
   | inr more ↦ (length bytes, ap (λ (l : List ℕ). held ++ l) (take_all k bytes more ∙ sym (take_at bytes rest (length bytes) refl)))
 ]
 
+-- steps that cut nothing leave, at each moment, a front of what they append, and at least what was synced of it
 pub put_moments : (steps : List Step) (held left : List ℕ) → cuts_none steps ≡ true → MayLeave held steps left → Reached held (appended steps) (synced steps) left
 put_moments [] held left none may = record { count = 0; is = may ∙ sym (append-nil held); enough = omega arith }
 put_moments (Append bytes ∷ steps) held left none (inl now) =

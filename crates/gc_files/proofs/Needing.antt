@@ -12,7 +12,7 @@ head = 10 ∷ []
 abbrev first : Run
 first = record { rows = []; steps = Append (10 ∷ []) ∷ []; kept = 0; left = None }
 
--- one behind it that writes a row, which it is told that is kept
+-- a run behind it that writes a row, which is reported to it as kept
 abbrev second : Run
 second = record { rows = (65 ∷ []) ∷ []; steps = Append (65 ∷ 10 ∷ []) ∷ Sync ∷ []; kept = 1; left = None }
 
@@ -20,6 +20,7 @@ second = record { rows = (65 ∷ []) ∷ []; steps = Append (65 ∷ 10 ∷ []) �
 abbrev events : List Event
 events = Failed first (10 ∷ []) (0 ∷ []) ∷ Ran second ∷ []
 
+-- the first run is one over an empty file
 first_is : IsRun head [] first
 first_is = record {
   rows = tt;
@@ -28,6 +29,7 @@ first_is = record {
   kept = inl refl;
 }
 
+-- the second run is one over the file that a read returns
 second_is : IsRun head (10 ∷ []) second
 second_is = record {
   rows = (refl, tt);
@@ -36,6 +38,7 @@ second_is = record {
   kept = inr (record { rest = []; split = refl });
 }
 
+-- the events happen
 they_occur : Occur (λ doubted. Unit {0}) head (one (settled [])) false events
 they_occur = (
   tt,
@@ -45,6 +48,7 @@ they_occur = (
   (tt, second_is, tt),
 )
 
+-- the law: where runs go on in a file in doubt, the table doesn't last
 pub copies_are_needed : TablesLastWhere (λ doubted. Unit {0}) → ⊥
 copies_are_needed lasts =
     let has = lasts head [] (inr ([], refl, refl)) events they_occur (0 ∷ 65 ∷ 10 ∷ []) (inr (inr (inr refl))) in

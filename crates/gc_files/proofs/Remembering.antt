@@ -5,22 +5,26 @@ use Rattle.gc_files.specs.Calls.{step_of, steps_of, life_by}
 use Rattle.gc_files.specs.Files.{Step, Sync, Life, stepped, behind, content, MayLeave, IsKept, later_by, Adds, Makes}
 use Rattle.gc_files.proofs.Moments.{behind_two, leaves_two}
 
+-- the steps of calls, and of one more, are those of the calls, and that of the last
 steps_more : (calls : List Call) (c : Call) → steps_of (calls ++ c ∷ []) ≡ steps_of calls ++ step_of c ∷ []
 steps_more [] c = refl
 steps_more (d ∷ calls) c = ap (λ (steps : List Step). step_of d ∷ steps) (steps_more calls c)
 
+-- one more call of a file in memory is one more step of its life
 pub life_more : (start : List ℕ) (calls new : List Call) (c : Call) → new ≡ calls ++ c ∷ [] → life_by start new ≡ later_by (step_of c ∷ []) (life_by start calls)
 life_more start calls new c is = ap (life_by start) is ∙ ap (λ (steps : List Step). record { start = start; steps = steps }) (steps_more calls c)
 
+-- behind one more step a file holds what that step makes of what it held
 pub content_step : (life : Life) (step : Step) → content (later_by (step ∷ []) life) ≡ stepped (content life) step
 content_step life step = behind_two life.start life.steps (step ∷ [])
 
--- a call noted down
+-- behind a call that is noted, the file holds what its calls made of it
 pub noted : (start : List ℕ) (calls new : List Call) (c : Call) (old now next : List ℕ) → new ≡ calls ++ c ∷ [] → now ≡ next → next ≡ stepped old (step_of c)
     → old ≡ content (life_by start calls) → now ≡ content (life_by start new)
 noted start calls new c old now next is put made was =
     put ∙ made ∙ ap (λ (held : List ℕ). stepped held (step_of c)) was ∙ sym (content_step (life_by start calls) (step_of c)) ∙ ap content (sym (life_more start calls new c is))
 
+-- a call that is noted is one more step
 pub noted_step : (start : List ℕ) (calls new : List Call) (c : Call) → new ≡ calls ++ c ∷ [] → Adds (Some (life_by start calls)) (Some (life_by start new)) (step_of c ∷ [])
 noted_step start calls new c is life same =
     ap (λ (l : Life). Some l) (life_more start calls new c is) ∙ ap (λ (o : Option Life). after o) same
@@ -43,9 +47,11 @@ sync_keeps start steps left may = elim (leaves_two start steps (Sync ∷ []) lef
     last (inl now) = absurd (is_not now.0)
     last (inr rest) = rest ∙ sym (behind_two start steps (Sync ∷ []))
 
+-- behind a sync a file in memory is kept
 pub kept_behind : (old : Life) → IsKept (later_by (Sync ∷ []) old)
 kept_behind old left may = sync_keeps old.start old.steps left may
 
+-- a file that is known behind a sync is kept
 pub kept_of : (old known : Life) (now : Option Life) → Adds (Some old) now (Sync ∷ []) → now ≡ Some known → IsKept known
 kept_of old known now adds is = subst IsKept (inside (sym (adds old refl) ∙ is)) (kept_behind old)
   where
@@ -56,6 +62,7 @@ kept_of old known now adds is = subst IsKept (inside (sym (adds old refl) ∙ is
     inside : {x y : Life} → Some x ≡ Some y → x ≡ y
     inside {x} {y} same = ap (λ (o : Option Life). out x o) same
 
+-- behind a sync that went well a file in memory is kept
 pub kept_result : {X E : Type 0} (old : Life) (now : Option Life) (r : Result X E) → Makes (Some old) now r (λ _. Sync) → OnOk r ((known : Life) → now ≡ Some known → IsKept known)
 kept_result old now (Ok x) makes = λ known is. kept_of old known now makes is
 kept_result old now (Err e) makes = tt

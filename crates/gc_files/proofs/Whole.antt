@@ -6,6 +6,7 @@ use Rattle.std.proofs.lemmas.List.{append-nil, take_all, take-append-le, take-ap
 use Rattle.gc_files.specs.Rows.{has_feed, whole, line}
 use Rattle.gc_files.specs.Runs.{lines, AreRows}
 
+-- where a second text has no line feed, both texts together have one exactly where the first has
 pub feed_front : (xs ys : List ℕ) → has_feed ys ≡ false → has_feed (xs ++ ys) ≡ has_feed xs
 feed_front [] ys none = none
 feed_front (b ∷ xs) ys none = elim (cases_Bool (b == 10)) [
@@ -13,6 +14,7 @@ feed_front (b ∷ xs) ys none = elim (cases_Bool (b == 10)) [
   | inr e ↦ rw (e) (feed_front xs ys none)
 ]
 
+-- where a second text has a line feed, both texts together have one
 pub feed_behind : (xs ys : List ℕ) → has_feed ys ≡ true → has_feed (xs ++ ys) ≡ true
 feed_behind [] ys some = some
 feed_behind (b ∷ xs) ys some = elim (cases_Bool (b == 10)) [
@@ -20,6 +22,7 @@ feed_behind (b ∷ xs) ys some = elim (cases_Bool (b == 10)) [
   | inr e ↦ rw (e) (feed_behind xs ys some)
 ]
 
+-- where two texts together have no line feed, the first has none
 pub feed_first : (xs ys : List ℕ) → has_feed (xs ++ ys) ≡ false → has_feed xs ≡ false
 feed_first [] ys none = refl
 feed_first (b ∷ xs) ys none = elim (cases_Bool (b == 10)) [
@@ -27,14 +30,17 @@ feed_first (b ∷ xs) ys none = elim (cases_Bool (b == 10)) [
   | inr e ↦ let rest : has_feed (xs ++ ys) ≡ false = subst (λ t. (if t then true else has_feed (xs ++ ys)) ≡ false) e none in rw (e) (feed_first xs ys rest)
 ]
 
+-- a text without a line feed has no whole row
 pub whole_none : (xs : List ℕ) → has_feed xs ≡ false → whole xs ≡ []
 whole_none [] none = refl
 whole_none (b ∷ xs) none = rw (none) refl
 
+-- where a second text has a line feed, the whole rows of both together are the first text and the whole rows of the second
 pub whole_behind : (xs ys : List ℕ) → has_feed ys ≡ true → whole (xs ++ ys) ≡ xs ++ whole ys
 whole_behind [] ys some = refl
 whole_behind (b ∷ xs) ys some = rw (feed_behind (b ∷ xs) ys some) (ap (λ (l : List ℕ). b ∷ l) (whole_behind xs ys some))
 
+-- where a second text has no line feed, both texts together have the whole rows of the first
 pub whole_front : (xs ys : List ℕ) → has_feed ys ≡ false → whole (xs ++ ys) ≡ whole xs
 whole_front [] ys none = whole_none ys none
 whole_front (b ∷ xs) ys none = rw (feed_front (b ∷ xs) ys none, whole_front xs ys none) refl
@@ -45,6 +51,7 @@ pub record Torn (xs : List ℕ) : Type 0 where
   pub none : has_feed torn ≡ false
   pub split : xs ≡ whole xs ++ torn
 
+-- each file is its whole rows and what stands behind the last line feed
 pub torn_of : (xs : List ℕ) → Torn xs
 torn_of [] = record { torn = []; none = refl; split = refl }
 torn_of (b ∷ xs) = elim (cases_Bool (has_feed (b ∷ xs))) [
@@ -57,22 +64,24 @@ torn_of (b ∷ xs) = elim (cases_Bool (has_feed (b ∷ xs))) [
       record { torn = b ∷ xs; none = e; split = ap (λ (l : List ℕ). l ++ (b ∷ xs)) (sym is) }
 ]
 
+-- the whole rows of whole rows are these
 pub whole_whole : (xs : List ℕ) → whole (whole xs) ≡ whole xs
 whole_whole xs =
     let t = torn_of xs in
     sym (ap whole t.split ∙ whole_front (whole xs) t.torn t.none)
 
--- what is appended behind whole rows
+-- the whole rows of whole rows with further bytes are these rows and the whole rows of the further bytes
 pub whole_more : (xs ys : List ℕ) → whole xs ≡ xs → whole (xs ++ ys) ≡ xs ++ whole ys
 whole_more xs ys is = elim (cases_Bool (has_feed ys)) [
   | inl some ↦ whole_behind xs ys some
   | inr none ↦ whole_front xs ys none ∙ is ∙ sym (ap (λ (l : List ℕ). xs ++ l) (whole_none ys none) ∙ append-nil xs)
 ]
 
+-- the line of a row is whole
 pub whole_line : (row : List ℕ) → whole (line row) ≡ line row
 whole_line row = whole_behind row (10 ∷ []) refl
 
--- a cut behind the last line feed, or farther back
+-- a cut that leaves the last line feed leaves the whole rows
 pub whole_take : (xs : List ℕ) (k : ℕ) → length (whole xs) ≤ k → whole (take k xs) ≡ whole xs
 whole_take xs k far =
     let t = torn_of xs in
@@ -90,13 +99,16 @@ pub record Within (rows : List (List ℕ)) (k : ℕ) : Type 0 where
   pub is : whole (take k (lines rows)) ≡ lines (take count rows)
   pub least : (m : ℕ) → m ≤ length rows → length (lines (take m rows)) ≤ k → m ≤ count
 
+-- the line of a row has one byte more than the row
 length-line : (row : List ℕ) → length (line row) ≡ suc (length row)
 length-line row = length-append row (10 ∷ []) ∙ omega arith
 
+-- where the bytes end within the first row's line, no row ends in them
 no_more : (row : List ℕ) (rows : List (List ℕ)) (k : ℕ) → k < length (line row) → (m : ℕ) → length (lines (take m (row ∷ rows))) ≤ k → m ≤ 0
 no_more row rows k less zero le = omega arith
 no_more row rows k less (suc m) le = absurd (omega (arith, less, le, length-append (line row) (lines (take m rows))))
 
+-- for each k there is a count of the rows that are whole in the first k bytes
 pub within : (rows : List (List ℕ)) (k : ℕ) → AreRows rows → Within rows k
 within [] k are = record { count = 0; few = omega arith; is = ap whole (take_all k [] (omega arith)); least = λ m few le. few }
 within (row ∷ rows) k are = elim (cases_lt k (length (line row))) [

@@ -7,18 +7,22 @@ use Rattle.gc_files.specs.Files.{Step, Append, Cut, Sync}
 abbrev Parts : Type 0
 Parts = ℕ × (List ℕ × ℕ)
 
+-- a step as its parts
 abbrev to_parts : Step → Parts
 to_parts (Append bytes) = (0, (bytes, 0))
 to_parts (Cut size) = (1, ([], size))
 to_parts Sync = (2, ([], 0))
 
+-- the step of these parts
 abbrev from_parts : Parts → Step
 from_parts p = cond (p.0 == 0) (Append p.1.0) (cond (p.0 == 1) (Cut p.1.1) Sync)
 
+-- a step comes back from its parts
 pub from_parts-to_parts : (step : Step) → from_parts (to_parts step) ≡ step
 from_parts-to_parts (Append bytes) = refl
 from_parts-to_parts (Cut size) = refl
 from_parts-to_parts Sync = refl
 
+-- how a list of steps is stored
 abbrev pub steps_code : Coded (List Step)
 steps_code = coded_list (code_by Parts (coded× coded_ℕ (coded× (coded_list coded_ℕ) coded_ℕ)) to_parts from_parts from_parts-to_parts)

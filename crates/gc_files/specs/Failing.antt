@@ -4,10 +4,11 @@ use Rattle.gc_files.specs.Files.{Step, Life, content, later_by, MayLeave}
 use Rattle.gc_files.specs.Rows.{has_feed, table}
 use Rattle.gc_files.specs.Runs.{Run, IsHead, IsRun, HasRows}
 
--- how many line feeds are among them
+-- 1 for a line feed, and 0 for any other byte
 abbrev pub feed_of : ℕ → ℕ
 feed_of b = if b == 10 then 1 else 0
 
+-- how many line feeds are among these bytes
 abbrev pub feeds : List ℕ → ℕ
 feeds [] = 0
 feeds (b ∷ bs) = feed_of b + feeds bs
@@ -18,14 +19,15 @@ pub record Sides : Type 0 where
   pub read : Life
   pub disk : Life
 
--- what a file is that holds this, all of it on the disk
+-- the life of a file that holds this, all of it on the disk
 abbrev pub settled : List ℕ → Life
 settled held = record { start = held; steps = [] }
 
+-- both sides of a file in which no sync failed
 abbrev pub one : Life → Sides
 one life = record { read = life; disk = life }
 
--- each step is done on both sides: a later sync keeps what is on the disk, whatever a read returns
+-- both sides behind these steps, each of which is done on both: so a later sync keeps what is on the disk, whatever a read returns
 abbrev pub done_by : List Step → Sides → Sides
 done_by steps sides = record { read = later_by steps sides.read; disk = later_by steps sides.disk }
 
@@ -41,15 +43,15 @@ pub record Loses (life : Life) (now : List ℕ) : Type 0 where
 pub data Event : Type 0 where
   -- a run appended rows, as far as it came, and ended by itself or by a kill
   Ran : (run : Run) → Event
-  -- so did one whose last call was a sync that failed: what a read returns then, and what the disk has
+  -- a run appended rows, and its last call was a sync that failed: what a read returns then, and what the disk has
   Failed : (run : Run) → (read disk : List ℕ) → Event
-  -- what a read returns was copied to a new file and synced there, and that took the old one's place; the new name is on the disk, or a crash may
-  -- bring the old file back
+  -- what a read returns was copied to a new file and synced there, and that file took the old one's place. Where its name is on the disk,
+  -- it is `named`; else a crash may bring the old file back
   Copied : (named : Bool) → Event
   -- the machine crashed, which left this
   Crashed : (left : List ℕ) → Event
 
--- the file behind these events
+-- both sides of a file behind these events
 abbrev pub sides_after : Sides → List Event → Sides
 sides_after sides [] = sides
 sides_after sides (Ran run ∷ events) = sides_after (done_by run.steps sides) events
@@ -58,7 +60,8 @@ sides_after sides (Copied true ∷ events) = sides_after (one (settled (content 
 sides_after sides (Copied false ∷ events) = sides_after (record { read = settled (content sides.read); disk = sides.disk }) events
 sides_after sides (Crashed left ∷ events) = sides_after (one (settled left)) events
 
--- these events happen, and a run goes on only where it may, by whether the file is in doubt: a sync of it failed, and no copy took its place since
+-- these events can happen to a file with these sides. A run goes on only where `goes` allows it, by whether the file is in doubt: a sync of it
+-- failed, and no copy has taken its place since
 abbrev pub Occur : (Bool → Type 0) → List ℕ → Sides → Bool → List Event → Type 0
 Occur goes head sides doubted [] = Unit {0}
 Occur goes head sides doubted (Ran run ∷ events) = goes doubted × IsRun head (content sides.read) run × Occur goes head (done_by run.steps sides) doubted events
@@ -77,19 +80,21 @@ runs_of (Failed run read disk ∷ events) = run ∷ runs_of events
 runs_of (Copied named ∷ events) = runs_of events
 runs_of (Crashed left ∷ events) = runs_of events
 
--- what a read returns, or a crash leaves
+-- `left` is what a read of the file returns, or what a crash may leave of the file
 abbrev pub IsFound : Sides → List ℕ → Type 0
 IsFound sides left = (left ≡ content sides.read) ⊎ MayLeave sides.disk.start sides.disk.steps left
 
--- whatever is found behind such events, the next opening makes of it the table that was there before, and the rows of the runs
+-- whatever is found behind events among which runs go on only where `goes` allows it, the next opening makes of it the table that was there
+-- before, and the rows of the runs
 abbrev pub TablesLastWhere : (Bool → Type 0) → Type 0
 TablesLastWhere goes = (head held : List ℕ) → IsHead head → (events : List Event) → Occur goes head (one (settled held)) false events
     → (left : List ℕ) → IsFound (sides_after (one (settled held)) events) left → HasRows head (table head held) (runs_of events) left
 
--- a run goes on only in a file that isn't in doubt
+-- what a run needs to go on: the file isn't in doubt
 abbrev pub is_trusted : Bool → Type 0
 is_trusted doubted = doubted ≡ false
 
+-- tables last over failed syncs, where no run goes on in a file in doubt
 abbrev pub TablesOutlastFailures : Type 0
 TablesOutlastFailures = TablesLastWhere is_trusted
 

@@ -1,7 +1,7 @@
 -- A file that is only appended to and cut at its end, and what a crash leaves of it: this project's own.
 use Rattle.std.specs.Prelude.{◌≡◌, ◌⊎◌, ℕ, ◌≤◌, Bool, true, false, List, [], ◌∷◌, ◌++◌, length, take, drop, Option, Some, Result, Ok, Err}
 
--- one call that changed a file, or had it on the disk
+-- one call that changed a file, or synced it
 pub data Step : Type 0 where
   Append : (bytes : List ℕ) → Step
   Cut : (size : ℕ) → Step
@@ -23,7 +23,8 @@ abbrev pub behind : List ℕ → List Step → List ℕ
 behind held [] = held
 behind held (step ∷ steps) = behind (stepped held step) steps
 
--- what a crash in the course of a step finds: a front of what is appended, or at a cut some length between the two
+-- what a crash in the course of a step finds: what the file held with a front of what is appended; at a cut, a front of what the file held,
+-- of at least `size` bytes; at a sync, what the file held
 abbrev pub InPart : List ℕ → Step → List ℕ → Type 0
 InPart held (Append bytes) left = (k : ℕ) × (left ≡ held ++ take k bytes)
 InPart held (Cut size) left = (k : ℕ) × (size ≤ k) × (left ≡ take k held)
@@ -37,7 +38,7 @@ has_sync (Append bytes ∷ steps) = has_sync steps
 has_sync (Cut size ∷ steps) = has_sync steps
 
 -- what a crash may leave behind these steps: what the file holds now, or what it held in the course of a step with no sync behind it.
--- Outside of this is a crash that leaves bytes without those before them, since the system wrote pages back in another order
+-- Outside of this is a crash that leaves bytes without those before them, because the system wrote pages back in another order
 abbrev pub MayLeave : List ℕ → List Step → List ℕ → Type 0
 MayLeave held [] left = left ≡ held
 MayLeave held (step ∷ steps) left = ((has_sync (step ∷ steps) ≡ false) × InPart held step left) ⊎ MayLeave (stepped held step) steps left
@@ -54,7 +55,7 @@ IsKept life = (left : List ℕ) → MayLeave life.start life.steps left → left
 abbrev pub later_by : List Step → Life → Life
 later_by steps life = record { start = life.start; steps = life.steps ++ steps }
 
--- what is known of a file behind these steps, if anything was known before
+-- a file of which all was known is known still, with these steps at the end of its life
 abbrev pub Adds : Option Life → Option Life → List Step → Type 0
 Adds old new steps = (life : Life) → old ≡ Some life → new ≡ Some (later_by steps life)
 

@@ -5,6 +5,7 @@ use Rattle.gc_files.specs.Files.{Step}
 use Rattle.gc_files.specs.declared.past.Done.{Done}
 use Rattle.gc_files.specs.declared.past.Done.TheVariants.{Append, Sync, All}
 
+-- the steps that this stands for: that of a call, or all of another past
 abbrev pub steps_done : Done → List Step
 steps_done (Append bytes) = step.Append bytes.now ∷ []
 steps_done Sync = step.Sync ∷ []

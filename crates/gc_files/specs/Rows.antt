@@ -2,17 +2,17 @@
 use Rattle.std.specs.Prelude.{◌≡◌, ◌⊎◌, ℕ, ◌==◌, ◌&&◌, Bool, true, false, List, [], ◌∷◌, ◌++◌, length, take, if◌then◌else◌, Option, Some}
 use Rattle.gc_files.specs.Files.{Step, Append, Cut, Sync, Life, content, later_by}
 
--- a line feed is among them
+-- whether a line feed is among these bytes
 abbrev pub has_feed : List ℕ → Bool
 has_feed [] = false
 has_feed (b ∷ bs) = if b == 10 then true else has_feed bs
 
--- the whole rows: all up to the last line feed
+-- the whole rows: all through the last line feed
 abbrev pub whole : List ℕ → List ℕ
 whole [] = []
 whole (b ∷ bs) = if has_feed (b ∷ bs) then b ∷ whole bs else []
 
--- a row's line
+-- a row with its line feed
 abbrev pub line : List ℕ → List ℕ
 line row = row ++ 10 ∷ []
 
@@ -74,18 +74,19 @@ pub record IsFront (front all : List ℕ) : Type 0 where
   pub rest : List ℕ
   pub split : all ≡ front ++ rest
 
--- what a run did to a file that held this, as far as it came, with these bytes to append
+-- what a run did, as far as it came, to a file that held `held`: it mended the file, at least in part, and behind the whole mending appended
+-- a front of `all`
 abbrev pub ComesTo : List ℕ → List ℕ → List Step → Type 0
 ComesTo held all steps = Mending held steps ⊎ ((bytes : List ℕ) × Ran held steps bytes × IsFront bytes all)
 
--- an opening mended the file, which then has its head
+-- an opening mended the file, and wrote the head where no whole row was there
 abbrev pub Opens : List ℕ → Option Life → Option Life → Type 0
 Opens head old new = (life : Life) → old ≡ Some life → (steps : List Step) × (new ≡ Some (later_by steps life)) × Ran (content life) steps (start_of head (content life))
 
--- an opening failed, and did a part of that
+-- an opening did to the file what an opening does, as far as it came
 abbrev pub OpensInPart : List ℕ → Option Life → Option Life → Type 0
 OpensInPart head old new = (life : Life) → old ≡ Some life → (steps : List Step) × (new ≡ Some (later_by steps life)) × ComesTo (content life) (start_of head (content life)) steps
 
--- bytes were appended, in some pieces
+-- these bytes were appended, in some pieces, and nothing else was done but syncs
 abbrev pub PutsAll : Option Life → Option Life → List ℕ → Type 0
 PutsAll old new bytes = (life : Life) → old ≡ Some life → (steps : List Step) × (new ≡ Some (later_by steps life)) × Puts steps bytes

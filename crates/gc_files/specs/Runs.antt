@@ -11,7 +11,7 @@ synced (Append bytes ∷ steps) = if has_sync steps then bytes ++ synced steps e
 synced (Sync ∷ steps) = synced steps
 synced (Cut size ∷ steps) = synced steps
 
--- a run of a program: its rows without their line feeds, what it did to the file, how many rows it was told that they are
+-- a run of a program: its rows without their line feeds, what it did to the file, how many of its rows were reported to it as
 -- kept, and what the machine's crash left, where one ended it
 pub record Run : Type 0 where
   pub rows : List (List ℕ)
@@ -28,26 +28,28 @@ lines (row ∷ rows) = line row ++ lines rows
 abbrev pub AreRows : List (List ℕ) → Type 0
 AreRows rows = AllByRecursion (λ row. has_feed row ≡ false) rows
 
--- a head is no line or one
+-- a head is empty, or one line
 abbrev pub IsHead : List ℕ → Type 0
 IsHead head = (head ≡ []) ⊎ ((row : List ℕ) × (has_feed row ≡ false) × (head ≡ line row))
 
--- the rows were kept: those stood in the file, the head before them, when a sync was done
+-- the first `kept` rows were kept, or there are none of these: they were appended, the head before them, before the last sync
 abbrev pub WereKept : List ℕ → List ℕ → List (List ℕ) → ℕ → List Step → Type 0
 WereKept head held rows kept steps = (kept ≡ 0) ⊎ IsFront (start_of head held ++ lines (take kept rows)) (synced steps)
 
--- a run that found this in the file, as far as it came
+-- what a run can be, as far as it came, over a file that held this; those of its rows that count as kept were kept
 pub record IsRun (head held : List ℕ) (run : Run) : Type 0 where
   pub rows : AreRows run.rows
   pub steps : ComesTo held (start_of head held ++ lines run.rows) run.steps
   pub few : run.kept ≤ length run.rows
   pub kept : WereKept head held run.rows run.kept run.steps
 
--- the file's life once the run has ended: a crash of the machine leaves what it may leave, and that is on the disk
+-- the file's life once the run has ended: the life before with the run's steps; or, where a crash of the machine ended the run, a new life
+-- that starts with what the crash left
 abbrev pub lived : Life → Run → Option (List ℕ) → Life
 lived life run None = later_by run.steps life
 lived life run (Some left) = record { start = left; steps = [] }
 
+-- where a crash of the machine ended the run, it left what it may leave
 abbrev pub Ended : Life → Run → Option (List ℕ) → Type 0
 Ended life run None = Unit {0}
 Ended life run (Some left) = MayLeave life.start (life.steps ++ run.steps) left
@@ -57,6 +59,7 @@ abbrev pub Happen : List ℕ → Life → List Run → Type 0
 Happen head life [] = Unit {0}
 Happen head life (run ∷ runs) = IsRun head (content life) run × Ended life run run.left × Happen head (lived life run run.left) runs
 
+-- the file's life behind these runs
 abbrev pub life_after : Life → List Run → Life
 life_after life [] = life
 life_after life (run ∷ runs) = life_after (lived life run run.left) runs
@@ -74,7 +77,8 @@ Counts [] (n ∷ counts) = ⊥
 Counts (run ∷ runs) [] = ⊥
 Counts (run ∷ runs) (n ∷ counts) = (run.kept ≤ n) × (n ≤ length run.rows) × Counts runs counts
 
--- a file's table is what was there before, and behind it the rows of the runs in order, each once, none in part
+-- a file's table is what was there before, and behind it, for each run in order, its first rows: at least those that were kept, each once,
+-- none in part
 abbrev pub HasRows : List ℕ → List ℕ → List Run → List ℕ → Type 0
 HasRows head before runs held = (counts : List ℕ) × Counts runs counts × (table head held ≡ before ++ rows_of runs counts)
 

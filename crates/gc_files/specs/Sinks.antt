@@ -11,7 +11,7 @@ abbrev pub known_content : Option Life → Option (List ℕ)
 known_content None = None
 known_content (Some life) = Some (content life)
 
--- either a sync was made, or nothing
+-- the file's life is as it was, or has one sync more at its end
 abbrev pub KeepsAll : Option Life → Option Life → Type 0
 KeepsAll old new = (new ≡ old) ⊎ Adds old new (Sync ∷ [])
 
@@ -19,11 +19,11 @@ KeepsAll old new = (new ≡ old) ⊎ Adds old new (Sync ∷ [])
 abbrev pub life_in : {F : Type 0} {D : Ghosts F} → RowsFile F D → Option Life
 life_in {F} {D} sink = D.life sink.file
 
--- what was done to it since it was opened
+-- what was done to the file of a sink since it was opened
 abbrev pub steps_in : {F : Type 0} {D : Ghosts F} → RowsFile F D → List Step
 steps_in sink = sink.past.steps
 
--- what was appended to it since it was opened
+-- what was appended to the file of a sink since it was opened
 abbrev pub taken_in : {F : Type 0} {D : Ghosts F} → RowsFile F D → List ℕ
 taken_in sink = appended (steps_in sink)
 
@@ -31,14 +31,15 @@ taken_in sink = appended (steps_in sink)
 abbrev pub has_failed : {F : Type 0} {D : Ghosts F} → RowsFile F D → Bool
 has_failed sink = sink.broken
 
--- whether the sink was opened so that each `keep` syncs
+-- whether the sink was opened so that a sync of it syncs the file
 abbrev pub asks_sync : {F : Type 0} {D : Ghosts F} → RowsFile F D → Bool
 asks_sync sink = sink.sync
 
--- the head and the sign that the sink was opened with: what a new file gets first, and what such a file begins with
+-- the head that the sink was opened with: what a new file gets first
 abbrev pub head_in : {F : Type 0} {D : Ghosts F} → RowsFile F D → List ℕ
 head_in sink = sink.head.now
 
+-- the sign that the sink was opened with: what each such file begins with
 abbrev pub sign_in : {F : Type 0} {D : Ghosts F} → RowsFile F D → List ℕ
 sign_in sink = sink.sign.now
 
@@ -56,6 +57,6 @@ pub record IsOpenedAs {F : Type 0} {D : Ghosts F} (head sign : List ℕ) (sync :
 abbrev pub is_durable : {F : Type 0} {D : Ghosts F} → RowsFile F D → Bool
 is_durable sink = if sink.sync then not sink.unkept else true
 
--- a file of the system is in doubt
+-- whether a file of the system is in doubt
 abbrev pub is_in_doubt : SystemFile → Bool
 is_in_doubt file = file.doubted

@@ -13,17 +13,17 @@ use gc_lines::PortFailed;
 /// But a sync that failed leaves the file in doubt: the system may have dropped bytes that it couldn't write, still return them, and
 /// count them as written. No later sync of that file says that they are on the disk.
 pub trait Appending {
-    /// What it held when the machine started, and the calls since then.
+    /// What the file held when the machine started, and the calls since then.
     ghost life: { Self → Option Life };
 
-    /// It is in doubt.
+    /// Whether the file is in doubt.
     ghost doubted: { Self → Bool };
 
-    /// Whether it is in doubt: a sync of it failed, or may have.
+    /// Whether the file is in doubt: a sync of it failed, or may have.
     fn is_doubted(&self) -> bool
         ensures { result ≡ doubted self.now };
 
-    /// How many bytes it holds.
+    /// How many bytes the file holds.
     fn len(&self) -> Result<u64, PortFailed>
         ensures { IfOk result (λ n. (known : Life) → life self.now ≡ Some known → n ≡ length (content known)) };
 
@@ -34,7 +34,7 @@ pub trait Appending {
         ensures room { IfOk result (λ n. n ≤ length buf.new) }
         ensures bytes { IfOk result (λ n. (known : Life) → life self.now ≡ Some known → ReadsAt known at n buf.new) };
 
-    /// Cuts it to its first `len` bytes; it holds at least that many.
+    /// Cuts the file to its first `len` bytes; it holds at least that many.
     fn cut(&mut self, len: u64) -> Result<(), PortFailed>
         requires { (known : Life) → life self.old ≡ Some known → len ≤ length (content known) }
         ensures { Makes (life self.old) (life self.new) result (λ _. Cut len) };
@@ -45,7 +45,8 @@ pub trait Appending {
         ensures count { IfOk result (λ n. (0 < n) × (n ≤ length bytes.now)) }
         ensures step { Makes (life self.old) (life self.new) result (λ n. Append (take n bytes.now)) };
 
-    /// Syncs all that it holds: after `Ok` a crash leaves it, where the file wasn't in doubt. After an `Err` it is.
+    /// Syncs all that the file holds. After `Ok` a crash leaves all of it, unless the file was in doubt. After `Err` the file
+    /// is in doubt.
     fn sync(&mut self) -> Result<(), PortFailed>
         ensures durable { OnOk result (doubted self.old ≡ false → (known : Life) → life self.new ≡ Some known → IsKept known) }
         ensures doubt { OnErr result (doubted self.new ≡ true) }

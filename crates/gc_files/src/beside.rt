@@ -1,5 +1,6 @@
-//! What stands beside a file of rows: the mark `FILE.open`, from before the first row that a sync is to keep to a good end, and for a
-//! moment the copy `FILE.copy`. A start that finds the mark copies the file, since behind a failed sync no later one of it keeps anything.
+//! What stands beside a file of rows: the mark `FILE.open`, from before the first row that is to be synced until a good end,
+//! and for a moment the copy `FILE.copy`. A start that finds the mark copies the file, because after a failed sync no later
+//! sync of it counts.
 
 ghost use Rattle.std.specs.Prelude.{◌≡◌, [], true, false, Some, IfOk, OnOk, IsErrOf};
 ghost use Rattle.gc_files.specs.Files.{Life, content};
@@ -17,7 +18,7 @@ use std::io::ErrorKind;
 use std::path::Path;
 use std::rt::Files;
 
-// The paths of a file, as its links lead to it, of its mark, and of its copy.
+// Three paths: of a file, behind any links, of its mark, and of its copy.
 #[derive(Drop)]
 struct Beside {
     file: String,
@@ -26,6 +27,7 @@ struct Beside {
 }
 
 impl Beside {
+    // The three paths of the file that `path` leads to. `Failed`: the path can't be followed, or memory ran out.
     fn of<R: Files<File = File>>(rt: &R, alloc: Global, path: &str) -> Result<Beside, Unfit> {
         let Ok(file) = rt.canonicalize(alloc, path) else {
             return Err(Unfit::Failed);
@@ -40,6 +42,7 @@ impl Beside {
         }
     }
 
+    // Whether the mark is there.
     fn is_marked<R: Files<File = File>>(&self, rt: &R) -> Result<bool, Unfit> {
         match fs::metadata(rt, self.mark.as_str()) {
             Ok(_) => Ok(true),
@@ -48,7 +51,7 @@ impl Beside {
         }
     }
 
-    // Makes the mark, which is on the disk then with all names of its folder.
+    // Makes the mark, and syncs it and its folder: then the mark and all names of the folder are on the disk.
     fn mark<R: Files<File = File>>(&self, rt: &R) -> Result<(), Unfit> {
         let opened = OpenOptions::new()
             .write(true)
@@ -68,7 +71,7 @@ impl Beside {
         let _ = fs::remove_file(rt, self.mark.as_str());
     }
 
-    // A file that was opened, which is in doubt where it is marked.
+    // Gives back the file that was opened, in doubt where the mark is there.
     fn look<R: Files<File = File>>(&self, rt: &R, file: SystemFile) -> Result<SystemFile, Unfit> {
         if self.is_marked(rt)? {
             return Ok(file.doubt());
@@ -76,8 +79,8 @@ impl Beside {
         Ok(file)
     }
 
-    // The file that rows go on in, and how many lines were copied into it: of a file in doubt a copy, which has taken its place. Its name
-    // may not be on the disk yet.
+    // The file that takes further rows, and how many lines were copied into it. A copy takes the place of a file in doubt, and
+    // its name may not be on the disk yet. Any other file stays, with no line copied.
     fn trusted<R: Files<File = File>>(
         &self,
         rt: &R,
@@ -88,7 +91,7 @@ impl Beside {
         if !file.is_doubted() {
             return Ok((file, 0));
         }
-        // One that a start before this one didn't finish.
+        // A copy that an earlier start didn't finish.
         let _ = fs::remove_file(rt, self.copy.as_str());
         let fresh = file.fresh(rt, self.copy.as_str())?;
         match self.replace(rt, file, fresh) {
@@ -100,7 +103,8 @@ impl Beside {
         }
     }
 
-    // Copies a file into a fresh one, which then takes its place. Both are held, so that no other program gets in between.
+    // Copies a file into a fresh one, which then takes its place. It returns the fresh one, and how many lines were copied.
+    // Both are held, so that no other program gets in between.
     fn replace<R: Files<File = File>>(
         &self,
         rt: &R,
@@ -113,7 +117,7 @@ impl Beside {
         let Ok(lines) = copy_lines(&old, &mut fresh) else {
             return Err(Unfit::Failed);
         };
-        // What was moved here meanwhile isn't replaced.
+        // A file that was moved to this path meanwhile isn't replaced.
         if !old.is_at(rt, self.file.as_str()) {
             return Err(Unfit::Failed);
         }
@@ -139,7 +143,7 @@ fn sync_folder<R: Files<File = File>>(rt: &R, path: &str) -> Result<(), Unfit> {
     }
 }
 
-// Of a link, syncs the folder that the link stands in.
+// Syncs the folder that a symbolic link stands in, where the path is one.
 fn sync_link<R: Files<File = File>>(rt: &R, path: &str) -> Result<(), Unfit> {
     match fs::symlink_metadata(rt, path) {
         Ok(found) if found.is_symlink() => sync_folder(rt, path),
@@ -148,7 +152,7 @@ fn sync_link<R: Files<File = File>>(rt: &R, path: &str) -> Result<(), Unfit> {
     }
 }
 
-// Whether the last row of a file is torn. What hasn't the sign is refused.
+// Whether the last row of a file is torn. `Foreign`: the file neither begins with the sign nor is a front of it.
 fn look<F: Appending>(file: &F, sign: &[u8]) -> Result<bool, Refused>
     ensures taken { OnOk result ((known : Life) → F.life file.now ≡ Some known → fits sign.now (content known) ≡ true) }
     ensures why { IsErrOf result Refused.Foreign → (known : Life) → F.life file.now ≡ Some known → fits sign.now (content known) ≡ false }
@@ -168,7 +172,7 @@ fn look<F: Appending>(file: &F, sign: &[u8]) -> Result<bool, Refused>
     }
 }
 
-// How many rows stand among the lines of a file that begins with this head.
+// How many of a file's lines are rows: all but the head's, where the head isn't empty.
 fn rows_of(lines: u64, head: &[u8]) -> u64 {
     match head {
         [] => lines,
@@ -176,14 +180,15 @@ fn rows_of(lines: u64, head: &[u8]) -> u64 {
     }
 }
 
-/// Opens a file of rows by its path, as [`open_rows`] does, and locks it against other programs of this kind until it is dropped.
-/// Where the path is free, it makes the file.
+/// Opens a file of rows by its path, as [`open_rows`] does, and locks it against every other opening of it, by a program of
+/// this kind, until it is dropped. Where the path is free, it makes the file.
 ///
 /// With `sync` the file's name is on the disk, too, before anything is written into it. That holds also for a file that stood
-/// there, since who made it may not have synced its name. So is a mark beside the file, `FILE.open`, which [`end_at`] takes away.
+/// there, because whoever made it may not have synced its name. It holds, too, for a mark beside the file, `FILE.open`, which
+/// [`end_at`] takes away.
 ///
 /// Where a mark is found, an earlier run was killed, or a sync of it failed. Then what the file holds is copied to a new one, which
-/// is synced and takes its place; how many rows these were stands beside the file. A copy wants as much room as the file has.
+/// is synced and takes its place. The second result is how many rows were copied. A copy takes as much room as the file has.
 pub fn open_at<R: Files<File = File>>(
     rt: &R,
     alloc: Global,
@@ -198,14 +203,14 @@ pub fn open_at<R: Files<File = File>>(
 {
     let file = open_file(rt, path)?;
     file.hold()?;
-    // Who held it before may have put a copy in its place.
+    // Whoever held it before may have put a copy in its place.
     if !file.is_at(rt, path) {
         return Err(Unfit::Held);
     }
     let is_torn = look(&file, sign)?;
     let beside = Beside::of(rt, alloc, path)?;
     let file = beside.look(rt, file)?;
-    // Where a row is torn the opening syncs a cut.
+    // Where a row is torn, the opening cuts it off and syncs that: so this counts as a sync to come.
     let is_marked = sync || is_torn || file.is_doubted();
     let (file, lines) = beside.trusted(rt, file)?;
     if is_marked {
@@ -222,8 +227,9 @@ pub fn open_at<R: Files<File = File>>(
     Ok((rows, rows_of(lines, head)))
 }
 
-/// Ends the appending to a file that [`open_at`] opened at this path. Where all that it holds is on the disk, the mark beside it is
-/// taken away. Where the path leads elsewhere it stays, since it may be another program's.
+/// Ends the appending to a file that [`open_at`] opened at this path. Where the file was opened with `sync`, and all that it
+/// holds is on the disk, or is by one more sync, the mark beside it is taken away. Where the path leads elsewhere the mark
+/// stays, because it may be another program's.
 pub fn end_at<R: Files<File = File>>(
     rt: &R,
     alloc: Global,

@@ -9,7 +9,7 @@ use crate::appending::Appending;
 use crate::opening::{BLOCK, append_all, read_all};
 use gc_lines::PortFailed;
 
-// How many line feeds a byte is.
+// 1 for a line feed, and 0 for any other byte.
 fn feed_of(byte: u8) -> u64
     ensures { result ≡ feed_of byte }
 {
@@ -33,8 +33,8 @@ fn feeds_in(block: &[u8]) -> u64
     count
 }
 
-/// Appends all that a file holds to another one, syncs that, and returns how many lines it copied, each ended by a line feed. It
-/// fails where a call of a file failed, or where the file that takes the copy is in doubt; the first one is as it was.
+/// Appends all that `old` holds to `fresh`, syncs `fresh`, and returns how many lines were copied, each ended by a line feed. It
+/// fails where a call of a file failed, or where `fresh` is in doubt. `old` is as it was.
 pub fn copy_lines<F: Appending, G: Appending>(old: &F, fresh: &mut G) -> Result<u64, PortFailed>
     ensures copied { OnOk result ((known : Life) → F.life old.now ≡ Some known → PutsAll (G.life fresh.old) (G.life fresh.new) (content known)) }
     ensures kept { OnOk result ((made : Life) → G.life fresh.new ≡ Some made → IsKept made) }

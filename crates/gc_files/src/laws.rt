@@ -23,13 +23,13 @@ pub fn calls_are_runs()
 {}
 
 /// The table also stays over syncs that fail, after which the system may have dropped bytes that it still returns and counts as
-/// written, where no run goes on in such a file before a copy of it, which is synced, has taken its place.
+/// written. The premise is that no run goes on in such a file before a synced copy of it has taken its place.
 pub fn tables_outlast_failures()
     ensures { TablesOutlastFailures }
 {}
 
-/// Where a run goes on in a file in which a sync failed, it does not: a row that was kept, behind a later sync that went well, can be
-/// lost.
+/// Where runs go on in a file in which a sync failed, the table doesn't stay: a row that a later sync, which went well, was to keep
+/// can be lost.
 pub fn copies_are_needed()
     ensures { CopiesAreNeeded }
 {}

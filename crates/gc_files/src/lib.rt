@@ -6,8 +6,8 @@
 //! - [`open_rows`] touches only a file that begins with the sign, or is a front of it. It cuts off a torn last row, and counts
 //!   its bytes. It writes the head where no whole row stands, and nowhere else. The sink says with which head and sign it was
 //!   opened, also where the file is one of the system.
-//! - What `write` acknowledged is in the file, in order. A sink over a file of the system tells it, too ([`RowsFile::past`]). After [`RowsFile::keep`] a crash leaves it, where the file was opened
-//!   with `sync`.
+//! - What `write` acknowledged is in the file, in order. A sink over a file of the system says so, too ([`RowsFile::past`]). After
+//!   a sync of the sink a crash leaves it, where the file was opened with `sync`.
 //! - Over any runs and crashes ([`laws::tables_last`]) the next opening makes of the file the table that was there before and,
 //!   for each run in order, the first rows of its own: at least those that were kept, each once, none in part. Without
 //!   `sync` a crash of the machine may take the last rows of a run, and those behind them, but never one in between.
@@ -26,7 +26,7 @@
 //!   feed.
 //!
 //! Outside of that are: an append that failed and wrote a part, and a cut that failed and was made; and a crash that leaves bytes
-//! without those before them, since the system wrote pages back in another order. A sink appends nothing behind a failed call, and
+//! without those before them, because the system wrote pages back in another order. A sink appends nothing behind a failed call, and
 //! the next opening cuts off half a row. No clause says when a file can be opened, which path is refused, and whether a path leads
 //! to a file; nor that the mark by which [`open_at`] knows a file in doubt is there, and that a copy takes a file's place in one
 //! step.

@@ -20,8 +20,8 @@ pub enum Call {
     Sync,
 }
 
-/// A file in memory: what it held at first, each call since, and what it holds. It takes so many bytes and no more, as a disk
-/// does that is full then. Its syncs can be made to fail.
+/// A file in memory: what it held at first, each call since, and what it holds. It takes `room` more bytes, and then appends fail,
+/// as on a full disk. Its syncs can be made to fail.
 #[derive(Drop)]
 pub struct MemoryFile {
     alloc: Global,
@@ -32,12 +32,12 @@ pub struct MemoryFile {
     // Whether its syncs fail, and whether one did.
     fails: bool,
     doubted: bool,
-    // What it holds is what the calls made of what it held.
+    // The calls made `bytes` out of `start`.
     ghost same: { bytes.items ≡ content (life_by start.items calls.items) },
 }
 
 impl MemoryFile {
-    /// A file that holds these bytes, all of them on the disk, and has room for `room` more. `None` where memory is wanting.
+    /// A file that holds these bytes, all of them on the disk, and has room for `room` more. `None` where memory was refused.
     pub fn new(alloc: Global, start: &[u8], room: usize) -> Option<MemoryFile> {
         let (Ok(first), Ok(bytes)) = (start.to_vec(alloc), start.to_vec(alloc)) else {
             return None;
@@ -53,18 +53,18 @@ impl MemoryFile {
         })
     }
 
-    /// Its syncs fail from now on.
+    /// Makes each sync of the file fail from now on.
     pub fn fail_syncs(&mut self) {
         self.fails = true;
     }
 
-    /// What it holds.
+    /// The bytes that the file holds.
     pub fn bytes(&self) -> &[u8] {
         &self.bytes
     }
 }
 
-// Notes a call, and replaces what the file held by what it holds then.
+// Notes a call that leaves `next` in the file, and puts `next` there. It fails, and changes nothing, where memory was refused.
 fn note(
     calls: &mut Vec<Call>,
     bytes: &mut Vec<u8>,
@@ -111,6 +111,7 @@ impl Appending for MemoryFile {
         note(&mut self.calls, &mut self.bytes, Call::Cut(len), next)
     }
 
+    // Appends as many bytes as there is room for. It fails where there is no room, or memory was refused.
     fn append(&mut self, bytes: &[u8]) -> Result<usize, PortFailed> {
         let n = bytes.len().min(self.room);
         if n == 0 {
@@ -134,6 +135,7 @@ impl Appending for MemoryFile {
         }
     }
 
+    // Fails, and leaves the file in doubt, where its syncs were made to fail, or memory was refused.
     fn sync(&mut self) -> Result<(), PortFailed> {
         let next = self.bytes.to_vec(self.alloc);
         let (false, Ok(next)) = (self.fails, next) else {

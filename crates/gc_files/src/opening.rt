@@ -25,7 +25,7 @@ pub enum Refused {
     Failed,
 }
 
-// What is behind the first `at` bytes.
+// The bytes behind the first `at`.
 fn behind(bytes: &[u8], at: usize) -> &[u8]
     requires { at ≤ length bytes.now }
     ensures { result.now ≡ drop at bytes.now }
@@ -42,7 +42,7 @@ fn is_front(text: &[u8], piece: &[u8]) -> bool
     &text[..piece.len()] == piece
 }
 
-// Fills the buffer with what stands behind the first `at` bytes.
+// Fills the buffer with the file's bytes behind the first `at`. It fails where a read failed or gave nothing.
 pub(crate) fn read_all<F: Appending>(file: &F, at: u64, buf: &mut [u8]) -> Result<(), PortFailed>
     requires room { at + length buf.old < 2 ^ 64 }
     requires known { (known : Life) → F.life file.now ≡ Some known → at + length buf.old ≤ length (content known) }
@@ -98,7 +98,7 @@ fn whole_len(block: &[u8]) -> usize
     }
 }
 
-// Where the last whole row of the first `len` bytes ends: behind their last line feed. The blocks are read from the end.
+// Where the last whole row of a file of `len` bytes ends: behind its last line feed, or at 0 without one. The blocks are read from the end.
 pub(crate) fn end_of_rows<F: Appending>(file: &F, len: u64) -> Result<u64, PortFailed>
     requires { (known : Life) → F.life file.now ≡ Some known → len ≡ length (content known) }
     ensures within { IfOk result (λ end. end ≤ len) }
@@ -123,7 +123,8 @@ pub(crate) fn end_of_rows<F: Appending>(file: &F, len: u64) -> Result<u64, PortF
     Ok(0)
 }
 
-// Cuts the file to its first `end` bytes where it has more, and syncs that before anything is appended.
+// Cuts a file of `len` bytes to its first `end`, and syncs that cut before anything is appended. Where they are all, it does
+// nothing.
 fn repair<F: Appending>(file: &mut F, len: u64, end: u64) -> Result<(), PortFailed>
     requires len { (known : Life) → F.life file.old ≡ Some known → len ≡ length (content known) }
     requires end { (known : Life) → F.life file.old ≡ Some known → end ≡ length (whole (content known)) }
@@ -153,7 +154,7 @@ pub(crate) fn append_all<F: Appending>(file: &mut F, bytes: &[u8]) -> Result<(),
     Ok(())
 }
 
-// Cuts off what stands behind the last whole row, and writes the head where there is none.
+// Cuts off what stands behind the last whole row, and writes the head where there is no whole row.
 fn mend<F: Appending>(file: &mut F, len: u64, end: u64, head: &[u8]) -> Result<(), PortFailed>
     requires len { (known : Life) → F.life file.old ≡ Some known → len ≡ length (content known) }
     requires end { (known : Life) → F.life file.old ≡ Some known → end ≡ length (whole (content known)) }
@@ -174,7 +175,8 @@ fn mend<F: Appending>(file: &mut F, len: u64, end: u64, head: &[u8]) -> Result<(
     }
 }
 
-// Looks at the file, cuts it, and writes the head into an empty one. It returns how many bytes were cut off.
+// Looks for the sign, cuts off what stands behind the last whole row, and writes the head where there is no whole row. It returns
+// how many bytes were cut off.
 fn prepare<F: Appending>(file: &mut F, head: &[u8], sign: &[u8]) -> Result<u64, Refused>
     ensures opened { OnOk result (Opens head.now (F.life file.old) (F.life file.new)) }
     ensures torn { IfOk result (λ torn. (known : Life) → F.life file.old ≡ Some known → length (content known) ≡ length (whole (content known)) + torn) }
@@ -206,7 +208,7 @@ fn prepare<F: Appending>(file: &mut F, head: &[u8], sign: &[u8]) -> Result<u64, 
 /// behind the last line feed, and writes `head` into a file that is empty then. An `Err` hands the file back.
 ///
 /// For a table, `head` and `sign` are its header. For rows without a header, `head` is empty, and `sign` is what each row
-/// begins with. With `sync` what is appended is on the disk after each [`RowsFile::keep`].
+/// begins with. With `sync` what is appended is on the disk after each sync of the sink.
 ///
 /// A file that is in doubt is refused, and not touched: [`copy_lines`](crate::copy_lines) makes one of it that isn't.
 pub fn open_rows<F: Appending>(
@@ -224,11 +226,11 @@ pub fn open_rows<F: Appending>(
     ensures trusted { OnOk result (F.doubted file ≡ false) }
     ensures fresh { IfOk result (λ rows. steps_in rows ≡ []) }
 
-    // What hasn't the sign is refused, and only that; it was not touched.
+    // `Foreign`: the file neither begins with the sign nor is a front of it, and was not touched.
     ensures foreign { IfErr result (λ why. why.0 ≡ Foreign → F.life why.1 ≡ F.life file) }
     ensures why { IfErr result (λ why. why.0 ≡ Foreign → (known : Life) → F.life file ≡ Some known → fits sign.now (content known) ≡ false) }
 
-    // Where a call of the file failed, it is mended as far as that came; but one without the sign was not touched, whatever is told.
+    // Where a call of the file failed, the file may be mended in part. A file without the sign was not touched, whatever the error.
     ensures failed { IfErr result (λ why. OpensInPart head.now (F.life file) (F.life why.1)) }
     ensures untouched { IfErr result (λ why. (known : Life) → F.life file ≡ Some known → fits sign.now (content known) ≡ false → F.life why.1 ≡ F.life file) }
 {

@@ -1,4 +1,5 @@
-//! What was done to a file since it was opened. It stands in proofs alone: no code reads it, and it takes no memory.
+//! The past of a file: what was done to it since it was opened. It is there for proofs alone: no code reads it, and it takes
+//! no memory.
 
 ghost use Rattle.std.specs.Prelude.{◌≡◌, [], ◌++◌, List};
 ghost use base.Fml.{ftrue};
@@ -30,14 +31,14 @@ pub enum Done<'a> {
 impl Past {
     ghost use Rattle.gc_files.specs.Noted.{steps_done};
 
-    /// No call yet.
+    /// The past of a file that was just opened: no call was made since then.
     pub fn new() -> Past
         ensures { result.steps ≡ [] }
     {
         Past {}
     }
 
-    /// The past with this behind it. Its calls are ghost, so there is nothing to copy.
+    /// The past with `_done` behind it. Its calls are ghost, so there is nothing to copy.
     pub fn then(&self, _done: &Done<'_>) -> Past
         ensures { result.steps ≡ self.now.steps ++ steps_done _done.now }
     {

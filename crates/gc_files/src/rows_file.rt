@@ -12,15 +12,15 @@ use crate::appending::Appending;
 use crate::past::{Done, Past};
 use gc_lines::{Durable, PortFailed, Sink};
 
-/// A file that rows are appended to, as a sink. What was appended since it was opened counts as taken, of a file of the system, too.
-/// After a failure it stays failed, so that no row stands behind half of another.
+/// A file that rows are appended to, as a sink. What was appended since its opening counts as taken, also over a file of the
+/// system. After a failure it stays failed, so that no row stands behind half of another.
 #[derive(Drop)]
 pub struct RowsFile<F: Appending> {
     file: F,
     // What a new file of its rows gets first, and what each such file begins with.
     head: &'static [u8],
     sign: &'static [u8],
-    // Whether what is appended is to be on the disk before `keep` ends.
+    // Whether a sync of the sink has what was appended on the disk before it ends.
     sync: bool,
     // How many bytes of a torn last row the opening cut off.
     torn: u64,
@@ -29,9 +29,9 @@ pub struct RowsFile<F: Appending> {
     broken: bool,
     // What was done to the file since it was opened: in proofs alone.
     past: Past,
-    // Since then it was appended to and synced, and no more.
+    // Since its opening the file was only appended to and synced.
     ghost only_appends: { cuts_none past.steps ≡ true },
-    // Where `unkept` is false, all that was appended since then stands before a sync.
+    // Where `unkept` is false, all that was appended since the opening was appended before a sync.
     ghost kept: { unkept ≡ false → synced past.steps ≡ appended past.steps },
     // Where `unkept` is false, all that the file holds is on the disk.
     ghost durable: { unkept ≡ false → (known : Life) → F.life file ≡ Some known → IsKept known },
@@ -40,7 +40,8 @@ pub struct RowsFile<F: Appending> {
 impl<F: Appending> RowsFile<F> {
     ghost use Rattle.gc_files.specs.Sinks.{life_in, has_failed, torn_in, asks_sync, is_durable, head_in, sign_in, steps_in, taken_in, IsOpenedAs};
 
-    // A sink over a file that ends in a whole row, or has none. What it holds may not be on the disk yet.
+    // A sink over a file that ends in a whole row, or has none, after its opening cut off `torn` bytes. What the file holds may
+    // not be on the disk yet.
     pub(crate) fn new(
         file: F,
         head: &'static [u8],
@@ -80,21 +81,22 @@ impl<F: Appending> RowsFile<F> {
         self.sign
     }
 
-    /// Whether each row is on the disk once it is kept.
+    /// Whether the file was opened with `sync`, so that each sync of the sink has on the disk what was appended before it.
     pub fn is_synced(&self) -> bool
         ensures { result ≡ asks_sync self.now }
     {
         self.sync
     }
 
-    /// How many bytes of a torn last row were cut off as it was opened.
+    /// How many bytes of a torn last row the opening of the file cut off.
     pub fn torn(&self) -> u64
         ensures { result ≡ torn_in self.now }
     {
         self.torn
     }
 
-    // Its file, and whether all that this holds is on the disk, also behind a failed write: what may not be is synced.
+    // Gives the file back, and says whether all that it holds is on the disk. Where some of it may not be, the file is synced
+    // first, also behind a failed write, unless the file is in doubt.
     pub(crate) fn settle(self) -> (F, bool)
         ensures { IsTrue result.1 → (known : Life) → F.life result.0 ≡ Some known → IsKept known }
     {
@@ -127,7 +129,7 @@ impl<F: Appending> RowsFile<F> {
         &self.past
     }
 
-    /// The file behind it. Where the sink lasts and was opened with `sync`, a crash leaves all that was taken.
+    /// The file behind the sink. Where the sink is durable and was opened with `sync`, a crash leaves all that was taken.
     pub fn file(&self) -> &F
         ensures is { F.life result.now ≡ life_in self.now }
         ensures is_durable { is_durable self.now ≡ true → asks_sync self.now ≡ true → (known : Life) → life_in self.now ≡ Some known → IsKept known }
@@ -147,7 +149,7 @@ impl<F: Appending> Sink for RowsFile<F> {
         requires { 0 < length bytes.now }
         ensures bytes { TakesBytes (Some (taken_in self.old)) (Some (taken_in self.new)) result bytes.now }
         ensures fails { Fails (has_failed self.old) (has_failed self.new) result }
-        // One piece is appended, and none where it failed; and that is noted.
+        // One piece is appended and noted, or none where the call failed.
         ensures content { TakesBytes (known_content (life_in self.old)) (known_content (life_in self.new)) result bytes.now }
         ensures step { Makes (life_in self.old) (life_in self.new) result (λ n. Append (take n bytes.now)) }
         ensures noted { Notes (steps_in self.old) (steps_in self.new) result (λ n. Append (take n bytes.now)) }
@@ -201,7 +203,7 @@ impl<F: Appending> Durable for RowsFile<F> {
         if !self.sync || !self.unkept {
             return Ok(());
         }
-        // What is in doubt no sync makes to last.
+        // No sync of a file in doubt says that its bytes are on the disk.
         if self.file.is_doubted() {
             self.broken = true;
             return Err(PortFailed);

@@ -18,11 +18,11 @@ pub enum Unfit {
     /// there, or the system doesn't let this program use it. Nothing was touched. Where the path was free, an empty file may
     /// stand there.
     Unopened,
-    /// Another program holds it. Nothing was touched.
+    /// Another program, or another opening of this one, holds it. Nothing was touched.
     Held,
     /// It holds something else than such rows. It was not touched.
     Foreign,
-    /// A call of the system failed: the file could not be read, cut, written or synced. Each whole row stands.
+    /// A call of the system failed: the file could not be locked, read, cut, written or synced. Each whole row stands.
     Failed,
 }
 
@@ -45,8 +45,8 @@ pub struct SystemFile {
 }
 
 impl SystemFile {
-    /// Locks it against other programs of this kind until it is dropped: `Held` where one of them has it, and `Failed` where its
-    /// file system has no locks.
+    /// Locks the file against every other opening of it, by a program of this kind, until it is dropped: `Held` where another one
+    /// holds it, and `Failed` where it can't be locked, as on a file system without locks.
     pub fn hold(&self) -> Result<(), Unfit> {
         match self.file.try_lock() {
             Ok(()) => Ok(()),
@@ -98,7 +98,7 @@ impl SystemFile {
     }
 }
 
-// Every error of the system is a failure of the file.
+// The answer, with a failure of the file in place of any error of the system.
 fn failed<T>(answer: io::Result<T>) -> Result<T, PortFailed> {
     answer.map_err(|_| PortFailed)
 }
@@ -145,7 +145,7 @@ impl Appending for SystemFile {
 }
 
 // Refuses a path that leads to anything but a regular file; a path that leads to nothing passes. It looks before the file is opened,
-// since opening a device can already act on it.
+// because opening a device can already act on it.
 fn expect_file<R: Files<File = File>>(rt: &R, path: &str) -> Result<(), Unfit> {
     match fs::metadata(rt, path) {
         Ok(found) if found.is_file() => Ok(()),

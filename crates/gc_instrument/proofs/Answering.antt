@@ -27,38 +27,42 @@ use Rattle.gc_instrument.specs.State.{State, IsFittingState}
 use Rattle.gc_instrument.specs.Execution.{Executed, Executes, exec}
 use Rattle.gc_instrument.specs.Replying.{IsReplied, silent, answers, AnswersCall, repeats, executes, AnswersRequest, refuses, answers_call, AppendsCall, AppendsReply, IsAnswered, IsExchanged, Handed, handed, again_or_new, kept_line, with_kept, reading_of, refusal_line, executed_line, reply_id}
 
--- the line of a call that was carried out
+-- the line written of a call's outcome is the line of carrying out the call
 pub executed_is : (before after : State) (call : Call) (number code places : ℕ) (answer : Answer) → Executes before call after code answer
     → places ≡ after.precision → reply_line number code answer places ≡ executed_line number (exec before call)
 executed_is before after call number code places answer done precision =
     ap (λ n. reply_line number code answer n) precision ∙ sym (ap (λ (x : Executed). executed_line number x) done)
 
--- a request that names no call
+-- a request that names no call gets the refusal's line, and changes nothing
 pub refused_reply : (state : State) (q : RequestFields) (fault : CallFault) (number : ℕ) (line : List ℕ)
     → IsRefusal q.rpc q.params fault → number ≡ reply_id q → line ≡ refusal_line number fault → AnswersRequest state q state line
 refused_reply state q fault number line is same made = refuses fault is refl (made ∙ ap (λ n. refusal_line n fault) same)
 
--- a line that reads as a request
+-- the answer to a request that a line reads as is the reply to the line
 pub request_replied : (before after : State) (line bytes : List ℕ) (q : RequestFields) (text : List ℕ) → bytes ≡ line → IsRequest bytes q
     → AnswersRequest before q after text → IsReplied before line after (Some text)
 request_replied before after line bytes q text same is made = answers q (subst (λ (x : List ℕ). IsRequest x q) same is) text made refl
 
--- a line that doesn't
+-- a line that doesn't read as a request gets no reply
 pub silence_replied : (state : State) (line bytes : List ℕ) (fault : LineFault) (view : Request → RequestFields) → bytes ≡ line
     → ((q : RequestFields) → IsRequest bytes q → Gives view (Err fault) (Ok q)) → IsReplied state line state None
 silence_replied state line bytes fault view same only =
     silent (λ q is. let wrong : ◌≡◌ {A = Result RequestFields LineFault} (Ok q) (Err fault) = only q (subst (λ (x : List ℕ). IsRequest x q) (sym same) is) in cc) refl refl
 
+-- a number is 0 or isn't
 zero_or_more : (n : ℕ) → (n ≡ 0) ⊎ (n ≢ 0)
 zero_or_more zero = inl refl
 zero_or_more (suc n) = inr (λ h. omega (arith, h))
 
+-- the choice by a number that is 0
 at_zero : (n : ℕ) (a b : Reading) → n ≡ 0 → (if n == 0 then a else b) ≡ a
 at_zero n a b h = ap (λ (m : ℕ). if m == 0 then a else b) h
 
+-- the choice by a number that isn't 0
 past_zero : (n : ℕ) (a b : Reading) → n ≢ 0 → (if n == 0 then a else b) ≡ b
 past_zero n a b h = ap (λ (t : Bool). cond t a b) (ne_eqb n 0 h)
 
+-- an outcome's line that reads back as the outcome's reading answers the call
 reads_as : (before : State) (number : ℕ) (call : Call) (x : Executed) (reading : Reading) → exec before call ≡ x → reading_of x ≡ reading
     → ReadsBackAnswer call number x.rc x.answer x.state.precision reading → IsAnswered before number call (executed_line number x)
 reads_as before number call x reading e same back = record {
@@ -77,7 +81,7 @@ reads_executed before number call x e done refused = elim (zero_or_more x.rc) [
   | inr h ↦ reads_as before number call x (Refused x.rc) e (past_zero x.rc _ _ h) (refused h)
 ]
 
--- the same where the line was made of the answer's parts
+-- a line that was written of a call's code and answer, and reads back, says of its call what carrying it out gave
 pub made_answered : (before after : State) (call : Call) (number code places : ℕ) (answer : Answer) → Executes before call after code answer → places ≡ after.precision
     → (code ≡ 0 → IsAnswerOf call answer → ReadsBackAnswer call number code answer places (Value (rounded_answer places answer)))
     → (code ≢ 0 → ReadsBackAnswer call number code answer places (Refused code))
@@ -90,17 +94,18 @@ made_answered before after call number code places answer done precision back re
     let whole : reply_line number code answer places ≡ executed_line number x = ap (λ (p : ℕ). reply_line number code answer p) precision in
     subst (λ (l : List ℕ). IsAnswered before number call l) (sym whole) (reads_executed before number call x done value refusal)
 
--- a request line that reads as a request is the call's
+-- what a call's request line reads as is the call's request
 pub read_of : (line : List ℕ) (q : RequestFields) (id : ℕ) (call : Call) → id < 8 → IsFitting call → line ≡ request_line (Some id) call → IsRequest line q → q ≡ request_of (Some id) call
 read_of line q id call small fits e is =
     one_request line q (request_of (Some id) call) is
     (subst (λ (x : List ℕ). IsRequest x (request_of (Some id) call)) (sym e) (request_found (request_line (Some id) call) (request_of (Some id) call) (call_again (Some id) call small fits).line))
 
--- a request with the kept id, and one with another
+-- handing over a request with the kept id gives the kept line, and changes nothing
 pub handed_again : (s : State) (id : ℕ) (call : Call) (line : List ℕ) → kept_line s.kept (Some id) ≡ Some line → handed s id call ≡ record { state = s; reply = line; executed = false }
 unfolding handed
 handed_again s id call line e = ap (again_or_new s id call) e
 
+-- handing over a request with another id gives the line of carrying out its call
 pub handed_new : (s : State) (id : ℕ) (call : Call) → kept_line s.kept (Some id) ≡ None → handed s id call ≡ again_or_new s id call None
 unfolding handed
 handed_new s id call e = ap (again_or_new s id call) e
@@ -117,7 +122,7 @@ handed_does before after id call text (executes e state line) =
       line ∙ sym (ap (λ (x : Handed State). x.reply) h),
     )
 
--- what came of a call's own request
+-- the answer to a call's own request exchanges the call
 pub exchanged : (before after : State) (q : RequestFields) (id : ℕ) (call : Call) (text : List ℕ) → q.id ≡ Some id → IsCall q.rpc q.params call
     → AnswersRequest before q after text → IsPlain text → (kept_line before.kept q.id ≡ None → IsAnswered before (reply_id q) call text) → IsExchanged before id call after (Some text)
 exchanged before after q id call text same is (refuses fault refusal state line) plain answered = absurd (no_refusal q.rpc q.params call fault is refusal)
@@ -135,7 +140,7 @@ exchanged before after q id call text same is (answers_call made is_made does) p
           (subst (λ (n : ℕ). IsAnswered before n call text) (ap (λ (o : Option ℕ). unwrap_or o 0) same) (answered (ap (kept_line before.kept) same ∙ new)));
     }
 
--- handing a call's request line to an instrument in a state that fits
+-- in a state that fits, the line of carrying out a call answers the call
 pub executed_answered : (s : State) (id : ℕ) (call : Call) → IsFittingState s → id < 8 → IsFitting call → IsAnswered s id call (executed_line id (exec s call))
 executed_answered s id call good small fits =
     let x = exec s call in
@@ -146,15 +151,16 @@ executed_answered s id call good small fits =
     (λ h. subst (λ (a : Answer). ReadsBackAnswer call id x.rc a x.state.precision (Refused x.rc)) (sym (outcome.refuses h))
     (refusal_again call id x.rc x.state.precision small (omega (arith, h)) outcome.code))
 
+-- in a state that fits, handing over a request whose id isn't the kept one answers the call
 pub handed_answered : (s : State) (id : ℕ) (call : Call) → IsFittingState s → id < 8 → IsFitting call → kept_line s.kept (Some id) ≡ None → IsAnswered s id call (handed s id call).reply
 handed_answered s id call good small fits new =
     subst (λ (h : Handed State). IsAnswered s id call h.reply) (sym (handed_new s id call new)) (executed_answered s id call good small fits)
 
--- the line of a call's request reads as a request
+-- the line of a call's request reads as that request
 own_request : (id : ℕ) (call : Call) → id < 8 → IsFitting call → IsRequest (request_line (Some id) call) (request_of (Some id) call)
 own_request id call small fits = request_found (request_line (Some id) call) (request_of (Some id) call) (call_again (Some id) call small fits).line
 
--- a call's own line, where it read as a request
+-- the answer to the request that a call's own line reads as exchanges the call
 pub line_exchanged : (before after : State) (line bytes : List ℕ) (q : RequestFields) (id : ℕ) (call : Call) (text : List ℕ) → bytes ≡ line
     → IsRequest bytes q → id < 8 → IsFitting call → line ≡ request_line (Some id) call
     → AnswersRequest before q after text → ((d : Call) → IsCall q.rpc q.params d → IsPlain text)
@@ -164,7 +170,7 @@ line_exchanged before after line bytes q id call text same is small fits own mad
     let call_is : IsCall q.rpc q.params call = subst (λ (p : RequestFields). IsCall p.rpc p.params call) (sym q_is) (call_again (Some id) call small fits).is_call in
     exchanged before after q id call text (ap (λ (p : RequestFields). p.id) q_is) call_is made (plain call call_is) (answered call call_is)
 
--- a request line always reads as a request, so one that doesn't isn't exchanged
+-- where a line didn't read as a request, nothing is left to show of a call whose line it is: each call's own line does read as one
 pub silence_exchanged : (state : State) (line bytes : List ℕ) (fault : LineFault) (view : Request → RequestFields) (id : ℕ) (call : Call) → bytes ≡ line
     → ((q : RequestFields) → IsRequest bytes q → Gives view (Err fault) (Ok q)) → id < 8 → IsFitting call → line ≡ request_line (Some id) call → IsExchanged state id call state None
 silence_exchanged state line bytes fault view id call same only small fits own =
@@ -173,29 +179,32 @@ silence_exchanged state line bytes fault view id call same only small fits own =
     let never : ⊥ = cc in
     absurd never
 
--- handing a call's request line to an instrument has the call's reply
+-- a line is kept, or none is
 pub kept_or_not : (o : Option (List ℕ)) → ((line : List ℕ) × (o ≡ Some line)) ⊎ (o ≡ None)
 kept_or_not (Some line) = inl (line, refl)
 kept_or_not None = inr refl
 
+-- handing over a call's request is what an instrument does with the call
 pub handed_answers : (s : State) (id : ℕ) (call : Call) → AnswersCall s (Some id) call (handed s id call).state (handed s id call).reply
 handed_answers s id call = elim (kept_or_not (kept_line s.kept (Some id))) [
   | inl h ↦ subst (λ (x : Handed State). AnswersCall s (Some id) call x.state x.reply) (sym (handed_again s id call h.0 h.1)) (repeats h.1 refl)
   | inr e ↦ subst (λ (x : Handed State). AnswersCall s (Some id) call x.state x.reply) (sym (handed_new s id call e)) (executes e refl refl)
 ]
 
+-- handing over a call's request line is what an instrument does with that line
 pub handed_replied : (s : State) (id : ℕ) (call : Call) → id < 8 → IsFitting call → IsReplied s (request_line (Some id) call) (handed s id call).state (Some (handed s id call).reply)
 handed_replied s id call small fits =
     answers (request_of (Some id) call) (own_request id call small fits) (handed s id call).reply (answers_call call (call_again (Some id) call small fits).is_call (handed_answers s id call)) refl
 
--- what was appended to nothing is what stands there
+-- where a reply was appended to the empty text, the text is then that reply
 pub replied_alone : (s t : State) (line new : List ℕ) → AppendsAnswer (IsReplied s line t) [] new true → IsReplied s line t (Some new)
 replied_alone s t line new h = subst (λ (text : List ℕ). IsReplied s line t (Some text)) (sym h.2) h.1
 
+-- where a reply that exchanges a call was appended to the empty text, the text is then a reply that does
 pub exchanged_alone : (s t : State) (id : ℕ) (call : Call) (new : List ℕ) → AppendsAnswer (IsExchanged s id call t) [] new true → IsExchanged s id call t (Some new)
 exchanged_alone s t id call new h = subst (λ (text : List ℕ). IsExchanged s id call t (Some text)) (sym h.2) h.1
 
--- a request that names a call
+-- the reply to a call that a request names is the reply to the request
 pub request_call : (before after : State) (q : RequestFields) (call : Call) (old new : List ℕ) → IsCall q.rpc q.params call
     → AppendsCall before q.id call after old new → AppendsReply before q after old new
 request_call before after q call old new is h = record {

@@ -23,6 +23,7 @@ use Rattle.gc_instrument.specs.declared.face.Face.{Face}
 use Rattle.gc_instrument.specs.declared.face.Face.TheVariants.{Normal, Turned}
 use Rattle.gc_instrument.specs.declared.target.Target.{Target}
 
+-- a call that was carried out comes out, where the instrument stays itself, its values fit, and the answer is the call's
 done_outcome : (s t : State) (call : Call) (a : Answer) → opening_of t ≡ opening_of s → (IsFittingState s → IsFittingState t) → IsAnswerOf call a
     → (IsFittingState s → IsFitting call → IsFittingAnswer a) → ComesOut s call (done t a)
 done_outcome s t call a same fits of_call answer_fits = record {
@@ -34,6 +35,7 @@ done_outcome s t call a same fits of_call answer_fits = record {
   answer_fits = answer_fits;
 }
 
+-- a call that was refused comes out, where the instrument stays itself and its values fit
 refused_outcome : (s t : State) (call : Call) (code : ℕ) → opening_of t ≡ opening_of s → (IsFittingState s → IsFittingState t) → 0 < code → code < 65536 → ComesOut s call (refused t code)
 refused_outcome s t call code same fits some small = record {
   same = same;
@@ -44,11 +46,11 @@ refused_outcome s t call code same fits some small = record {
   answer_fits = λ _ _. tt;
 }
 
--- a call that only answers
+-- a call that only answers comes out
 told_outcome : (s : State) (call : Call) (a : Answer) → IsAnswerOf call a → (IsFittingState s → IsFitting call → IsFittingAnswer a) → ComesOut s call (done s a)
 told_outcome s call a of_call answer_fits = done_outcome s s call a refl (λ f. f) of_call answer_fits
 
--- the facts on a state stand in these parts of it
+-- a state with the same precision, serial number, name, date, prism type and kept reply fits where the other does
 moved : (s t : State) → s.precision ≡ t.precision → s.serial ≡ t.serial → s.name ≡ t.name → s.date ≡ t.date → s.prism ≡ t.prism → s.kept ≡ t.kept → IsFittingState s → IsFittingState t
 moved s t p n l d r k f = record {
   precision = subst (λ (x : ℕ). x ≤ 15) p f.precision;
@@ -59,15 +61,18 @@ moved s t p n l d r k f = record {
   kept = subst IsFittingKept k f.kept;
 }
 
+-- a call that sets a value, if that is allowed, comes out
 set_outcome : (b : Bool) (s t : State) (call : Call) → opening_of t ≡ opening_of s → (b ≡ true → IsFittingState s → IsFittingState t) → IsAnswerOf call Nothing → ComesOut s call (set_if b s t)
 set_outcome true s t call same fits of_call = done_outcome s t call Nothing same (fits refl) of_call (λ _ _. tt)
 set_outcome false s t call same fits of_call = refused_outcome s s call 2 refl (λ f. f) (omega arith) (omega arith)
 
+-- a call that answers with a distance, or has none, comes out
 with_outcome : (s t : State) (call : Call) (answer_with : Decimal → Answer) (d : Option Decimal) → opening_of t ≡ opening_of s → (IsFittingState s → IsFittingState t)
     → ((x : Decimal) → IsAnswerOf call (answer_with x)) → ((x : Decimal) → IsFitting call → IsFittingAnswer (answer_with x)) → ComesOut s call (told t answer_with d)
 with_outcome s t call answer_with (Some d) same fits of_call answer_fits = done_outcome s t call (answer_with d) same fits (of_call d) (λ _ c. answer_fits d c)
 with_outcome s t call answer_with None same fits of_call answer_fits = refused_outcome s t call 1285 same fits (omega arith) (omega arith)
 
+-- measuring as commanded comes out
 commanded_outcome : (s : State) (call : Call) (command : ℤ) → IsAnswerOf call Nothing → ComesOut s call (commanded s command)
 commanded_outcome s call command of_call = by_tests (int_eq command (pos 0)) (int_eq command (pos 1)) (int_eq command (pos 3)) where
   by_tests : (a b c : Bool) → ComesOut s call (cond a (done s Nothing) (cond b (done (measured s) Nothing) (cond c (done (unmeasured s) Nothing) (refused s 2))))
@@ -76,10 +81,12 @@ commanded_outcome s call command of_call = by_tests (int_eq command (pos 0)) (in
   by_tests false false true = done_outcome s (unmeasured s) call Nothing refl (moved s (unmeasured s) refl refl refl refl refl refl) of_call (λ _ _. tt)
   by_tests false false false = refused_outcome s s call 2 refl (λ f. f) (omega arith) (omega arith)
 
+-- pointing at a target that was met, or at none, comes out
 adjusted_outcome : (s : State) (call : Call) (t : Option Target) → IsAnswerOf call Nothing → ComesOut s call (adjusted s t)
 adjusted_outcome s call (Some t) of_call = done_outcome s (pointed s t.hz t.v) call Nothing refl (moved s (pointed s t.hz t.v) refl refl refl refl refl refl) of_call (λ _ _. tt)
 adjusted_outcome s call None of_call = refused_outcome s s call 8710 refl (λ f. f) (omega arith) (omega arith)
 
+-- looking for a target within areas comes out
 searched_outcome : (s : State) (call : Call) (area_hz area_v : Decimal) → IsAnswerOf call Nothing → ComesOut s call (searched s area_hz area_v)
 searched_outcome s call area_hz area_v of_call = by_test (int_lt area_hz.digits (pos 0) || int_lt area_v.digits (pos 0)) where
   by_test : (b : Bool) → ComesOut s call (cond b (refused s 2) (adjusted s (first_within s.pointing area_hz area_v s.scene)))
@@ -88,25 +95,31 @@ searched_outcome s call area_hz area_v of_call = by_test (int_lt area_hz.digits 
 
 -- what the tests say
 
+-- where both of two tests hold, the first does
 first : (a b : Bool) → a && b ≡ true → a ≡ true
 first true b h = refl
 first false b h = let wrong : ⊥ = cc in absurd wrong
 
+-- where both of two tests hold, the second does
 second : (a b : Bool) → a && b ≡ true → b ≡ true
 second true b h = h
 second false b h = let wrong : ⊥ = cc in absurd wrong
 
+-- where the test of a ≤ b is true, a is at most b
 at_most : (a b : ℕ) → nat_le a b ≡ true → a ≤ b
 at_most a b h = lit≤ (subst T (sym h) tt)
 
+-- a precision that is allowed is at most 15
 precision_few : (n : ℤ) → is_precision n ≡ true → unsigned_abs n ≤ 15
 precision_few (pos k) h = at_most k 15 (second (nat_le 0 k) (nat_le k 15) h)
 precision_few (negsuc k) h = let wrong : ⊥ = cc in absurd wrong
 
+-- a year from 1 to 9999 fits in a Short
 short_fits : (z : ℤ) → int_le (pos 1) z ≡ true → int_le z (pos 9999) ≡ true → FitsShort z
 short_fits (pos k) low high = let few : k ≤ 9999 = at_most k 9999 high in (omega (arith, ints), omega (arith, ints, few))
 short_fits (negsuc k) low high = let wrong : ⊥ = cc in absurd wrong
 
+-- where all tests of a date hold, each that its values' ranges need does
 tests : (a b c d e f g h i : Bool) → a && b && c && d && e && f && g && h && i ≡ true
     → (a ≡ true) × (b ≡ true) × (d ≡ true) × (f ≡ true) × (g ≡ true) × (h ≡ true) × (i ≡ true)
 tests a b c d e f g h i all =
@@ -138,14 +151,17 @@ date_fits d h =
     let second = at_most d.second 59 t.6 in
     (short_fits d.year t.0 t.1, (omega (arith, month), (omega (arith, day), (omega (arith, hour), (omega (arith, minute), (omega (arith, second), tt))))))
 
+-- a face's number fits in a Long
 face_fits : (f : Face) → FitsLong (face_number f)
 face_fits Normal = (omega (arith, ints), omega (arith, ints))
 face_fits Turned = (omega (arith, ints), omega (arith, ints))
 
+-- a prism type that is allowed fits in a Long
 prism_fits : (n : ℤ) → is_prism n ≡ true → FitsLong n
 prism_fits (pos k) h = let few : k ≤ 2147483647 = at_most k 2147483647 (second (nat_le 0 k) (nat_le k 2147483647) h) in (omega (arith, ints), omega (arith, ints, few))
 prism_fits (negsuc k) h = let wrong : ⊥ = cc in absurd wrong
 
+-- a precision of at most 15 fits in a Short
 precision_fits : (n : ℕ) → n ≤ 15 → FitsShort (pos n)
 precision_fits n h = (omega (arith, ints), omega (arith, ints, h))
 
@@ -153,20 +169,22 @@ precision_fits n h = (omega (arith, ints), omega (arith, ints, h))
 pub restarted_fits : (s : State) → IsFittingState s → IsFittingState (restarted s)
 restarted_fits s f = record { precision = f.precision; serial = f.serial; name = f.name; date = date_fits first_date refl; prism = (omega (arith, ints), omega (arith, ints)); kept = tt }
 
--- a new precision, a new date, and a new prism type
+-- a state that fits does so with a new precision that is allowed
 precise : (s : State) (n : ℤ) → is_precision n ≡ true → IsFittingState s → IsFittingState (record s { precision = unsigned_abs n })
 precise s n h f = record { precision = precision_few n h; serial = f.serial; name = f.name; date = f.date; prism = f.prism; kept = f.kept }
 
+-- a state that fits does so with a new date that the clock takes
 dated : (s : State) (d : DateTime) → is_date d ≡ true → IsFittingState s → IsFittingState (record s { date = d })
 dated s d h f = record { precision = f.precision; serial = f.serial; name = f.name; date = date_fits d h; prism = f.prism; kept = f.kept }
 
+-- a state that fits does so with a new prism type that is allowed
 prismed : (s : State) (n : ℤ) → is_prism n ≡ true → IsFittingState s → IsFittingState (record s { prism = n })
 prismed s n h f = record { precision = f.precision; serial = f.serial; name = f.name; date = f.date; prism = prism_fits n h; kept = f.kept }
 
 -- what the rows of the table are made of
 ruleset row_rules = (told_outcome, done_outcome, set_outcome, with_outcome, commanded_outcome, searched_outcome, moved, precise, dated, prismed, face_fits, precision_fits, arith)
 
--- every call's execution is one; a new row is made of the same, so it needs nothing here
+-- every call comes out in every state. A new row is made of the same parts, so it needs nothing here
 pub exec_outcome : (s : State) (call : Call) → ComesOut s call (exec s call)
 unfolding exec
 exec_outcome s NullProc = search row_rules

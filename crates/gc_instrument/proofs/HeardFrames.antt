@@ -19,12 +19,12 @@ use Rattle.gc_instrument.specs.Replying.{IsReplied}
 use Rattle.gc_instrument.specs.Hearing.{Hears, replies_text}
 use Rattle.gc_instrument.specs.Serving.{AnswersFrame, ServesAll, ServesPart, Serves}
 
--- a line's reply was appended, and its CR LF behind it
+-- appending a line's reply, and CR LF behind it, is how an instrument answers the frame of that line
 pub answered_line : (before after : State) (line old between new : List ℕ) → AppendsAnswer (IsReplied before line after) old between true → new ≡ between ++ 13 ∷ 10 ∷ []
     → AppendsAnswer (AnswersFrame before (Line (record { items = line })) after) old new true
 answered_line before after line old between new h e = (with_end h.0, (Some h.0, h.1, refl), e ∙ ap (λ (xs : List ℕ). xs ++ 13 ∷ 10 ∷ []) h.2 ∙ append_assoc old h.0 (13 ∷ 10 ∷ []))
 
--- a line without a reply
+-- a line without a reply is answered by nothing
 pub unanswered_line : (before after : State) (line old new : List ℕ) → AppendsAnswer (IsReplied before line after) old new false
     → AppendsAnswer (AnswersFrame before (Line (record { items = line })) after) old new false
 unanswered_line before after line old new h = ((None, h.0, refl), h.1)
@@ -33,16 +33,18 @@ unanswered_line before after line old new h = ((None, h.0, refl), h.1)
 abbrev pub lines_of : List Frame → List (List ℕ)
 lines_of seen = filter_map line_in seen
 
+-- a function goes over an optional element in front of a list and over the list alike
 mapped : {X Y : Type 0} (f : X → Y) (o : Option X) (xs : List X) → option_to_list (option_map f o) ++ map f xs ≡ map f (option_to_list o ++ xs)
 mapped f None xs = refl
 mapped f (Some x) xs = refl
 
--- what frames were heard as, and what was written for them
+-- what the lines of frames were heard as, and that the texts are the replies with their CR LF
 record Heard (s t : State) (seen : List Frame) (texts : List (List ℕ)) : Type 0 where
   replies : List (List ℕ)
   hears : Hears s (lines_of seen) t replies
   texts_are : texts ≡ map with_end replies
 
+-- frames that are heard are so, too, with one more line in front, whose reply comes in front of theirs
 heard_line : (s u t : State) (line : List ℕ) (reply text : Option (List ℕ)) (later : List Frame) (rest texts : List (List ℕ)) → IsReplied s line u reply → text ≡ option_map with_end reply
     → Heard u t later rest → texts ≡ option_to_list text ++ rest → Heard s t (Line (record { items = line }) ∷ later) texts
 heard_line s u t line reply text later rest texts replied text_is h are = record {
@@ -52,7 +54,7 @@ heard_line s u t line reply text later rest texts replied text_is h are = record
       ∙ ap (λ (ts : List (List ℕ)). option_to_list (option_map with_end reply) ++ ts) h.texts_are ∙ mapped with_end reply h.replies;
 }
 
--- a frame that is no line
+-- frames that are heard are so, too, with a frame in front that is no line and changes nothing
 heard_silence : (s u t : State) (text : Option (List ℕ)) (seen : List Frame) (rest texts : List (List ℕ)) → u ≡ s → text ≡ None → Heard u t seen rest
     → texts ≡ option_to_list text ++ rest → Heard s t seen texts
 heard_silence s u t text seen rest texts same none h are = record {
@@ -61,6 +63,7 @@ heard_silence s u t text seen rest texts same none h are = record {
   texts_are = are ∙ ap (λ (o : Option (List ℕ)). option_to_list o ++ rest) none ∙ h.texts_are;
 }
 
+-- frames that have the same lines are heard alike
 silent_frame : (s u t : State) (seen more : List Frame) (texts : List (List ℕ)) → lines_of more ≡ lines_of seen → Heard s t seen texts → Heard s t more texts
 silent_frame s u t seen more texts same h = record {
   replies = h.replies;
@@ -68,6 +71,7 @@ silent_frame s u t seen more texts same h = record {
   texts_are = h.texts_are;
 }
 
+-- frames that an instrument answered in order are lines that it heard, and the texts are their replies
 heard : (s t : State) (seen : List Frame) (texts : List (List ℕ)) → AnswersInOrder State AnswersFrame s seen t texts → Heard s t seen texts
 heard s t [] texts h = record { replies = []; hears = (h.0, refl); texts_are = h.1 }
 heard s t (Line line ∷ later) texts h = heard_line s h.0 t line.items h.3.0 h.1 later h.2 texts h.3.1 h.3.2 (heard h.0 t later h.2 h.4) h.5
@@ -75,14 +79,17 @@ heard s t (Cleared ∷ later) texts h = silent_frame s t t later (Cleared ∷ la
 heard s t (Overlong ∷ later) texts h = silent_frame s t t later (Overlong ∷ later) texts refl (heard_silence s h.0 t h.1 later h.2 texts h.3.0 h.3.1 (heard h.0 t later h.2 h.4) h.5)
 heard s t (More ∷ later) texts h = silent_frame s t t later (More ∷ later) texts refl (heard_silence s h.0 t h.1 later h.2 texts h.3.0 h.3.1 (heard h.0 t later h.2 h.4) h.5)
 
+-- replies with their CR LF, one behind the other, are the replies as they are written
 written_as : (replies : List (List ℕ)) → all_of (map with_end replies) ≡ replies_text replies
 written_as [] = refl
 written_as (reply ∷ later) = ap (λ (bytes : List ℕ). with_end reply ++ bytes) (written_as later)
 
+-- a function over a list keeps its length
 length-mapped : {X Y : Type 0} (f : X → Y) (xs : List X) → length (map f xs) ≡ length xs
 length-mapped f [] = refl
 length-mapped f (x ∷ xs) = ap suc (length-mapped f xs)
 
+-- frames that were all answered are lines that were all served
 all_serves : (s t : State) (seen : List Frame) (a b : Option (List ℕ)) (i j : ℕ) → AnswersAll AnswersFrame s t seen a b i j → ServesAll s t (lines_of seen) a b i j
 all_serves s t seen a b i j all =
     let h = heard s t seen all.texts all.answers in
@@ -101,20 +108,24 @@ record Drawn (s t : State) (frame : Frame) (text : List ℕ) : Type 0 where
   replied : IsReplied s line t (Some reply)
   text_is : text ≡ with_end reply
 
+-- a line whose text goes out has a reply, and the text is that with its CR LF
 drawn_line : (s t : State) (line : List ℕ) (reply : Option (List ℕ)) (text : List ℕ) → IsReplied s line t reply
     → ◌≡◌ {A = Option (List ℕ)} (Some text) (option_map with_end reply) → Drawn s t (Line (record { items = line })) text
 drawn_line s t line None text replied is = let wrong : ⊥ = cc in absurd wrong
 drawn_line s t line (Some reply) text replied is = record { line = line; reply = reply; is_line = λ later. refl; replied = replied; text_is = cc }
 
+-- a text that is there isn't missing
 never : (text : List ℕ) → ◌≡◌ {A = Option (List ℕ)} (Some text) None → ⊥
 never text is = cc
 
+-- a frame whose text goes out is a line with a reply
 drawn : (s t : State) (frame : Frame) (text : List ℕ) → AnswersFrame s frame t (Some text) → Drawn s t frame text
 drawn s t (Line line) text h = drawn_line s t line.items h.0 text h.1 h.2
 drawn s t Cleared text h = absurd (never text h.1)
 drawn s t Overlong text h = absurd (never text h.1)
 drawn s t More text h = absurd (never text h.1)
 
+-- frames that were answered up to a part of a text are lines that were served up to a part of a reply
 part_serves : (s t : State) (seen : List Frame) (a b : Option (List ℕ)) (i j bytes : ℕ) → AnswersPart AnswersFrame s t seen a b i j bytes → ServesPart s t (lines_of seen) a b i j bytes
 part_serves s t seen a b i j bytes part =
     let h = heard s part.state part.earlier part.texts part.answers in
@@ -135,14 +146,14 @@ part_serves s t seen a b i j bytes part =
           ∙ ap (λ (xs : List ℕ). replies_text h.replies ++ take bytes xs) d.text_is) part.took;
     }
 
--- the whole result
+-- answering the frames with some result is serving their lines with that result
 pub serves_frames : (s t : State) (seen : List Frame) (a b : Option (List ℕ)) (r : Result Served ServeFault) → AnswersFrames AnswersFrame s t seen a b r → Serves s t (lines_of seen) a b r
 serves_frames s t seen a b (Ok served) h = all_serves s t seen a b 0 served.replies h
 serves_frames s t seen a b (Err (Read n)) h = all_serves s t seen a b 0 n h
 serves_frames s t seen a b (Err (Write n bytes)) h = part_serves s t seen a b 0 n bytes h
 serves_frames s t seen a b (Err (TooManyReads n)) h = all_serves s t seen a b 0 n h
 
--- a stream behind a line feed
+-- the lines of a stream that ends in a line feed, and of another behind it, are those of the one and then those of the other
 pub lines-next : (first next : List ℕ) → rest_of first ≡ [] → lines (first ++ next) ≡ lines first ++ lines next
 lines-next first next none =
     ap lines_of (frames-append first next) ∙ filter_map-append line_in (frames first) (frames_behind (rest_behind [] first) next)

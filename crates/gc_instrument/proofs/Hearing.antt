@@ -8,7 +8,7 @@ use Rattle.gc_instrument.specs.State.{State}
 use Rattle.gc_instrument.specs.Replying.{IsReplied}
 use Rattle.gc_instrument.specs.Hearing.{Hears, replies_text}
 
--- lines after lines
+-- hearing lines, and then others from the state behind them, is hearing all of them
 pub hears_then : (s t u : State) (xs ys ps qs : List (List ℕ)) → Hears s xs t ps → Hears t ys u qs → Hears s (xs ++ ys) u (ps ++ qs)
 hears_then s t u [] ys ps qs first next =
     rw first.1 (subst (λ (v : State). Hears v ys u qs) first.0 next)
@@ -21,9 +21,10 @@ hears_then s t u (x ∷ xs) ys ps qs first next = (
   ap (λ (zs : List (List ℕ)). zs ++ qs) first.5 ∙ append_assoc (option_to_list first.1) first.2 qs,
 )
 
--- one line
+-- hearing one line is replying to it
 pub hears_one : (s t : State) (line : List ℕ) (reply : Option (List ℕ)) → IsReplied s line t reply → Hears s (line ∷ []) t (option_to_list reply)
 hears_one s t line reply h = (t, reply, [], h, (refl, refl), sym (append-nil (option_to_list reply)))
 
+-- replies are written one behind the other
 pub replies_text-append : (xs ys : List (List ℕ)) → replies_text (xs ++ ys) ≡ replies_text xs ++ replies_text ys
 replies_text-append xs ys = flat_map-append with_end xs ys

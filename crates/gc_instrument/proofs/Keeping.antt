@@ -19,45 +19,54 @@ use Rattle.gc_instrument.specs.State.{State, KeptReply, IsFittingState, IsFittin
 use Rattle.gc_instrument.specs.Targets.{first_within}
 use Rattle.gc_instrument.specs.declared.target.Target.{Target}
 
+-- the id of what is kept is the id that was put there
 pub id_kept : (id : Option ℕ) (line : List ℕ) → id ≡ option_map (λ (k : KeptReply). k.id) (kept_in id line)
 id_kept None line = refl
 id_kept (Some id) line = refl
 
--- no id is asked for, none is kept, and the two are the same or not
+-- without an id no kept line is found
 pub none_asked : (kept : Option KeptReply) (id : Option ℕ) → id ≡ None → None ≡ kept_line kept id
 none_asked None id e = refl
 none_asked (Some k) None e = refl
 none_asked (Some k) (Some n) e = let never : ⊥ = cc in absurd never
 
+-- where nothing is kept, no kept line is found
 pub none_kept : (id asked : Option ℕ) (line : List ℕ) → id ≡ None → None ≡ kept_line (kept_in id line) asked
 none_kept None asked line e = refl
 none_kept (Some n) asked line e = let never : ⊥ = cc in absurd never
 
+-- a choice by a test is that by the test's answer
 by_test : (b : Bool) (o p : Option (List ℕ)) (c : Bool) → b ≡ c → cond c o p ≡ cond b o p
 by_test b o p c e = ap (λ x. cond x o p) (sym e)
 
+-- where the id asked for is the kept one, the kept line is found
 pub same_kept : (id asked : Option ℕ) (k n : ℕ) (line : List ℕ) → id ≡ Some k → asked ≡ Some n → eqb k n ≡ true → Some line ≡ kept_line (kept_in id line) asked
 same_kept id asked k n line e f same =
     subst (λ o. Some line ≡ kept_line (kept_in o line) asked) (sym e) (subst (λ o. Some line ≡ kept_line (Some (record { id = k; line = line })) o) (sym f)
     (by_test (eqb k n) (Some line) None true same))
 
+-- where the id asked for isn't the kept one, no kept line is found
 pub other_kept : (id asked : Option ℕ) (k n : ℕ) (line : List ℕ) → id ≡ Some k → asked ≡ Some n → eqb k n ≡ false → None ≡ kept_line (kept_in id line) asked
 other_kept id asked k n line e f other =
     subst (λ o. None ≡ kept_line (kept_in o line) asked) (sym e) (subst (λ o. None ≡ kept_line (Some (record { id = k; line = line })) o) (sym f) (by_test (eqb k n) (Some line) None false other))
 
 -- What is kept doesn't count for a call. Each of these begins with what came of it, from which the search knows the rest.
 
+-- setting a value doesn't depend on what is kept
 set_apart : (b : Bool) (s t : State) (kept : Option KeptReply) → executed_with kept (set_if b s t) ≡ set_if b (with_kept kept s) (with_kept kept t)
 set_apart true s t kept = refl
 set_apart false s t kept = refl
 
+-- answering with a distance doesn't depend on what is kept
 told_apart : (s : State) (kept : Option KeptReply) (answer_with : Decimal → Answer) (d : Option Decimal) → executed_with kept (told s answer_with d) ≡ told (with_kept kept s) answer_with d
 told_apart s kept answer_with None = refl
 told_apart s kept answer_with (Some d) = refl
 
+-- the outcomes of a measuring command by which of its tests holds
 abbrev rows : State → Bool → Bool → Bool → Executed
 rows t a b c = cond a (done t Nothing) (cond b (done (measured t) Nothing) (cond c (done (unmeasured t) Nothing) (refused t 2)))
 
+-- measuring as commanded doesn't depend on what is kept
 commanded_apart : (s : State) (kept : Option KeptReply) (command : ℤ) → executed_with kept (commanded s command) ≡ commanded (with_kept kept s) command
 commanded_apart s kept command = by_tests (int_eq command (pos 0)) (int_eq command (pos 1)) (int_eq command (pos 3)) where
   by_tests : (a b c : Bool) → executed_with kept (rows s a b c) ≡ rows (with_kept kept s) a b c
@@ -66,10 +75,12 @@ commanded_apart s kept command = by_tests (int_eq command (pos 0)) (int_eq comma
   by_tests false false true = refl
   by_tests false false false = refl
 
+-- pointing at a target that was met doesn't depend on what is kept
 adjusted_apart : (s : State) (kept : Option KeptReply) (t : Option Target) → executed_with kept (adjusted s t) ≡ adjusted (with_kept kept s) t
 adjusted_apart s kept None = refl
 adjusted_apart s kept (Some t) = refl
 
+-- looking for a target doesn't depend on what is kept
 searched_apart : (s : State) (kept : Option KeptReply) (area_hz area_v : Decimal) → executed_with kept (searched s area_hz area_v) ≡ searched (with_kept kept s) area_hz area_v
 searched_apart s kept area_hz area_v = by_test (int_lt area_hz.digits (pos 0) || int_lt area_v.digits (pos 0)) where
   by_test : (b : Bool) → executed_with kept (cond b (refused s 2) (adjusted s (first_within s.pointing area_hz area_v s.scene))) ≡ cond b
@@ -80,25 +91,28 @@ searched_apart s kept area_hz area_v = by_test (int_lt area_hz.digits (pos 0) ||
 -- what the rows of the table are made of
 ruleset apart_rules = (set_apart, told_apart, commanded_apart, searched_apart)
 
+-- no call's outcome depends on what is kept. A new row is made of the same parts, so it needs nothing here
 by_rows : (s : State) (kept : Option KeptReply) (call : Call) → executed_with kept (exec s call) ≡ exec (with_kept kept s) call
 unfolding exec
 by_rows s kept NullProc = refl
 by_rows s kept call = search apart_rules
 
--- a new row is made of the same, so it needs nothing here
+-- the reply that is kept neither counts for a call nor is changed by it
 pub executes_apart : ExecutesApart
 executes_apart s kept call = sym (by_rows s kept call)
 
 -- What is kept of an execution.
 
+-- carrying out a call leaves what is kept
 kept_stays : (s : State) (call : Call) → (exec s call).state.kept ≡ s.kept
 kept_stays s call = ap (λ (x : Executed). x.state.kept) (executes_apart s s.kept call)
 
+-- what stands behind a front is what was appended to it
 drop-append : (old text : List ℕ) → drop (length old) (old ++ text) ≡ text
 drop-append [] text = refl
 drop-append (b ∷ old) text = drop-append old text
 
--- what stands behind what stood there
+-- the bytes from the old length on are what was appended
 behind_it : (old new text : List ℕ) (start : ℕ) → new ≡ old ++ text → start ≡ length old → take (length new - start) (drop start new) ≡ text
 behind_it old new text start is first =
     let whole : drop start new ≡ text = ap (λ n. drop n new) first ∙ ap (drop (length old)) is ∙ drop-append old text in
@@ -106,16 +120,19 @@ behind_it old new text start is first =
     let enough : length new - start ≡ length text = omega (arith, size, first) in
     ap (take (length new - start)) whole ∙ ap (λ n. take n text) enough ∙ take_all (length text) text (omega arith)
 
+-- the bytes from the old length on, of a list that equals the new one, are what was appended
 pub behind : (old new all text : List ℕ) (start : ℕ) → all ≡ new → new ≡ old ++ text → start ≡ length old → take (length all - start) (drop start all) ≡ text
 behind old new all text start same is first = ap (λ xs. take (length xs - start) (drop start xs)) same ∙ behind_it old new text start is first
 
+-- the reply's id is the request's, where there is one
 number_is : (id : Option ℕ) (n number : ℕ) → id ≡ Some n → number ≡ unwrap_or id 0 → number ≡ n
 number_is id n number e same = same ∙ ap (λ o. unwrap_or o 0) e
 
+-- a state that fits does so with a reply kept that fits
 pub fits_kept : (s : State) (kept : Option KeptReply) → IsFittingState s → IsFittingKept kept → IsFittingState (with_kept kept s)
 fits_kept s kept h k = record { precision = h.precision; serial = h.serial; name = h.name; date = h.date; prism = h.prism; kept = k }
 
--- an instrument that keeps it is one
+-- keeping a reply to a request with its id leaves the instrument fit, and what is kept plain
 pub sound_keeping : (s : State) (id : Option ℕ) (kept : Option KeptReply) (number : ℕ) (line : List ℕ) (fields : ReplyFields) → IsFittingState s
     → IsPlainKept s.kept → kept ≡ kept_after s.kept id line → number ≡ unwrap_or id 0
     → IsReply line fields → fields.id ≡ Some number → IsPlain line → IsFittingState (with_kept kept s) × IsPlainKept kept
@@ -126,7 +143,7 @@ sound_keeping s (Some n) kept number line fields h plain is same reply own one =
   subst IsPlainKept (sym is) one,
 )
 
--- a call that was carried out, and its reply kept
+-- carrying out a call whose id isn't kept, and keeping the reply, is what an instrument does with the call
 pub kept_anew : (before after : State) (id : Option ℕ) (number : ℕ) (call : Call) (old new line : List ℕ) (kept : Option KeptReply) → number ≡ unwrap_or id 0 → kept_line before.kept id ≡ None
     → (h : AppendsExecuted before number call after old new) → line ≡ h.text → kept ≡ kept_after after.kept id line → AppendsCall before id call (with_kept kept after) old new
 kept_anew before after id number call old new line kept same none h line_is kept_is =

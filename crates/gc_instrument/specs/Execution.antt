@@ -14,79 +14,81 @@ use Rattle.gc_instrument.specs.State.{State}
 use Rattle.gc_instrument.specs.Targets.{first_at, first_within}
 use Rattle.gc_instrument.specs.declared.target.Target.{Target}
 
--- the state after a call, with the return code and the answer
+-- what comes of a call: the state after it, the return code and the answer
 pub record Executed : Type 0 where
   pub state : State
   pub rc : ℕ
   pub answer : Answer
 
--- the call was carried out
+-- the outcome of a call that was carried out, with code 0
 abbrev pub done : State → Answer → Executed
 done s a = record { state = s; rc = 0; answer = a }
 
--- the call was refused with this code, and is answered by nothing
+-- the outcome of a call that was refused with this code, and is answered by nothing
 abbrev pub refused : State → ℕ → Executed
 refused s code = record { state = s; rc = code; answer = answer.Nothing }
 
--- the new state where the call's values are allowed, else the manual's "invalid parameter"
+-- the outcome of a call that sets values: the new state where these are allowed (true), else the old one and code 2, the manual's "invalid
+-- parameter"
 abbrev pub set_if : Bool → State → State → Executed
 set_if true old new = done new answer.Nothing
 set_if false old new = refused old 2
 
--- an answer with the distance, and 1285 where there is none
+-- the outcome of a call that asks for the distance: code 0 and the answer made of it, or code 1285 alone where there is no distance
 abbrev pub told : State → (Decimal → Answer) → Option Decimal → Executed
 told s answer_with (Some d) = done s (answer_with d)
 told s answer_with None = refused s 1285
 
--- numbers of places that a precision can be
+-- whether a precision can be this number of places: 0 to 15
 abbrev pub is_precision : ℤ → Bool
 is_precision n = int_le (pos 0) n && int_le n (pos 15)
 
--- numbers that a prism type can have: a Long that is at least 0
+-- whether a prism type can have this number: a Long that is at least 0
 abbrev pub is_prism : ℤ → Bool
 is_prism n = int_le (pos 0) n && int_le n (pos 2147483647)
 
--- a date and time that the clock takes; lengths of months aren't looked at
+-- whether the clock takes this date and time; lengths of months aren't looked at
 abbrev pub is_date : DateTime → Bool
 is_date d =
     int_le (pos 1) d.year && int_le d.year (pos 9999) && nat_le 1 d.month && nat_le d.month 12 && nat_le 1 d.day && nat_le d.day 31
     && nat_le d.hour 23 && nat_le d.minute 59 && nat_le d.second 59
 
--- the distance is that of the first target where the telescope points, if there is one
+-- the state with the distance of the first target exactly where the telescope points, or with none without a target
 abbrev pub measured : State → State
 measured s = record s { distance = option_map (λ t. t.distance) (first_at s.pointing s.scene) }
 
--- there is no distance
+-- the state without a distance
 abbrev pub unmeasured : State → State
 unmeasured s = record s { distance = None }
 
--- the telescope points there, and there is no distance
+-- the state in which the telescope points there, without a distance
 abbrev pub pointed : State → Decimal → Decimal → State
 pointed s hz v = record s { pointing = record { hz = hz; v = v }; distance = None }
 
--- the telescope is turned over, and there is no distance
+-- the state in which the telescope is turned over, without a distance
 abbrev pub turned_over : State → State
 turned_over s = record s { face = turned s.face; distance = None }
 
--- measuring as commanded: 0 does nothing, 1 measures, 3 clears
+-- the outcome of measuring as commanded: 0 does nothing, 1 measures, 3 clears the distance, and another command is refused with code 2
 abbrev pub commanded : State → ℤ → Executed
 commanded s command =
     if int_eq command (pos 0) then done s answer.Nothing
     else (if int_eq command (pos 1) then done (measured s) answer.Nothing
     else (if int_eq command (pos 3) then done (unmeasured s) answer.Nothing else refused s 2))
 
--- pointing at the target that was met, and 8710 where there is none
+-- the outcome of looking for a target: code 0, pointing at the target that was met, or code 8710 where none was
 abbrev pub adjusted : State → Option Target → Executed
 adjusted s (Some t) = done (pointed s t.hz t.v) answer.Nothing
 adjusted s None = refused s 8710
 
--- looking for a target within the areas; neither may be below zero
+-- the outcome of looking for a target within the areas: code 2 where one of the areas is below zero, and else as `adjusted` has it, by the
+-- first target within them
 abbrev pub searched : State → Decimal → Decimal → Executed
 searched s area_hz area_v =
     if int_lt area_hz.digits (pos 0) || int_lt area_v.digits (pos 0) then refused s 2
     else adjusted s (first_within s.pointing area_hz area_v s.scene)
 
--- the call carried out in this state
+-- what comes of carrying out the call in this state
 unfoldable pub exec : State → Call → Executed
 exec s call.NullProc = done s answer.Nothing
 exec s (call.SetPrecision n) = set_if (is_precision n) s (record s { precision = unsigned_abs n })
@@ -115,7 +117,7 @@ exec s (call.Position hz v pos_mode atr_mode dummy) = done (pointed s hz v) answ
 exec s (call.ChangeFace pos_mode atr_mode dummy) = done (turned_over s) answer.Nothing
 exec s (call.FineAdjust area_hz area_v dummy) = searched s area_hz area_v
 
--- this state, return code and answer are what came of it
+-- the outcome is this state, return code and answer
 abbrev pub Gives : Executed → State → ℕ → Answer → Type 0
 Gives x after code said = x ≡ record { state = after; rc = code; answer = said }
 

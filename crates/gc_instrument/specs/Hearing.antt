@@ -7,18 +7,18 @@ use Rattle.gc_lines.specs.Frames.{lines}
 use Rattle.gc_instrument.specs.State.{State}
 use Rattle.gc_instrument.specs.Replying.{IsReplied}
 
--- the lines, one after the other, take the instrument from the one state to the other, with these replies in order
+-- the lines, one after the other, take the instrument from `before` to `after`, and these are its replies in order
 abbrev pub Hears : State → List (List ℕ) → State → List (List ℕ) → Type 0
 Hears before [] after replies = (after ≡ before) × (replies ≡ [])
 Hears before (line ∷ later) after replies =
     (state : State) × (reply : Option (List ℕ)) × (rest : List (List ℕ))
     × IsReplied before line state reply × Hears state later after rest × (replies ≡ option_to_list reply ++ rest)
 
--- replies as they are written
+-- replies as they are written, each with its CR LF
 abbrev pub replies_text : List (List ℕ) → List ℕ
 replies_text replies = flat_map with_end replies
 
--- the bytes are all that is written for the stream, and the state is that after its lines
+-- the bytes are all that is written for the stream, and `after` is the state behind its lines
 pub record IsOutput (before : State) (stream : List ℕ) (after : State) (bytes : List ℕ) : Type 0 where
   pub replies : List (List ℕ)
   pub hears : Hears before (lines stream) after replies

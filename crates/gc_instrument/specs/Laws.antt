@@ -12,20 +12,20 @@ use Rattle.gc_instrument.specs.Outcomes.{ComesOut}
 use Rattle.gc_instrument.specs.Replying.{IsReplied, IsAnswered, handed, kept_line, with_kept, executed_with}
 use Rattle.gc_instrument.specs.State.{State, KeptReply, IsFittingState, restarted}
 
--- every call comes out, in every state
+-- `ComesOut` holds of every call in every state
 abbrev pub CallsComeOut : Type 0
 CallsComeOut = (s : State) (call : Call) → ComesOut s call (exec s call)
 
--- what is kept neither counts for a call nor is changed by it
+-- the reply that is kept neither counts for a call that is carried out nor is changed by it
 abbrev pub ExecutesApart : Type 0
 ExecutesApart = (s : State) (kept : Option KeptReply) (call : Call) → exec (with_kept kept s) call ≡ executed_with kept (exec s call)
 
--- starting twice is starting once, and a state that fits starts as one that fits
+-- restarting twice is restarting once, and a state whose values lie in their ranges before a restart is such a state after it
 pub record Restarts : Type 0 where
   pub twice : (s : State) → restarted (restarted s) ≡ restarted s
   pub fits : (s : State) → IsFittingState s → IsFittingState (restarted s)
 
--- a line has one reply, and leads to one state
+-- from one state a line leads to one state, and to one reply or to none
 abbrev pub OneReply : Type 0
 OneReply = (s t u : State) (line : List ℕ) (p q : Option (List ℕ)) → IsReplied s line t p → IsReplied s line u q → (t ≡ u) × (p ≡ q)
 
@@ -34,8 +34,8 @@ pub record ExchangesCalls : Type 0 where
   pub replied : (s : State) (id : ℕ) (call : Call) → id < 8 → IsFitting call → IsReplied s (request_line (Some id) call) (handed s id call).state (Some (handed s id call).reply)
   pub answered : (s : State) (id : ℕ) (call : Call) → IsFittingState s → id < 8 → IsFitting call → kept_line s.kept (Some id) ≡ None → IsAnswered s id call (handed s id call).reply
 
--- lines have one output; what comes first is answered first, and what comes next from the state after it; a stream may be
--- parted behind each line feed
+-- lines lead to one state and one list of replies; the first of two lists of lines is answered first, and the second from the state that
+-- the first leads to; so are two streams, where the first ends in a line feed or is empty
 pub record AnswersInTurn : Type 0 where
   pub one : (s t u : State) (heard : List (List ℕ)) (ps qs : List (List ℕ)) → Hears s heard t ps → Hears s heard u qs → (t ≡ u) × (ps ≡ qs)
   pub next : (s t u : State) (xs ys : List (List ℕ)) (ps qs : List (List ℕ)) → Hears s xs t ps → Hears t ys u qs → Hears s (xs ++ ys) u (ps ++ qs)

@@ -19,7 +19,7 @@ use Rattle.gc_instrument.specs.Execution.{Executed, exec}
 abbrev pub reply_id : RequestFields → ℕ
 reply_id q = unwrap_or q.id 0
 
--- RC_COM 3081 for a procedure that isn't in the catalogue, 3080 for parameters that don't read
+-- the communication code: 3081 for a procedure that isn't in the catalogue, 3080 for parameters that don't read
 abbrev pub com_code : CallFault → ℕ
 com_code Unknown = 3081
 com_code (Parameters _) = 3080
@@ -32,13 +32,13 @@ refusal_line number fault = reply_text (record { rc_com = com_code fault; id = S
 abbrev pub executed_line : ℕ → Executed → List ℕ
 executed_line number x = reply_line number x.rc x.answer x.state.precision
 
--- the kept line, where the request carries the kept id
+-- the kept line, where a line is kept and the request carries its id
 abbrev pub kept_line : Option KeptReply → Option ℕ → Option (List ℕ)
 kept_line None id = None
 kept_line (Some k) None = None
 kept_line (Some k) (Some id) = if nat_eq k.id id then Some k.line else None
 
--- what is kept behind an execution: the id and the reply line of its request, where that carried an id
+-- what is kept behind an execution: the id and the reply line of its request, where that carried an id, and else what was kept before
 abbrev pub kept_after : Option KeptReply → Option ℕ → List ℕ → Option KeptReply
 kept_after kept None line = kept
 kept_after kept (Some id) line = Some (record { id = id; line = line })
@@ -53,24 +53,24 @@ executed_with kept x = record x { state = with_kept kept x.state }
 
 -- what the instrument does with a call, and its reply
 pub data AnswersCall (before : State) (id : Option ℕ) (call : Call) (after : State) (reply : List ℕ) : Type 0 where
-  -- its request carries the kept id: it has the kept line, and nothing changes
+  -- the request carries the kept id: the reply is the kept line, and nothing changes
   repeats : kept_line before.kept id ≡ Some reply → after ≡ before → AnswersCall before id call after reply
-  -- it is carried out, and its reply is kept, where its request carried an id
+  -- else the call is carried out, and its reply is kept where the request carries an id
   executes : kept_line before.kept id ≡ None → after ≡ with_kept (kept_after before.kept id reply) (exec before call).state
       → reply ≡ executed_line (unwrap_or id 0) (exec before call) → AnswersCall before id call after reply
 
 -- what the instrument does with a request, and its reply
 pub data AnswersRequest (before : State) (q : RequestFields) (after : State) (reply : List ℕ) : Type 0 where
-  -- it names no call: nothing changes
+  -- the request names no call: nothing changes
   refuses : (fault : CallFault) → IsRefusal q.rpc q.params fault → after ≡ before → reply ≡ refusal_line (reply_id q) fault → AnswersRequest before q after reply
-  -- it names a call
+  -- the request names a call
   answers_call : (call : Call) → IsCall q.rpc q.params call → AnswersCall before q.id call after reply → AnswersRequest before q after reply
 
 -- what the instrument does with a line, and its reply, if there is one
 pub data IsReplied (before : State) (line : List ℕ) (after : State) (reply : Option (List ℕ)) : Type 0 where
-  -- it is no request: nothing changes
+  -- the line is no request: nothing changes
   silent : ((q : RequestFields) → ¬ IsRequest line q) → after ≡ before → reply ≡ None → IsReplied before line after reply
-  -- it is a request
+  -- the line is a request
   answers : (q : RequestFields) → IsRequest line q → (text : List ℕ) → AnswersRequest before q after text → reply ≡ Some text → IsReplied before line after reply
 
 -- what handing over the request line of a call gives: the state after it, the reply, and whether the call was carried out
@@ -79,18 +79,19 @@ pub record Handed (State : Type 0) : Type 0 where
   pub reply : List ℕ
   pub executed : Bool
 
--- the same with the line that is kept for this id, if one is
+-- what handing over a call's request line gives: the line that is kept for its id, and nothing is carried out; or, without one, the reply
+-- that carrying out the call gives, which is then kept
 abbrev pub again_or_new : State → ℕ → Call → Option (List ℕ) → Handed State
 again_or_new s number call (Some line) = record { state = s; reply = line; executed = false }
 again_or_new s number call None =
     let line = executed_line number (exec s call) in
     record { state = with_kept (Some (record { id = number; line = line })) (exec s call).state; reply = line; executed = true }
 
--- the instrument is handed the request line with this id and call
+-- what handing over the request line with this id and call gives
 unfoldable pub handed : State → ℕ → Call → Handed State
 handed s number call = again_or_new s number call (kept_line s.kept (Some number))
 
--- what the caller reads of an execution: the answer's value, rounded to the precision, or the refusal
+-- what the caller reads of an execution: the answer with its doubles rounded to the precision, or the refusal
 abbrev pub reading_of : Executed → Reading
 reading_of x = if x.rc == 0 then Value (rounded_answer x.state.precision x.answer) else Refused x.rc
 
@@ -101,15 +102,15 @@ pub record IsAnswered (before : State) (number : ℕ) (call : Call) (line : List
   pub same_id : fields.id ≡ Some number
   pub reading : IsReading call fields (reading_of (exec before call))
 
--- handing over the request line of a call gives this, in one line; where its id isn't the kept one, the reply says of the
--- call what carrying it out gave
+-- handing over the request line of a call gave this state and this reply, which is one line, as `handed` has them; where the line's id
+-- isn't the kept one, the reply says of the call what carrying it out gave
 pub record IsExchanged (before : State) (number : ℕ) (call : Call) (after : State) (reply : Option (List ℕ)) : Type 0 where
   pub state : after ≡ (handed before number call).state
   pub line : reply ≡ Some (handed before number call).reply
   pub plain : IsPlain (handed before number call).reply
   pub answered : kept_line before.kept (Some number) ≡ None → IsAnswered before number call (handed before number call).reply
 
--- the call was carried out, and its reply, with this id, was appended, and says of the call what that gave
+-- the call was carried out, and its reply, with this id, was appended; the reply says of the call what carrying it out gave
 pub record AppendsExecuted (before : State) (number : ℕ) (call : Call) (after : State) (old new : List ℕ) : Type 0 where
   pub text : List ℕ
   pub appended : new ≡ old ++ text
@@ -118,7 +119,7 @@ pub record AppendsExecuted (before : State) (number : ℕ) (call : Call) (after 
   pub line : text ≡ executed_line number (exec before call)
   pub says : IsAnswered before number call text
 
--- the reply to a call was appended
+-- the reply to a call was appended; where the call's id isn't the kept one, the reply says of the call what carrying it out gave
 pub record AppendsCall (before : State) (id : Option ℕ) (call : Call) (after : State) (old new : List ℕ) : Type 0 where
   pub text : List ℕ
   pub appended : new ≡ old ++ text
@@ -126,7 +127,8 @@ pub record AppendsCall (before : State) (id : Option ℕ) (call : Call) (after :
   pub answers : AnswersCall before id call after text
   pub says : kept_line before.kept id ≡ None → IsAnswered before (unwrap_or id 0) call text
 
--- the reply to a request was appended; where it names a call whose id isn't the kept one, it says of the call what carrying it out gave
+-- the reply to a request was appended; where the request names a call, and its id isn't the kept one, the reply says of the call what
+-- carrying it out gave
 pub record AppendsReply (before : State) (q : RequestFields) (after : State) (old new : List ℕ) : Type 0 where
   pub text : List ℕ
   pub appended : new ≡ old ++ text

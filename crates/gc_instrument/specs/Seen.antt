@@ -21,11 +21,11 @@ state_of i = record {
   kept = i.kept;
 }
 
--- what is kept is one line
+-- a kept line has neither CR nor LF
 abbrev pub IsPlainKept : Option KeptReply → Type 0
 IsPlainKept None = ⊤
 IsPlainKept (Some k) = IsPlain k.line
 
--- its values fit, and it can be sent
+-- the instrument's values fit, and its kept line has neither CR nor LF
 abbrev pub IsSound : Inside → Type 0
 IsSound i = IsFittingState (state_of i) × IsPlainKept i.kept

@@ -21,14 +21,15 @@ AnswersFrame before Cleared after text = (after ≡ before) × (text ≡ None)
 AnswersFrame before Overlong after text = (after ≡ before) × (text ≡ None)
 AnswersFrame before More after text = (after ≡ before) × (text ≡ None)
 
--- all of these lines were handed on, and their replies went out whole, which makes count of before
+-- all of these lines were handed on, and their replies went out whole: with the `before` that had gone out earlier they are `count`
 pub record ServesAll (from to : State) (heard : List (List ℕ)) (old new : Option (List ℕ)) (before count : ℕ) : Type 0 where
   pub replies : List (List ℕ)
   pub hears : Hears from heard to replies
   pub counts : count ≡ before + length replies
   pub took : Appends old new (replies_text replies)
 
--- lines were handed on up to one whose reply went out in part; those after it weren't
+-- these lines were handed on up to one whose reply was cut: only its first `bytes` bytes went out, and no later line was handed on. With the
+-- `before` replies that had gone out earlier, `count` went out whole
 pub record ServesPart (from to : State) (heard : List (List ℕ)) (old new : Option (List ℕ)) (before count bytes : ℕ) : Type 0 where
   pub earlier : List (List ℕ)
   pub line : List ℕ
@@ -43,17 +44,17 @@ pub record ServesPart (from to : State) (heard : List (List ℕ)) (old new : Opt
   pub not_all : bytes < length (with_end reply)
   pub took : Appends old new (replies_text replies ++ take bytes (with_end reply))
 
--- what serving did with the lines of what was read
+-- how many of the lines that were read were served, by the result: all, or at a failed write those up to the one whose reply was cut
 abbrev pub Serves : State → State → List (List ℕ) → Option (List ℕ) → Option (List ℕ) → Result Served ServeFault → Type 0
 Serves from to heard old new (Ok served) = ServesAll from to heard old new 0 served.replies
 Serves from to heard old new (Err (Read count)) = ServesAll from to heard old new 0 count
 Serves from to heard old new (Err (Write count bytes)) = ServesPart from to heard old new 0 count bytes
 Serves from to heard old new (Err (TooManyReads count)) = ServesAll from to heard old new 0 count
 
--- serving in at most most reads took the instrument and the ports from old to new, and gave this result
+-- serving in at most `most` reads took the instrument from `from` to `to` and the ports from `old` to `new`, and gave this result
 pub record IsServing (from to : State) (old new : Ports) (most : ℕ) (result : Result Served ServeFault) : Type 0 where
-  -- of the bytes that the source gave, the lines were handed to the instrument, and the sink took their replies, or the part that the fault says
+  -- the lines of the bytes that the source gave were handed to the instrument, and the sink took their replies as the result says
   pub serves : (given : List ℕ) × Consumes old.remaining new.remaining given
       × (length given ≤ 256 * (new.reads - old.reads)) × Serves from to (lines given) old.taken new.taken result
-  -- why it ended, with which result exactly where, and what the ports then are
+  -- why the run ended: which result comes exactly where, and what it says of the ports
   pub ended : HasEnded old new most result

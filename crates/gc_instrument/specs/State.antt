@@ -19,7 +19,7 @@ pub record KeptReply : Type 0 where
   pub id : ℕ
   pub line : List ℕ
 
--- what is kept in these two places: nothing without an id
+-- this id and this line as what is kept: nothing without an id
 abbrev pub kept_in : Option ℕ → List ℕ → Option KeptReply
 kept_in None line = None
 kept_in (Some id) line = Some (record { id = id; line = line })
@@ -45,6 +45,7 @@ pub record IsFittingReply (k : KeptReply) : Type 0 where
   pub is_reply : IsReply k.line fields
   pub same_id : fields.id ≡ Some k.id
 
+-- what is kept, if anything is, is a reply with the id of its request
 abbrev pub IsFittingKept : Option KeptReply → Type 0
 IsFittingKept None = ⊤
 IsFittingKept (Some k) = IsFittingReply k
@@ -91,7 +92,7 @@ opening number letters targets = record {
 abbrev pub opening_of : State → State
 opening_of s = opening s.serial s.name s.scene
 
--- the state after a restart: the opening state of the instrument, but with the precision that stood. Nothing is kept
+-- the state after a restart: the opening state of the instrument, but with the precision as it was. Nothing is kept
 abbrev pub restarted : State → State
 restarted s = record (opening_of s) { precision = s.precision }
 

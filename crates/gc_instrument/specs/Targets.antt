@@ -9,11 +9,11 @@ use Rattle.gc_instrument.specs.declared.target.Target.{Target}
 abbrev pub nowhere : Target
 nowhere = record { hz = zero; v = zero; distance = zero }
 
--- the target lies exactly where the telescope points
+-- whether the target lies exactly where the telescope points
 abbrev pub is_at : Pointing → Target → Bool
 is_at p t = decimal_eq t.hz p.hz && decimal_eq t.v p.v
 
--- the target lies within the two areas round where the telescope points
+-- whether the target lies within the two areas round where the telescope points
 abbrev pub is_within_areas : Pointing → Decimal → Decimal → Target → Bool
 is_within_areas p area_hz area_v t = is_within t.hz p.hz area_hz && is_within t.v p.v area_v
 
@@ -21,6 +21,6 @@ is_within_areas p area_hz area_v t = is_within t.hz p.hz area_hz && is_within t.
 abbrev pub first_at : Pointing → List Target → Option Target
 first_at p scene = find (is_at p) scene
 
--- the first target within the two areas
+-- the first target within the two areas round where the telescope points
 abbrev pub first_within : Pointing → Decimal → Decimal → List Target → Option Target
 first_within p area_hz area_v scene = find (is_within_areas p area_hz area_v) scene

@@ -85,7 +85,7 @@ impl Instrument {
         ensures fits { IfOk result (λ i. IsFittingState i) }
         ensures full { IsErr result ↔ (32 < length scene.now) }
     {
-        // The proof learns here what every `Text` holds.
+        // For the proof: this call's contract says that the name is a text.
         let _ = name.as_bytes();
         let mut targets = ArrayVec::new();
         if targets.try_extend_from_slice(scene).is_err() {
@@ -157,8 +157,8 @@ impl Instrument {
         self.settings.pointing
     }
 
-    /// The slope distance that was measured last, in metres, where no call since then has cleared
-    /// it.
+    /// The slope distance that was measured last, in metres, where neither a call nor a restart has
+    /// cleared it since then.
     pub fn distance(&self) -> Option<Decimal>
         ensures { result ≡ self.now.distance }
     {
@@ -173,7 +173,8 @@ impl Instrument {
         self.kept.id()
     }
 
-    /// The date and time that were set last.
+    /// The date and time that were set last, and 1996-07-25 16:19:47 where none were since the instrument was made or restarted.
+    /// No clock runs.
     pub fn date(&self) -> DateTime
         ensures { result ≡ self.now.date }
     {

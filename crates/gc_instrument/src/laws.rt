@@ -2,8 +2,8 @@
 
 ghost use Rattle.gc_instrument.specs.Laws.{CallsComeOut, ExecutesApart, Restarts, OneReply, ExchangesCalls, AnswersInTurn, ForeignLinesAreSilent};
 
-/// Every call leaves the instrument's serial number, name and scene as they are, and gives an answer
-/// of its own with the return code 0, or nothing with another one.
+/// Every call leaves the instrument's serial number, name and scene as they are, and gives an answer of its own with the return
+/// code 0, or `Answer::Nothing` with another code. The values of the state and of the answer stay within their types.
 pub fn calls_come_out()
     ensures { CallsComeOut }
 {}
@@ -13,24 +13,24 @@ pub fn executes_apart()
     ensures { ExecutesApart }
 {}
 
-/// Starting twice is starting once, and what fits before a start fits after it.
+/// Restarting twice is restarting once, and a state whose values lie in their ranges before a restart is such a state after it.
 pub fn restarts()
     ensures { Restarts }
 {}
 
-/// A line has one reply, and leads to one state.
+/// From one state a line leads to one state, and to one reply or to none.
 pub fn one_reply()
     ensures { OneReply }
 {}
 
-/// The reply to a call's request line, where its id isn't the kept one, says of the call what carrying it
-/// out gave.
+/// A call's request line gets the reply that `handed` gives. Where the line's id isn't the kept one, that reply says of the call what
+/// carrying it out gave.
 pub fn exchanges_calls()
     ensures { ExchangesCalls }
 {}
 
-/// What comes first is answered first, and what comes next from the state that stands then; a stream
-/// has one output.
+/// Lines lead to one state and one list of replies. The first of two lists of lines is answered first, and the second from the state
+/// that the first leads to; so are two streams, where the first ends in a line feed.
 pub fn answers_in_turn()
     ensures { AnswersInTurn }
 {}

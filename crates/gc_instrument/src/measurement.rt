@@ -26,14 +26,14 @@ fn is_within_areas(
     target.hz.within(&pointing.hz, area_hz) && target.v.within(&pointing.v, area_v)
 }
 
-/// The first target that lies exactly where the telescope points.
+/// The first target of a scene that lies exactly where the telescope points, if one does.
 pub fn first_at(pointing: &Pointing, scene: &[Target]) -> Option<Target>
     ensures { result ≡ first_at pointing.now scene.now }
 {
     scene.iter().copied().find(|target| is_at(pointing, target))
 }
 
-/// The first target within the areas round where the telescope points.
+/// The first target of a scene within the areas round where the telescope points, if there is one.
 pub fn first_within(
     pointing: &Pointing,
     area_hz: &Decimal,

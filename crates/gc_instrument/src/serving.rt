@@ -33,9 +33,10 @@ impl Answers for Instrument {
 /// lines that were read; after a failed write it has got none behind the line whose reply was on
 /// its way. It takes no memory.
 ///
-/// It returns [`Served`] exactly where the last read was the end. It fails with 42 exactly where
-/// the source failed, with 43 exactly where the sink did, and with 44 exactly where all reads were
-/// answered and none was the end.
+/// It returns [`Served`] exactly where the last read was the end. Over ports that hadn't failed
+/// before, it fails with `Read` (42) exactly where the source failed, with `Write` (43) exactly
+/// where the sink did, and with `TooManyReads` (44) exactly where all reads were answered, none was
+/// the end, and no port failed.
 pub fn serve<S: Source, K: Sink>(
     instrument: &mut Instrument,
     source: &mut S,

@@ -7,20 +7,23 @@ use Rattle.std.proofs.Math.Dec.{ltb}
 use Rattle.std.proofs.Math.Numerals.{one-add}
 use Rattle.gc_lines.specs.Frames.{is_line_feed, pieces_behind, rest_behind, pieces, rest_of, HasNoLineFeed, IsCut, frame_of, frames}
 
+-- whether a byte goes on the bytes before it: it is no line feed
 abbrev pub goes_on : ℕ → Bool
 goes_on b = not (is_line_feed b)
 
--- what a line feed, or the end, makes of the bytes before it
+-- where the first line feed of xs is at n, or n is the length of xs: the pieces and the rest behind r
 record CutAt (r xs : List ℕ) (n : ℕ) : Type 0 where
   ends : length xs ≤ n → (pieces_behind r xs ≡ []) × (rest_behind r xs ≡ r ++ xs)
   goes : n < length xs → (pieces_behind r xs ≡ (r ++ take n xs) ∷ pieces_behind [] (drop (n + 1) xs)) × (rest_behind r xs ≡ rest_behind [] (drop (n + 1) xs))
 
+-- a line feed in front ends the bytes before it
 cut_here : (r bs : List ℕ) (b : ℕ) → is_line_feed b ≡ true → CutAt r (b ∷ bs) 0
 cut_here r bs b e = record {
   ends = λ h. absurd (omega arith);
   goes = λ _. (rw e (rw (append-nil r) refl), rw e refl);
 }
 
+-- a byte that is no line feed belongs to the bytes before it
 cut_later : (r bs : List ℕ) (b n : ℕ) → is_line_feed b ≡ false → CutAt (r ++ b ∷ []) bs n → CutAt r (b ∷ bs) (1 + n)
 cut_later r bs b n e c = record {
   ends = λ h. let k = c.ends (omega arith) in (rw e k.0, rw e (k.1 ∙ append_assoc r (b ∷ []) bs));
@@ -29,6 +32,7 @@ cut_later r bs b n e c = record {
       (rw (e, same, one-add n) (k.0 ∙ ap (λ p. p ∷ pieces_behind [] (drop (n + 1) bs)) (append_assoc r (b ∷ []) (take n bs))), rw (e, same) k.1);
 }
 
+-- bytes are cut at the first byte that doesn't go on
 is_cut : (r xs : List ℕ) → CutAt r xs (prefix_len goes_on xs)
 is_cut r [] = record { ends = λ _. (refl, sym (append-nil r)); goes = λ h. absurd (omega arith) }
 is_cut r (b ∷ bs) = elim (is_line_feed b) as (λ v. is_line_feed b ≡ v → CutAt r (b ∷ bs) (cond (not v) (1 + prefix_len goes_on bs) 0)) [
@@ -36,7 +40,7 @@ is_cut r (b ∷ bs) = elim (is_line_feed b) as (λ v. is_line_feed b ≡ v → C
   | false ↦ λ e. cut_later r bs b (prefix_len goes_on bs) e (is_cut (r ++ b ∷ []) bs)
 ] refl
 
--- with no line feed in it
+-- bytes without a line feed make no piece, and are the rest
 pub cut_none : (r xs : List ℕ) → position is_line_feed xs ≡ None → (pieces_behind r xs ≡ []) × (rest_behind r xs ≡ r ++ xs)
 cut_none r xs e = (is_cut r xs).ends (elim (ltb (prefix_len goes_on xs) (length xs)) as
     (λ v. ltb (prefix_len goes_on xs) (length xs) ≡ v → cond v (Some (prefix_len goes_on xs)) None ≡ None → length xs ≤ prefix_len goes_on xs) [
@@ -44,7 +48,7 @@ cut_none r xs e = (is_cut r xs).ends (elim (ltb (prefix_len goes_on xs) (length 
       | false ↦ λ f _. ltb-false _ _ f
     ] refl e)
 
--- with a first line feed
+-- the first line feed ends a piece, and what follows it is cut anew
 pub cut_some : (r xs : List ℕ) (at : ℕ) → position is_line_feed xs ≡ Some at →
     (pieces_behind r xs ≡ (r ++ take at xs) ∷ pieces_behind [] (drop (at + 1) xs)) × (rest_behind r xs ≡ rest_behind [] (drop (at + 1) xs))
 cut_some r xs at e = elim (ltb (prefix_len goes_on xs) (length xs)) as (λ v. ltb (prefix_len goes_on xs) (length xs) ≡ v → cond v (Some (prefix_len goes_on xs)) None ≡ Some at →
@@ -53,7 +57,7 @@ cut_some r xs at e = elim (ltb (prefix_len goes_on xs) (length xs)) as (λ v. lt
       | false ↦ λ _ f. (cc)
     ] refl e
 
--- one stream behind another
+-- the pieces of a stream and another behind it are the first's, and the second's behind the first's rest
 pub pieces-append : (r xs ys : List ℕ) → pieces_behind r (xs ++ ys) ≡ pieces_behind r xs ++ pieces_behind (rest_behind r xs) ys
 pieces-append r [] ys = refl
 pieces-append r (x ∷ xs) ys = elim (is_line_feed x) as (λ v. cond v (r ∷ pieces_behind [] (xs ++ ys)) (pieces_behind (r ++ x ∷ []) (xs ++ ys))
@@ -62,6 +66,7 @@ pieces-append r (x ∷ xs) ys = elim (is_line_feed x) as (λ v. cond v (r ∷ pi
       | false ↦ pieces-append (r ++ x ∷ []) xs ys
     ]
 
+-- the rest of a stream and another behind it is the second's behind the first's rest
 pub rest-append : (r xs ys : List ℕ) → rest_behind r (xs ++ ys) ≡ rest_behind (rest_behind r xs) ys
 rest-append r [] ys = refl
 rest-append r (x ∷ xs) ys = elim (is_line_feed x) as (λ v. cond v (rest_behind [] (xs ++ ys)) (rest_behind (r ++ x ∷ []) (xs ++ ys))
@@ -70,7 +75,7 @@ rest-append r (x ∷ xs) ys = elim (is_line_feed x) as (λ v. cond v (rest_behin
       | false ↦ rest-append (r ++ x ∷ []) xs ys
     ]
 
--- The pieces and the rest are the whole stream.
+-- the pieces, each with its line feed, and the rest are the whole stream
 pub cut_whole : (r xs : List ℕ) → flat_map (λ part. part ++ 10 ∷ []) (pieces_behind r xs) ++ rest_behind r xs ≡ r ++ xs
 cut_whole r [] = sym (append-nil r)
 cut_whole r (x ∷ xs) = elim (is_line_feed x) as (λ v. is_line_feed x ≡ v
@@ -84,13 +89,14 @@ cut_whole r (x ∷ xs) = elim (is_line_feed x) as (λ v. is_line_feed x ≡ v
 
 -- A stream has one such cutting.
 
+-- a byte other than 10 is no line feed
 not_feed : (b : ℕ) → b ≢ 10 → is_line_feed b ≡ false
 not_feed b h = elim (eqb b 10) as (λ v. eqb b 10 ≡ v → v ≡ false) [
   | true ↦ λ t. absurd (h (eqb-true b 10 t))
   | false ↦ λ _. refl
 ] refl
 
--- a part without a line feed, and then one
+-- a part without a line feed, and a line feed behind it, make one piece
 pub cut_first : (r part xs : List ℕ) → HasNoLineFeed part → (pieces_behind r (part ++ 10 ∷ xs) ≡ (r ++ part) ∷ pieces_behind [] xs) × (rest_behind r (part ++ 10 ∷ xs) ≡ rest_behind [] xs)
 cut_first r [] xs clean = (ap (λ p. p ∷ pieces_behind [] xs) (sym (append-nil r)), refl)
 cut_first r (b ∷ bs) xs clean =
@@ -98,7 +104,7 @@ cut_first r (b ∷ bs) xs clean =
     let same = not_feed b clean.0 in
     (rw same (no.0 ∙ ap (λ p. p ∷ pieces_behind [] xs) (append_assoc r (b ∷ []) bs)), rw same no.1)
 
--- bytes without a line feed
+-- bytes without a line feed make no piece, and are the rest
 cut_last : (r xs : List ℕ) → HasNoLineFeed xs → (pieces_behind r xs ≡ []) × (rest_behind r xs ≡ r ++ xs)
 cut_last r [] clean = (refl, sym (append-nil r))
 cut_last r (b ∷ bs) clean =
@@ -106,6 +112,7 @@ cut_last r (b ∷ bs) clean =
     let same = not_feed b clean.0 in
     (rw same no.0, rw same (no.1 ∙ append_assoc r (b ∷ []) bs))
 
+-- parts without line feeds, each followed by one, and a rest without one are cut into just these
 cut_parts : (parts : List (List ℕ)) (rest : List ℕ) → AllByRecursion HasNoLineFeed parts → HasNoLineFeed rest
     → (pieces_behind [] (flat_map (λ part. part ++ 10 ∷ []) parts ++ rest) ≡ parts) × (rest_behind [] (flat_map (λ part. part ++ 10 ∷ []) parts ++ rest) ≡ rest)
 cut_parts [] rest each last = cut_last [] rest last
@@ -116,7 +123,7 @@ cut_parts (part ∷ parts) rest each last =
     let same : flat_map (λ part. part ++ 10 ∷ []) (part ∷ parts) ++ rest ≡ part ++ 10 ∷ xs = append_assoc (part ++ 10 ∷ []) _ rest ∙ append_assoc part (10 ∷ []) xs in
     (ap (pieces_behind []) same ∙ here.0 ∙ ap (λ ps. part ∷ ps) more.0, ap (rest_behind []) same ∙ here.1 ∙ more.1)
 
--- what is cut has no line feed in it
+-- no piece and no rest has a line feed in it
 cut_clean : (r xs : List ℕ) → HasNoLineFeed r → AllByRecursion HasNoLineFeed (pieces_behind r xs) × HasNoLineFeed (rest_behind r xs)
 cut_clean r [] clean = (tt, clean)
 cut_clean r (b ∷ bs) clean = elim (is_line_feed b) as (λ v. is_line_feed b ≡ v
@@ -129,15 +136,17 @@ cut_clean r (b ∷ bs) clean = elim (is_line_feed b) as (λ v. is_line_feed b �
       clean_more [] b clean e = ((λ same. let t = eq-eqb b 10 same in (cc)), tt)
       clean_more (x ∷ xs) b clean e = (clean.0, clean_more xs b clean.1 e)
 
+-- a stream has one cutting: into its pieces and its rest
 pub one_cut : (stream : List ℕ) (parts : List (List ℕ)) (rest : List ℕ) → IsCut stream parts rest → (parts ≡ pieces stream) × (rest ≡ rest_of stream)
 one_cut stream parts rest cut =
     let c = cut_parts parts rest cut.each cut.last in
     (sym c.0 ∙ ap (pieces_behind []) (sym cut.whole), sym c.1 ∙ ap (rest_behind []) (sym cut.whole))
 
+-- the pieces and the rest of a stream are a cutting of it
 pub is_cut_of : (stream : List ℕ) → IsCut stream (pieces stream) (rest_of stream)
 is_cut_of stream = let clean = cut_clean [] stream tt in record { whole = sym (cut_whole [] stream); each = clean.0; last = clean.1 }
 
--- what stands before a stream belongs to it
+-- bytes without a line feed in front of a stream belong to its first piece
 before : (r xs ys : List ℕ) → HasNoLineFeed xs → (pieces_behind r (xs ++ ys) ≡ pieces_behind (r ++ xs) ys) × (rest_behind r (xs ++ ys) ≡ rest_behind (r ++ xs) ys)
 before r [] ys clean = (ap (λ p. pieces_behind p ys) (sym (append-nil r)), ap (λ p. rest_behind p ys) (sym (append-nil r)))
 before r (b ∷ bs) ys clean =
@@ -145,7 +154,7 @@ before r (b ∷ bs) ys clean =
     let same = not_feed b clean.0 in
     (rw same (more.0 ∙ ap (λ p. pieces_behind p ys) (append_assoc r (b ∷ []) bs)), rw same (more.1 ∙ ap (λ p. rest_behind p ys) (append_assoc r (b ∷ []) bs)))
 
--- the pieces do not depend on where the stream is cut
+-- the frames do not depend on where the stream is cut
 pub however_cut : (xs ys : List ℕ) → (frames (xs ++ ys) ≡ frames xs ++ frames (rest_of xs ++ ys)) × (rest_of (xs ++ ys) ≡ rest_of (rest_of xs ++ ys))
 however_cut xs ys =
     let b = before [] (rest_of xs) ys (cut_clean [] xs tt).1 in (

@@ -18,13 +18,15 @@ use Rattle.std.proofs.lemmas.List.Folds.{length-prefix_len}
 use Rattle.gc_lines.specs.Numbers.{NoDigitFirst}
 use Rattle.gc_lines.specs.Readers.{digits_len, number_at}
 
+-- the worth of digits is that of a numeral of base 10
 pub plain : IsNumeralModel (AllDigits 10) (digits_value 10)
 plain = numerals_by_value _ tells_digits
 
+-- an ASCII digit is worth less than ten
 digit_value_of : (b : ℕ) → is_ascii_digit b ≡ true → digit_value b < 10
 digit_value_of b e = let r : (48 ≤ b) × (b ≤ 57) = grind (arith, nat_tests) in omega (arith, digit_value_digit b r)
 
--- the run of digits at the front
+-- the run at the front has only digits
 prefix_digits : (bs : List ℕ) → AllDigits 10 (take (prefix_len is_ascii_digit bs) bs)
 prefix_digits [] = tt
 prefix_digits (b ∷ bs) = elim (is_ascii_digit b) as (λ v. is_ascii_digit b ≡ v → AllDigits 10 (take (cond v (1 + prefix_len is_ascii_digit bs) 0) (b ∷ bs))) [
@@ -32,9 +34,11 @@ prefix_digits (b ∷ bs) = elim (is_ascii_digit b) as (λ v. is_ascii_digit b �
   | false ↦ λ e. tt
 ] refl
 
+-- the length of the run is that of the longest prefix of digits
 pub run_is : (bs : List ℕ) → digits_len bs ≡ prefix_len is_ascii_digit bs
 run_is bs = length-prefix_len is_ascii_digit bs
 
+-- the run at the front has only digits
 pub run_digits : (bs : List ℕ) → AllDigits 10 (take (digits_len bs) bs)
 run_digits bs = subst (λ (n : ℕ). AllDigits 10 (take n bs)) (sym (run_is bs)) (prefix_digits bs)
 
@@ -46,25 +50,29 @@ prefix_stops (b ∷ bs) = elim (is_ascii_digit b) as (λ v. is_ascii_digit b ≡
   | false ↦ λ e. e
 ] refl
 
+-- behind the run stands no digit
 pub run_stops : (bs : List ℕ) → NoDigitFirst (drop (digits_len bs) bs)
 run_stops bs = subst (λ (n : ℕ). NoDigitFirst (drop n bs)) (sym (run_is bs)) (prefix_stops bs)
 
--- a run is as long as its text
+-- where no digit stands first, there is no run
 stopped : (rest : List ℕ) → NoDigitFirst rest → prefix_len is_ascii_digit rest ≡ 0
 stopped [] h = refl
 stopped (b ∷ bs) h = rw h refl
 
+-- a byte that is worth less than ten is an ASCII digit
 digit_is : (c : ℕ) → digit_value c < 10 → is_ascii_digit c ≡ true
 digit_is c h = let r = digit_from_value c h in grind (arith, nat_tests)
 
+-- digits that no digit follows are the run
 prefix_length : (text rest : List ℕ) → AllDigits 10 text → NoDigitFirst rest → prefix_len is_ascii_digit (text ++ rest) ≡ length text
 prefix_length [] rest a h = stopped rest h
 prefix_length (c ∷ cs) rest a h = rw (digit_is c a.0) (omega (arith, prefix_length cs rest a.1 h))
 
+-- digits that no digit follows are the run
 pub run_length : (text rest : List ℕ) → AllDigits 10 text → NoDigitFirst rest → digits_len (text ++ rest) ≡ length text
 run_length text rest a h = run_is (text ++ rest) ∙ prefix_length text rest a h
 
--- a run of one digit
+-- a run of one digit is that digit, and no digit follows
 pub run_of_one : (b : ℕ) (bs : List ℕ) → digits_len (b ∷ bs) ≡ 1 → (48 ≤ b) × (b ≤ 57) × NoDigitFirst bs
 run_of_one b bs e = elim (is_ascii_digit b) as (λ v. is_ascii_digit b ≡ v → cond v (1 + prefix_len is_ascii_digit bs) 0 ≡ 1 → (48 ≤ b) × (b ≤ 57) × NoDigitFirst bs) [
   | true ↦ λ t h. let r = in_digits b t in let none : prefix_len is_ascii_digit bs ≡ 0 = omega arith in (r.0, r.1, subst (λ (n : ℕ). NoDigitFirst (drop n bs)) none (prefix_stops bs))
@@ -73,6 +81,7 @@ run_of_one b bs e = elim (is_ascii_digit b) as (λ v. is_ascii_digit b ≡ v →
   in_digits : (b : ℕ) → is_ascii_digit b ≡ true → (48 ≤ b) × (b ≤ 57)
   in_digits b t = grind (arith, nat_tests)
 
+-- one digit that no digit follows is the run
 pub one_digit_runs : (i : ℕ) (rest : List ℕ) → i < 10 → NoDigitFirst rest → digits_len ((48 + i) ∷ rest) ≡ 1
 one_digit_runs i rest h stop = run_is ((48 + i) ∷ rest) ∙ rw (digit_of i h, stopped rest stop) refl where
   digit_of : (i : ℕ) → i < 10 → is_ascii_digit (48 + i) ≡ true
@@ -80,15 +89,18 @@ one_digit_runs i rest h stop = run_is ((48 + i) ∷ rest) ∙ rw (digit_of i h, 
 
 -- writing a number's digits into five places, from the last one on
 
+-- a number of one place is below ten
 below_one_place : (left : ℕ) → left < 10 ^ (0 + 1) → 10 ≤ left → ⊥
 below_one_place left below more = omega arith
 
+-- a number from ten on has a place in front of its last
 some_place : (at left : ℕ) → left < 10 ^ (at + 1) → 10 ≤ left → 0 < at
 some_place at left below more = elim (cases_lt 0 at) [
   | inl some ↦ some
   | inr none ↦ let zero : at ≡ 0 = omega arith in absurd (below_one_place left (subst (λ (n : ℕ). left < 10 ^ (n + 1)) zero below) more)
 ]
 
+-- writing a number's last digit in front of those written leaves a shorter number to write, and keeps what is written in all
 pub digit_written : (digits : List ℕ) (at left n : ℕ) → at ≤ 4 → length digits ≡ 5 → left < 10 ^ (at + 1) → left < 2 ^ 16 → 10 ≤ left → decimal left ++ drop (at + 1) digits ≡ decimal n
     → (0 < at) × (length (slice_set digits at (48 + left % 10)) ≡ 5) × (left / 10 < 10 ^ (at - 1 + 1)) × (decimal (left / 10) ++ drop (at - 1 + 1) (slice_set digits at (48 + left % 10)) ≡ decimal n)
 digit_written digits at left n room size below range more text =
@@ -101,6 +113,7 @@ digit_written digits at left n room size below range more text =
           (sym (append_assoc (decimal (left / 10)) ((48 + left % 10) ∷ []) (drop (at + 1) digits)) ∙ ap (λ ds. ds ++ drop (at + 1) digits) (sym (decimal_step left more (omega arith))) ∙ text),
     )
 
+-- writing the last digit that is left completes the number
 pub last_digit_written : (digits : List ℕ) (at left n : ℕ) → at ≤ 4 → length digits ≡ 5 → left < 10 → decimal left ++ drop (at + 1) digits ≡ decimal n
     → take (5 - at) (drop at (slice_set digits at (48 + left))) ≡ decimal n
 last_digit_written digits at left n room size small text =
@@ -109,19 +122,24 @@ last_digit_written digits at left n room size small text =
 
 -- reading a run digit by digit
 
+-- digits and a further digit are digits
 pub run_more : (bytes : List ℕ) (i : ℕ) → i < length bytes → AllDigits 10 (take i bytes) → is_ascii_digit (get_or bytes i 0) ≡ true → AllDigits 10 (take (i + 1) bytes)
 run_more bytes i within all digit = digits_more 10 bytes i within all (digit_value_of (get_or bytes i 0) digit)
 
+-- an ASCII digit is a byte from 48 to 57
 pub digit_range : (b : ℕ) → is_ascii_digit b ≡ true → (48 ≤ b) × (b ≤ 57)
 digit_range b e = grind (arith, nat_tests)
 
+-- a further digit makes the value ten times as large, and adds its own
 pub value_next : (bytes : List ℕ) (i : ℕ) → i < length bytes → is_ascii_digit (get_or bytes i 0) ≡ true
     → digits_value 10 (take (i + 1) bytes) ≡ digits_value 10 (take i bytes) * 10 + (get_or bytes i 0 - 48)
 value_next bytes i within digit = let r = digit_range (get_or bytes i 0) digit in omega (arith, r, digits_value_more 10 bytes i within, digit_value_digit (get_or bytes i 0) r)
 
+-- at most five digits are worth less than 100000
 pub value_small : (bytes : List ℕ) (i : ℕ) → AllDigits 10 (take i bytes) → i ≤ 5 → digits_value 10 (take i bytes) < 100000
 value_small bytes i all few = omega (arith, digits_value_short plain (take i bytes) 5 all (omega (arith, few, length-take i bytes)))
 
+-- digits in front lengthen the run by their number
 prefix_run : (text rest : List ℕ) → AllDigits 10 text → prefix_len is_ascii_digit (text ++ rest) ≡ length text + prefix_len is_ascii_digit rest
 prefix_run [] rest a = omega arith
 prefix_run (c ∷ cs) rest a = rw (digit_is c a.0) (omega (arith, prefix_run cs rest a.1))
@@ -140,11 +158,13 @@ number_long fault bytes h = rw (lt-ltb 0 (digits_len bytes) (omega (arith, h)), 
 run_read : (bytes : List ℕ) (len : ℕ) → len ≤ length bytes → AllDigits 10 (take len bytes) → NoDigitFirst (drop len bytes) → digits_len bytes ≡ len
 run_read bytes len within digits stops = ap digits_len (sym (take-append-drop len bytes)) ∙ run_length (take len bytes) (drop len bytes) digits stops ∙ length-take-le len bytes within
 
+-- one to five digits of a value below 65536, which no digit follows, are read as that number
 pub number_read : (fault : LineFault) (bytes : List ℕ) (len : ℕ) → len ≤ length bytes → AllDigits 10 (take len bytes) → NoDigitFirst (drop len bytes)
     → 0 < len → len ≤ 5 → digits_value 10 (take len bytes) < 65536 → number_at fault bytes ≡ Ok (digits_value 10 (take len bytes), drop len bytes)
 number_read fault bytes len within digits stops some few bound =
     rw (run_read bytes len within digits stops, lt-ltb 0 len some, lt-ltb len 6 (omega (arith, few)), lt-ltb (digits_value 10 (take len bytes)) 65536 bound) refl
 
+-- no digit, or a value from 65536 on, is refused with the field's fault
 pub number_refused : (fault : LineFault) (bytes : List ℕ) (len : ℕ) → len ≤ length bytes → AllDigits 10 (take len bytes) → NoDigitFirst (drop len bytes)
     → (len ≡ 0) ⊎ (65536 ≤ digits_value 10 (take len bytes)) → len ≤ 5 → number_at fault bytes ≡ Err fault
 number_refused fault bytes len within digits stops (inl none) few = rw (run_read bytes len within digits stops, none) refl
@@ -153,9 +173,10 @@ number_refused fault bytes len within digits stops (inr wide) few = elim (cases_
   | inr none ↦ rw (run_read bytes len within digits stops, le-ltb 0 len none) refl
 ]
 
--- the reading stops at a byte that isn't a digit, or at the end
+-- where the byte at a place is no digit, no digit stands first from there on
 pub stops_at : (bytes : List ℕ) (len : ℕ) → len < length bytes → is_ascii_digit (get_or bytes len 0) ≡ false → NoDigitFirst (drop len bytes)
 stops_at bytes len within other = subst NoDigitFirst (sym (drop_more bytes len 0 within)) other
 
+-- at the end no digit stands first
 pub stops_end : (bytes : List ℕ) (len : ℕ) → length bytes ≤ len → NoDigitFirst (drop len bytes)
 stops_end bytes len over = subst NoDigitFirst (sym (nil_from_length (drop len bytes) (omega (arith, length-drop len bytes)))) tt

@@ -6,7 +6,8 @@ use Rattle.gc_lines.specs.declared.served.Served.{Served}
 use Rattle.gc_lines.specs.declared.served.ServeFault.{ServeFault}
 use Rattle.gc_lines.specs.declared.served.ServeFault.TheVariants.{Read}
 
--- why it ended says exactly which end it was
+-- where the result says of the ports what `EndsBecause` has, and a served source is at its end, each result comes exactly where
+-- `HasEnded` has it
 pub ended_exactly : (old new : Ports) (most : ℕ) (r : Result Served ServeFault) → OnOk r (IsAtEnd new.remaining) → EndsBecause old new most r → HasEnded old new most r
 ended_exactly old new most (Err (Read n)) whole ends = record {
   whole = whole;

@@ -13,6 +13,7 @@ use Rattle.gc_lines.specs.Readers.{number_at, digits_len, signature_at, id_at, c
 use Rattle.gc_lines.proofs.Digits.{run_is, run_digits, run_stops, run_length, run_of_one, one_digit_runs}
 use Rattle.gc_lines.proofs.Reading.{Reads, guard_ok, guard_err}
 
+-- where both tests hold, each does
 two : (a b : Bool) → (a && b) ≡ true → (a ≡ true) × (b ≡ true)
 two true true e = (refl, refl)
 two true false e = (cc)
@@ -20,6 +21,7 @@ two false b e = (cc)
 
 -- the signature
 
+-- what is read behind a signature stands behind it
 signature_found : (signature line rest : List ℕ) → signature_at signature line ≡ Ok rest → line ≡ signature ++ rest
 signature_found signature line rest e =
     let n = length signature in
@@ -27,11 +29,13 @@ signature_found signature line rest e =
     let front : take n line ≡ signature = (bytes_decides (take n line) signature).0 g.0 in
     sym (take-append-drop n line) ∙ ap (λ f. f ++ drop n line) front ∙ ap (λ t. signature ++ t) g.1
 
+-- what stands behind a signature is read
 signature_again : (signature line rest : List ℕ) → line ≡ signature ++ rest → signature_at signature line ≡ Ok rest
 signature_again signature line rest e =
     let front : take (length signature) line ≡ signature = ap (λ l. take (length signature) l) e ∙ take_at signature rest (length signature) refl in
     rw ((bytes_decides (take (length signature) line) signature).1 front) (ap (λ (r : List ℕ). Ok r) (ap (λ l. drop (length signature) l) e ∙ drop_at signature rest (length signature) refl))
 
+-- `signature_at` reads just the lines that begin with the signature, and has one fault
 pub signature_reads : (signature : List ℕ) → Reads (signature_at signature) (λ line rest. PastSignature signature line rest) Signature
 signature_reads signature = record {
   found = signature_found signature;
@@ -41,6 +45,7 @@ signature_reads signature = record {
 
 -- a number
 
+-- what is read as a number has the form of one
 number_found : (f : LineFault) (bytes : List ℕ) (x : ℕ × List ℕ) → number_at f bytes ≡ Ok x → HasNumber bytes x.0 x.1
 number_found f bytes x e =
     let len = digits_len bytes in
@@ -63,6 +68,7 @@ number_found f bytes x e =
       ends = subst NoDigitFirst rest (run_stops bytes);
     }
 
+-- a number's text that no digit follows is read as the number
 number_of_text : (f : LineFault) (text rest : List ℕ) (n : ℕ) → IsNumber text n → NoDigitFirst rest → number_at f (text ++ rest) ≡ Ok (n, rest)
 number_of_text f text rest n h stop =
     rw (
@@ -76,9 +82,11 @@ number_of_text f text rest n h stop =
       lt-ltb n 65536 h.bound,
     ) refl
 
+-- what has the form of a number is read
 number_again : (f : LineFault) (bytes : List ℕ) (x : ℕ × List ℕ) → HasNumber bytes x.0 x.1 → number_at f bytes ≡ Ok x
 number_again f bytes x has = ap (number_at f) has.whole ∙ number_of_text f has.text x.1 x.0 has.is_number has.ends
 
+-- `number_at` reads just what has the form of a number, and has one fault
 pub number_reads : (f : LineFault) → Reads (number_at f) (λ bytes x. HasNumber bytes x.0 x.1) f
 number_reads f = record {
   found = number_found f;
@@ -88,6 +96,7 @@ number_reads f = record {
 
 -- the id
 
+-- where no comma stands first, no id stands there
 id_none : (bytes : List ℕ) → eqb (get_or bytes 0 0) 44 ≡ false → HasId bytes None bytes
 id_none bytes e = record {
   below = tt;
@@ -95,6 +104,7 @@ id_none bytes e = record {
   ends = λ after same. let t = eq-eqb (get_or bytes 0 0) 44 (ap (λ b. get_or b 0 0) same) in (cc);
 }
 
+-- what is read behind a comma as an id has the form of one
 id_some : (b : ℕ) (bs : List ℕ) (x : Option ℕ × List ℕ) → cond (eqb (digits_len (b ∷ bs)) 1 && ltb b 56) (Ok (Some (b - 48), bs)) (Err Id) ≡ Ok x → HasId (44 ∷ b ∷ bs) x.0 x.1
 id_some b bs x e =
     let g = guard_ok _ (Some (b - 48), bs) x Id e in
@@ -107,6 +117,7 @@ id_some b bs x e =
       ends = low.2;
     } in subst (λ (p : Option ℕ × List ℕ). HasId (44 ∷ b ∷ bs) p.0 p.1) g.1 it
 
+-- what is read as an id, or as none, has that form
 id_found : (bytes : List ℕ) (x : Option ℕ × List ℕ) → id_at bytes ≡ Ok x → HasId bytes x.0 x.1
 id_found [] x e = let same : (let p : Option ℕ × List ℕ = (None, []) in p) ≡ x = cc in subst (λ (p : Option ℕ × List ℕ). HasId [] p.0 p.1) same (id_none [] refl)
 id_found (a ∷ bs) x e = elim (eqb a 44) as (λ v. eqb a 44 ≡ v → cond v
@@ -119,6 +130,7 @@ id_found (a ∷ bs) x e = elim (eqb a 44) as (λ v. eqb a 44 ≡ v → cond v
       id_after [] x f = (cc)
       id_after (b ∷ cs) x f = id_some b cs x f
 
+-- where no id ends, no comma stands first
 no_comma : (rest : List ℕ) → EndsId None rest → eqb (get_or rest 0 0) 44 ≡ false
 no_comma [] h = refl
 no_comma (b ∷ bs) h = elim (eqb b 44) as (λ v. eqb b 44 ≡ v → v ≡ false) [
@@ -126,17 +138,21 @@ no_comma (b ∷ bs) h = elim (eqb b 44) as (λ v. eqb b 44 ≡ v → v ≡ false
   | false ↦ λ _. refl
 ] refl
 
+-- an id's text that nothing longer follows is read as the id
 id_of_text : (id : Option ℕ) (rest : List ℕ) → IfSome id (λ i. i < 8) → EndsId id rest → id_at (id_text id ++ rest) ≡ Ok (id, rest)
 id_of_text None rest below ends = rw (no_comma rest ends) refl
 id_of_text (Some i) rest below ends =
     rw (one_digit_runs i rest (omega arith) ends, lt-ltb (48 + i) 56 (omega arith)) (ap (λ n. Ok (Some n, rest)) (omega arith))
 
+-- what has the form of an id, or of none, is read
 id_again : (bytes : List ℕ) (x : Option ℕ × List ℕ) → HasId bytes x.0 x.1 → id_at bytes ≡ Ok x
 id_again bytes x has = ap id_at has.whole ∙ id_of_text x.0 x.1 has.below has.ends
 
+-- what is read is no fault
 ok_no_fault : {A : Type 0} (x : A) (d f : LineFault) → Ok x ≡ Err d → f ≡ d
 ok_no_fault x d f e = (cc)
 
+-- a refusal of an id is the fault `Id`
 id_named : (bytes : List ℕ) (d : LineFault) → id_at bytes ≡ Err d → Id ≡ d
 id_named [] d e = let x : Option ℕ × List ℕ = (None, []) in ok_no_fault x d Id e
 id_named (a ∷ bs) d e = elim (eqb a 44) as (λ v. cond {A = Result (Option ℕ × List ℕ) LineFault} v
@@ -145,15 +161,18 @@ id_named (a ∷ bs) d e = elim (eqb a 44) as (λ v. cond {A = Result (Option ℕ
       | false ↦ λ f. let x : Option ℕ × List ℕ = (None, a ∷ bs) in ok_no_fault x d Id f
     ] e
 
+-- `id_at` reads just what has the form of an id, or of none, and has one fault
 pub id_reads : Reads id_at (λ bytes x. HasId bytes x.0 x.1) Id
 id_reads = record { found = id_found; again = id_again; named = id_named }
 
 -- the colon
 
+-- what is read behind a colon stands behind it
 colon_found : (bytes rest : List ℕ) → colon_at bytes ≡ Ok rest → bytes ≡ 58 ∷ rest
 colon_found [] rest e = (cc)
 colon_found (a ∷ bs) rest e = let g = guard_ok (eqb a 58) bs rest Colon e in (let t = eqb-true a 58 g.0 in cc)
 
+-- `colon_at` reads just what begins with a colon, and has one fault
 pub colon_reads : Reads colon_at (λ bytes rest. bytes ≡ 58 ∷ rest) Colon
 colon_reads = record {
   found = colon_found;

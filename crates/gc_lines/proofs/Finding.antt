@@ -5,10 +5,12 @@ use Rattle.std.proofs.lemmas.List.Sums.{position_or_len_is}
 use Rattle.std.proofs.lemmas.Bool.{lt-ltb, le-ltb}
 use Rattle.memchr.specs.Find.{IsFirstByte}
 
+-- a test that doesn't hold is false
 not_true : (b : Bool) → ¬ (b ≡ true) → b ≡ false
 not_true true = λ no. absurd (no refl)
 not_true false = λ _. refl
 
+-- the place found first is the first place at which the test holds
 pub first_position : (test : ℕ → Bool) (bytes : List ℕ) (r : Option ℕ) → IsFirstByte test bytes r → r ≡ position test bytes
 first_position test bytes None h =
     let at : position_or_len test bytes ≡ length bytes = position_or_len_is test bytes (length bytes) 0 (omega arith)

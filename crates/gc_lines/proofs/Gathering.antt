@@ -12,7 +12,7 @@ use Rattle.gc_lines.specs.declared.frame.Frame.{Frame}
 use Rattle.gc_lines.proofs.InOrder.{in_order_then, in_order_one, all_of-append, all_then, part_then, one_part}
 use Rattle.gc_lines.proofs.Known.{Appends-nil, Appends-is}
 
--- nothing waits
+-- where all frames were answered and their texts went out, no text waits
 pub gathering_start : {State : Type 0} (rule : AnswerRule State) (from to : Progress State) (seen : List Frame)
     → AnswersAll rule from.state to.state seen from.taken to.taken from.whole to.whole → Gathering rule from to seen [] []
 gathering_start rule from to seen all = record {
@@ -27,6 +27,7 @@ gathering_start rule from to seen all = record {
   lengths_are = refl;
 }
 
+-- where the list of lengths is empty, the list of texts is
 no_texts : (texts : List (List ℕ)) → [] ≡ map length texts → texts ≡ []
 no_texts [] e = refl
 no_texts (t ∷ ts) e = cc
@@ -45,7 +46,7 @@ gathering_end {State} rule from to seen text lengths none g =
     subst (λ (fs : List Frame). AnswersAll rule from.state to.state fs from.taken to.taken from.whole to.whole) (sym g.order)
     (all_then rule from.state g.state to.state g.done g.held from.taken to.taken to.taken from.whole to.whole to.whole g.all silent)
 
--- a frame without a text
+-- a frame without a text adds nothing to what waits
 pub gathering_silent : {State : Type 0} (rule : AnswerRule State) (from to : Progress State) (next : State) (seen : List Frame) (frame : Frame) (text lengths : List ℕ)
     → rule to.state frame next None → Gathering rule from to seen text lengths
     → Gathering rule from (record { state = next; taken = to.taken; whole = to.whole }) (seen ++ frame ∷ []) text lengths
@@ -63,7 +64,7 @@ gathering_silent rule from to next seen frame text lengths draws g =
       lengths_are = g.lengths_are ∙ sym (ap (λ (ts : List (List ℕ)). map length ts) same);
     }
 
--- one more text
+-- a frame with a text adds that text to what waits, and its length
 pub gathering_more : {State : Type 0} (rule : AnswerRule State) (from to : Progress State) (next : State) (seen : List Frame) (frame : Frame) (text lengths more text' lengths' : List ℕ)
     → rule to.state frame next (Some more) → Gathering rule from to seen text lengths → text' ≡ text ++ more → lengths' ≡ lengths ++ length more ∷ []
     → Gathering rule from (record { state = next; taken = to.taken; whole = to.whole }) (seen ++ frame ∷ []) text' lengths'
@@ -79,11 +80,12 @@ gathering_more rule from to next seen frame text lengths more text' lengths' dra
   lengths_are = counted ∙ ap (λ (ns : List ℕ). ns ++ length more ∷ []) g.lengths_are ∙ sym (map-append length g.texts (more ∷ []));
 }
 
+-- there are as many lengths as texts
 length-texts : (ts : List (List ℕ)) → length (map length ts) ≡ length ts
 length-texts [] = refl
 length-texts (t ∷ ts) = ap suc (length-texts ts)
 
--- all that waited went out
+-- once all texts that waited went out, all frames were answered and their texts went out
 pub gathering_written : {State : Type 0} (rule : AnswerRule State) (from to : Progress State) (seen : List Frame) (text lengths : List ℕ) (after : Option (List ℕ)) (total : ℕ)
     → Gathering rule from to seen text lengths → Appends to.taken after text → total ≡ to.whole + length lengths
     → AnswersAll rule from.state to.state seen from.taken after from.whole total
@@ -97,7 +99,7 @@ gathering_written rule from to seen text lengths after total g took counts =
     subst (λ (fs : List Frame). AnswersAll rule from.state to.state fs from.taken after from.whole total) (sym g.order)
     (all_then rule from.state g.state to.state g.done g.held from.taken to.taken after from.whole to.whole total g.all out)
 
--- the first n bytes of the texts end within one of them
+-- the first n bytes of the texts end within one of them: the frames up to that text, and what `parted` counts
 record Cut {State : Type 0} (rule : AnswerRule State) (from : State) (seen : List Frame) (texts : List (List ℕ)) (whole n : ℕ) : Type 0 where
   earlier : List Frame
   frame : Frame
@@ -114,12 +116,15 @@ record Cut {State : Type 0} (rule : AnswerRule State) (from : State) (seen : Lis
   not_all : bytes < length text
   front : take n (all_of texts) ≡ all_of out ++ take bytes text
 
+-- where the test of m < n is true, m is below n
 lt_true : (m n : ℕ) → nat_lt m n ≡ true → m < n
 lt_true m n e = grind (arith, nat_tests)
 
+-- where the test of m < n is false, n is at most m
 lt_false : (m n : ℕ) → nat_lt m n ≡ false → n ≤ m
 lt_false m n e = grind (arith, nat_tests)
 
+-- the n bytes end within the first text
 cut_here : {State : Type 0} (rule : AnswerRule State) (s u : State) (frame : Frame) (later : List Frame) (t : List ℕ) (rest : List (List ℕ)) (whole n : ℕ)
     → rule s frame u (Some t) → nat_lt n (length t) ≡ true → Cut rule s (frame ∷ later) (t ∷ rest) whole n
 cut_here rule s u frame later t rest whole n draws e =
@@ -143,6 +148,7 @@ cut_here rule s u frame later t rest whole n draws e =
       front = take-append-le n t (all_of rest) within;
     }
 
+-- the first text is whole within the n bytes, and they end within a later one
 cut_on : {State : Type 0} (rule : AnswerRule State) (s u : State) (frame : Frame) (later : List Frame) (t : List ℕ) (rest : List (List ℕ)) (whole n : ℕ)
     → rule s frame u (Some t) → nat_lt n (length t) ≡ false → Cut rule u later rest (whole + 1) (n - length t) → Cut rule s (frame ∷ later) (t ∷ rest) whole n
 cut_on rule s u frame later t rest whole n draws e k =
@@ -167,6 +173,7 @@ cut_on rule s u frame later t rest whole n draws e k =
           ∙ sym (append_assoc t (all_of k.out) (take k.bytes k.text));
     }
 
+-- a frame without a text in front changes nothing of where the n bytes end
 cut_silent : {State : Type 0} (rule : AnswerRule State) (s u : State) (frame : Frame) (later : List Frame) (texts : List (List ℕ)) (whole n : ℕ)
     → rule s frame u None → Cut rule u later texts whole n → Cut rule s (frame ∷ later) texts whole n
 cut_silent rule s u frame later texts whole n draws k = record {
@@ -186,6 +193,7 @@ cut_silent rule s u frame later texts whole n draws k = record {
   front = k.front;
 }
 
+-- a frame in front, with a text or without: the n bytes end within its text or a later one
 cut_text : {State : Type 0} (rule : AnswerRule State) (s u : State) (frame : Frame) (later : List Frame) (text : Option (List ℕ)) (rest : List (List ℕ)) (whole n : ℕ)
     → rule s frame u text → n < length (all_of (option_to_list text ++ rest)) → ((w m : ℕ) → m < length (all_of rest) → Cut rule u later rest w m)
     → Cut rule s (frame ∷ later) (option_to_list text ++ rest) whole n
@@ -197,6 +205,7 @@ cut_text rule s u frame later (Some t) rest whole n draws less next = elim (nat_
       cut_on rule s u frame later t rest whole n draws e (next (whole + 1) (n - length t) left)
 ] refl
 
+-- fewer bytes than the texts have end within one of them
 cut : {State : Type 0} (rule : AnswerRule State) (from to : State) (seen : List Frame) (texts : List (List ℕ)) (whole n : ℕ)
     → AnswersInOrder State rule from seen to texts → n < length (all_of texts) → Cut rule from seen texts whole n
 cut rule from to [] texts whole n h less =
@@ -207,7 +216,7 @@ cut rule from to (frame ∷ later) texts whole n h less =
     subst (λ (ts : List (List ℕ)). Cut rule from (frame ∷ later) ts whole n) (sym h.5)
     (cut_text rule from h.0 frame later h.1 h.2 whole n h.3 (subst (λ (ts : List (List ℕ)). n < length (all_of ts)) h.5 less) (λ w m fewer. cut rule h.0 to later h.2 w m h.4 fewer))
 
--- a part of what waited went out
+-- where a part of the texts that waited went out, frames were answered up to one whose text went out in part
 pub gathering_part : {State : Type 0} (rule : AnswerRule State) (from to : Progress State) (seen : List Frame) (text lengths : List ℕ) (after : Option (List ℕ)) (total bytes n : ℕ)
     → Gathering rule from to seen text lengths → TakesFront to.taken after n text → (total, bytes) ≡ parted to.whole n lengths
     → (reached : State) × AnswersPart rule from.state reached seen from.taken after from.whole total bytes
@@ -233,10 +242,11 @@ gathering_part rule from to seen text lengths after total bytes n g took counts 
           (part_then rule from.state g.state k.reached g.done g.held from.taken to.taken after from.whole to.whole total bytes g.all out),
     )
 
+-- a number below another passes the test
 lt_is : (m n : ℕ) → m < n → nat_lt m n ≡ true
 lt_is m n e = grind (arith, nat_tests)
 
--- one more text, and then a part of what waited went out
+-- a frame's text joins those that wait, and then a part of them goes out: frames were answered up to one whose text went out in part
 pub answered_part : {State : Type 0} (rule : AnswerRule State) (from to last : Progress State) (seen : List Frame) (frame : Frame)
     (text lengths more text' lengths' : List ℕ) (bytes n : ℕ) (gathers : Bool)
     → (gathers ≡ false → lengths ≡ []) → rule to.state frame last.state (Some more) → Gathering rule from to seen text lengths
@@ -263,7 +273,7 @@ answered_part rule from to last seen frame text lengths more text' lengths' byte
       alone = λ _. refl;
     }
 
--- a part of what waited at the end of a piece went out
+-- where a part of the texts that wait at the end of a piece goes out, frames were answered up to one whose text went out in part
 pub rest_part : {State : Type 0} (rule : AnswerRule State) (from to : Progress State) (seen : List Frame) (text lengths : List ℕ) (after : Option (List ℕ)) (total bytes n : ℕ) (gathers : Bool)
     → (gathers ≡ false → lengths ≡ []) → Gathering rule from to seen text lengths
     → TakesFront to.taken after n text → (total, bytes) ≡ parted to.whole n lengths → GathersPart rule from (record { state = to.state; taken = after; whole = total }) seen bytes gathers

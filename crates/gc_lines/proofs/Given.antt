@@ -19,7 +19,7 @@ pub record Given {State : Type 0} (rule : AnswerRule State) (source_old source_n
   pub stands : StandsFor kept (rest_behind [] given)
   pub all : AnswersAll rule from to (frames given) sink_old sink_new 0 count
 
--- one more piece, whose frames were all answered
+-- once all frames of one more piece were answered, those of all bytes given so far were
 pub given_more : {State : Type 0} (rule : AnswerRule State) (a a' a'' b b' b'' : Option (List ℕ)) (kept kept' : Kept) (s t u : State) (reads n n' : ℕ)
     (piece : List ℕ) → Given rule a a' b b' kept s t reads n → Consumes a' a'' piece → length piece ≤ 256
     → ((rest : List ℕ) → StandsFor kept rest → StandsFor kept' (rest_behind rest piece) × AnswersAll rule t u (frames_behind rest piece) b' b'' n n') → Given rule a a'' b b'' kept' s u (reads + 1) n'
@@ -34,7 +34,7 @@ given_more rule a a' a'' b b' b'' kept kept' s t u reads n n' piece so gave shor
           (all_then rule s t u (frames so.given) (frames_behind (rest_behind [] so.given) piece) b b' b'' 0 n n' so.all it.1);
     }
 
--- nothing more was given
+-- where a read gives no byte, the frames of all bytes given were answered
 pub given_end : {State : Type 0} (rule : AnswerRule State) (a a' a'' b b' : Option (List ℕ)) (kept : Kept) (s t : State) (reads n : ℕ) → Given rule a a' b b' kept s t reads n → Consumes a' a'' []
     → (given : List ℕ) × Consumes a a'' given × (length given ≤ 256 * reads) × AnswersAll rule s t (frames given) b b' 0 n
 given_end rule a a' a'' b b' kept s t reads n so gave = (
@@ -44,7 +44,7 @@ given_end rule a a' a'' b b' kept s t reads n so gave = (
   so.all,
 )
 
--- one more piece, of which a text went out in part
+-- where a text of one more piece went out in part, the frames of all bytes given were answered up to that text's
 pub given_part : {State : Type 0} (rule : AnswerRule State) (a a' a'' b b' b'' : Option (List ℕ)) (kept : Kept) (s t u : State) (reads n n' bytes : ℕ)
     (piece : List ℕ) (gathers : Bool) → Given rule a a' b b' kept s t reads n → Consumes a' a'' piece → length piece ≤ 256
     → ((rest : List ℕ) → StandsFor kept rest → GathersPart rule (record { state = t; taken = b'; whole = n }) (record { state = u; taken = b''; whole = n' }) (frames_behind rest piece) bytes gathers)

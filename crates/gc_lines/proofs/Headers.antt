@@ -16,16 +16,17 @@ pub record IsHeader (signature line : List ℕ) (header : HeaderFields) : Type 0
   pub is_id : IfSome header.id (λ i. i < 8)
   pub whole : line ≡ signature ++ (number ++ (id_text header.id ++ 58 ∷ header.rest))
 
--- neither an id nor a colon begins with a digit
+-- no digit follows a header's number
 after_number : (id : Option ℕ) (rest : List ℕ) → NoDigitFirst (id_text id ++ 58 ∷ rest)
 after_number None rest = refl
 after_number (Some i) rest = refl
 
+-- a header's id ends in front of the colon
 after_id : (id : Option ℕ) (rest : List ℕ) → EndsId id (58 ∷ rest)
 after_id None rest = λ after e. let t = eq-eqb 58 44 (ap (λ b. get_or b 0 0) e) in (cc)
 after_id (Some i) rest = refl
 
--- the steps of a header that has its form
+-- of a header that has its form, the fields through the number have theirs
 abbrev past_number : (signature line : List ℕ) (h : HeaderFields) (is : IsHeader signature line h) → PastNumber signature line (id_text h.id ++ 58 ∷ h.rest)
 past_number signature line h is = record {
   from = is.number ++ (id_text h.id ++ 58 ∷ h.rest);
@@ -34,6 +35,7 @@ past_number signature line h is = record {
   here = record { text = is.number; is_number = is.is_number; whole = refl; ends = after_number h.id h.rest };
 }
 
+-- of a header that has its form, the fields through the colon have theirs
 abbrev past_colon : (signature line : List ℕ) (h : HeaderFields) → IsHeader signature line h → PastColon signature line h.rest
 past_colon signature line h is = record {
   from = 58 ∷ h.rest;
@@ -46,29 +48,34 @@ past_colon signature line h is = record {
   here = refl;
 }
 
--- the readers of the later fields, as header_at chains them
+-- what `header_at` reads behind the id: the colon
 abbrev rest_of_colon : ℕ → Option ℕ → List ℕ → Result HeaderFields LineFault
 rest_of_colon number id bytes = colon_at bytes >>= λ rest. Ok (record { number = number; id = id; rest = rest })
 
+-- what `header_at` reads behind the number: the id, and what follows
 abbrev rest_of_id : ℕ → List ℕ → Result HeaderFields LineFault
 rest_of_id number bytes = id_at bytes >>= λ id. rest_of_colon number id.0 id.1
 
+-- what `header_at` reads behind the signature: the number, and what follows
 abbrev rest_of_number : List ℕ → Result HeaderFields LineFault
 rest_of_number bytes = number_at Number bytes >>= λ number. rest_of_id number.0 number.1
 
--- reading goes on behind the fields that have their form
+-- where the signature has its form, reading goes on behind it
 on_signature : (signature line rest : List ℕ) → PastSignature signature line rest → header_at signature line ≡ rest_of_number rest
 unfolding header_at
 on_signature signature line rest past = bind_on (signature_at signature line) _ rest ((signature_reads signature).again line rest past)
 
+-- where the fields through the number have their form, reading goes on behind them
 on_number : (signature line rest : List ℕ) (past : PastNumber signature line rest) → header_at signature line ≡ rest_of_id past.number rest
 on_number signature line rest past = on_signature signature line past.from past.before
     ∙ bind_on (number_at Number past.from) (λ number. rest_of_id number.0 number.1) (past.number, rest) ((number_reads Number).again past.from (past.number, rest) past.here)
 
+-- where the fields through the id have their form, reading goes on behind them
 on_id : (signature line rest : List ℕ) (past : PastId signature line rest) → header_at signature line ≡ rest_of_colon past.before.number past.id rest
 on_id signature line rest past = on_number signature line past.from past.before
     ∙ bind_on (id_at past.from) (λ id. rest_of_colon past.before.number id.0 id.1) (past.id, rest) (id_reads.again past.from (past.id, rest) past.here)
 
+-- where the fields through the colon have their form, the header is read
 pub on_colon : (signature line rest : List ℕ) (past : PastColon signature line rest)
     → header_at signature line ≡ Ok (record { number = past.before.before.number; id = past.before.id; rest = rest })
 on_colon signature line rest past = on_id signature line past.from past.before
@@ -99,6 +106,7 @@ header_found signature line h e =
     let same : (let f : HeaderFields = record { number = b.0.0; id = c.0.0; rest = d.0 } in f) ≡ h = cc in
     subst (λ (f : HeaderFields). IsHeader signature line f) same it
 
+-- where a header is read, the fields through the colon have their form
 pub header_past : (signature line : List ℕ) (h : HeaderFields) → header_at signature line ≡ Ok h → PastColon signature line h.rest
 header_past signature line h e = past_colon signature line h (header_found signature line h e)
 
@@ -135,6 +143,7 @@ header_fault signature Body line d e = elim (bind_err _ _ d e) [
 
 -- A whole line: its header, and then a reader of what follows the colon.
 
+-- a line is read as its header, and then as its body
 abbrev pub line_at : {A : Type 0} → List ℕ → (HeaderFields → Result A LineFault) → List ℕ → Result A LineFault
 line_at signature body line = header_at signature line >>= body
 
@@ -143,6 +152,7 @@ pub record ReadsBody {A : Type 0} (body : HeaderFields → Result A LineFault) (
   pub named : (h : HeaderFields) (d : LineFault) → body h ≡ Err d → (Code ≡ d) × (¬ Body h.rest)
   pub refused : (h : HeaderFields) → (¬ Body h.rest) → body h ≡ Err Code
 
+-- a line's fault is its first bad field
 pub line_fault : {A : Type 0} (signature : List ℕ) (body : HeaderFields → Result A LineFault) (Body : List ℕ → Type 0) → ReadsBody body Body
     → (line : List ℕ) (d : LineFault) → line_at signature body line ≡ Err d → FirstBadField signature Body line d
 line_fault signature body Body reads line d e = elim (bind_err (header_at signature line) body d e) [

@@ -9,7 +9,7 @@ use Rattle.gc_lines.specs.Ports.{TakesFront}
 use Rattle.gc_lines.specs.declared.frame.Frame.{Frame}
 use Rattle.gc_lines.proofs.Known.{Appends-append, Appends-nil, Appends-is}
 
--- frames after frames
+-- answering frames, and then others from the state behind them, is answering all of them
 pub in_order_then : {State : Type 0} (rule : AnswerRule State) (s t u : State) (xs ys : List Frame) (ps qs : List (List ℕ))
     → AnswersInOrder State rule s xs t ps → AnswersInOrder State rule t ys u qs → AnswersInOrder State rule s (xs ++ ys) u (ps ++ qs)
 in_order_then {State} rule s t u [] ys ps qs first next =
@@ -23,19 +23,20 @@ in_order_then {State} rule s t u (x ∷ xs) ys ps qs first next = (
   ap (λ (zs : List (List ℕ)). zs ++ qs) first.5 ∙ append_assoc (option_to_list first.1) first.2 qs,
 )
 
--- one frame
+-- answering one frame by the rule is answering, in order, the list of that frame
 pub in_order_one : {State : Type 0} (rule : AnswerRule State) (s t : State) (frame : Frame) (text : Option (List ℕ)) → rule s frame t text
     → AnswersInOrder State rule s (frame ∷ []) t (option_to_list text)
 in_order_one rule s t frame text h = (t, text, [], h, (refl, refl), sym (append-nil (option_to_list text)))
 
+-- texts are written one behind the other
 pub all_of-append : (xs ys : List (List ℕ)) → all_of (xs ++ ys) ≡ all_of xs ++ all_of ys
 all_of-append xs ys = flat_map-append (λ text. text) xs ys
 
--- nothing was answered
+-- where no frame came, all were answered
 pub all_none : {State : Type 0} (rule : AnswerRule State) (state : State) (known : Option (List ℕ)) (count : ℕ) → AnswersAll rule state state [] known known count count
 all_none rule state known count = record { texts = []; answers = (refl, refl); counts = omega arith; took = Appends-nil known }
 
--- more was answered
+-- where all frames were answered, and then all of others, all of both were
 pub all_then : {State : Type 0} (rule : AnswerRule State) (s t u : State) (xs ys : List Frame) (a b c : Option (List ℕ)) (i j k : ℕ)
     → AnswersAll rule s t xs a b i j → AnswersAll rule t u ys b c j k → AnswersAll rule s u (xs ++ ys) a c i k
 all_then rule s t u xs ys a b c i j k first next = record {
@@ -45,7 +46,7 @@ all_then rule s t u xs ys a b c i j k first next = record {
   took = Appends-is a c _ _ (sym (all_of-append first.texts next.texts)) (Appends-append a b c _ _ first.took next.took);
 }
 
--- more was answered, and the last text went out in part
+-- where all frames were answered, and then others up to a part of a text, both were up to that part
 pub part_then : {State : Type 0} (rule : AnswerRule State) (s t u : State) (xs ys : List Frame) (a b c : Option (List ℕ)) (i j k bytes : ℕ)
     → AnswersAll rule s t xs a b i j → AnswersPart rule t u ys b c j k bytes → AnswersPart rule s u (xs ++ ys) a c i k bytes
 part_then rule s t u xs ys a b c i j k bytes first part =
@@ -66,7 +67,7 @@ part_then rule s t u xs ys a b c i j k bytes first part =
           (Appends-append a b c _ _ first.took part.took);
     }
 
--- frames that come after the last one that was answered
+-- frames that come after the last one that was answered change nothing
 pub part_before : {State : Type 0} (rule : AnswerRule State) (s u : State) (xs ys : List Frame) (a c : Option (List ℕ)) (i k bytes : ℕ)
     → AnswersPart rule s u xs a c i k bytes → AnswersPart rule s u (xs ++ ys) a c i k bytes
 part_before rule s u xs ys a c i k bytes part = record {
@@ -84,7 +85,7 @@ part_before rule s u xs ys a c i k bytes part = record {
   took = part.took;
 }
 
--- one frame, whose text went out whole
+-- one frame was answered, and its text went out whole
 pub one_whole : {State : Type 0} (rule : AnswerRule State) (s t : State) (frame : Frame) (text : List ℕ) (a b : Option (List ℕ)) (count : ℕ)
     → rule s frame t (Some text) → Appends a b text → AnswersAll rule s t (frame ∷ []) a b count (count + 1)
 one_whole rule s t frame text a b count draws took = record {
@@ -94,7 +95,7 @@ one_whole rule s t frame text a b count draws took = record {
   took = Appends-is a b _ _ (sym (append-nil text)) took;
 }
 
--- one frame, whose text went out in part
+-- one frame was answered, and its text went out in part
 pub one_part : {State : Type 0} (rule : AnswerRule State) (s t : State) (frame : Frame) (text : List ℕ) (a b : Option (List ℕ)) (count bytes : ℕ)
     → rule s frame t (Some text) → TakesFront a b bytes text → AnswersPart rule s t (frame ∷ []) a b count count bytes
 one_part rule s t frame text a b count bytes draws took = record {

@@ -8,6 +8,7 @@ use Rattle.gc_lines.specs.Assembler.{Kept, StandsFor}
 use Rattle.gc_lines.specs.Frames.{frame_of}
 use Rattle.gc_lines.specs.declared.frame.Frame.TheVariants.{Line}
 
+-- the first bytes of a rest and more are those of the rest, and as many of the others as there is room for
 pub take-append : (cap : ℕ) (rest bytes : List ℕ) → take cap (rest ++ bytes) ≡ take cap rest ++ take (cap - length rest) bytes
 take-append cap rest bytes = elim (cases_lt (length rest) cap) [
   | inr h ↦ let none : cap - length rest ≡ 0 = omega arith in rw (none, take-append-le cap rest bytes h) (sym (append-nil (take cap rest)))
@@ -15,6 +16,7 @@ take-append cap rest bytes = elim (cases_lt (length rest) cap) [
       ap (λ n. take n (rest ++ bytes)) sum ∙ take-append-add rest bytes (cap - length rest) ∙ ap (λ xs. xs ++ take (cap - length rest) bytes) (sym (take_all cap rest (omega arith)))
 ]
 
+-- the last byte of a rest and more bytes is the last of those
 pub last-append : (rest bytes : List ℕ) → 0 < length bytes → get_or (rest ++ bytes) (length (rest ++ bytes) - 1) 0 ≡ get_or bytes (length bytes - 1) 0
 last-append rest bytes h =
     let sum : length (rest ++ bytes) - 1 ≡ length rest + (length bytes - 1) = omega (arith, length-append rest bytes) in
@@ -24,10 +26,11 @@ last-append rest bytes h =
 pub all_kept : (old : Kept) (rest : List ℕ) → StandsFor old rest → length old.front < 513 → length rest ≡ length old.front
 all_kept old rest s room = omega (arith, ap length s.front, length-take 513 rest)
 
+-- the room that is left is that which the rest leaves
 pub front_length : (old : Kept) (rest : List ℕ) → StandsFor old rest → 513 - length old.front ≡ 513 - length rest
 front_length old rest s = omega (arith, ap length s.front, length-take 513 rest)
 
--- all of it fits
+-- where all further bytes fit, keeping them stands for the rest with them
 pub keeps_all : (old : Kept) (rest bytes front : List ℕ) (last : ℕ) → StandsFor old rest → 0 < length bytes → length bytes ≤ 513 - length old.front
     → front ≡ old.front ++ bytes → last ≡ get_or bytes (length bytes - 1) 0
     → StandsFor (record { front = front; last = last; long = old.long }) (rest ++ bytes)
@@ -40,7 +43,7 @@ keeps_all old rest bytes front last s some fits f l =
       long = s.long ∙ le-ltb 513 (length rest) (omega arith) ∙ sym (le-ltb 513 (length (rest ++ bytes)) (omega (arith, length-append rest bytes)));
     }
 
--- a part of it fits
+-- where only a part of further bytes fits, keeping that part stands for the rest with all of them
 pub keeps_part : (old : Kept) (rest bytes front : List ℕ) (last : ℕ) → StandsFor old rest → 513 - length old.front < length bytes
     → front ≡ old.front ++ take (513 - length old.front) bytes → last ≡ get_or bytes (length bytes - 1) 0
     → StandsFor (record { front = front; last = last; long = true }) (rest ++ bytes)
@@ -52,7 +55,7 @@ keeps_part old rest bytes front last s more f l =
       long = sym (lt-ltb 513 (length (rest ++ bytes)) (omega (arith, room, length-append rest bytes)));
     }
 
--- a line feed behind this makes a line
+-- at most 512 bytes and a CR are the frame of a line
 pub line_frame : (rest : List ℕ) (line : ArrayVec ℕ) → 0 < length rest → get_or rest (length rest - 1) 0 ≡ 13 → length rest ≤ 513 → line.items ≡ take (length rest - 1) rest → Line line ≡ frame_of rest
 line_frame rest line some last fits items =
     rw (lt-ltb 0 (length rest) some, eq-eqb (get_or rest (length rest - 1) 0) 13 last, le-ltb 512 (length rest - 1) (omega arith)) (ap (λ xs. Line (record { items = xs })) items)

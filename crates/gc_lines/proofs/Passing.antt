@@ -13,14 +13,15 @@ use Rattle.gc_lines.proofs.Cutting.{cut_none, cut_some, pieces-append, rest-appe
 use Rattle.gc_lines.proofs.Gathering.{gathering_start}
 use Rattle.gc_lines.proofs.InOrder.{all_none, part_before}
 
--- one piece after another
+-- one more piece: its frames come behind those of the stream, and the rest goes on from the stream's
 pub frames-append : (given piece : List ℕ) → frames (given ++ piece) ≡ frames given ++ frames_behind (rest_behind [] given) piece
 frames-append given piece = ap (λ ps. map frame_of ps) (pieces-append [] given piece) ∙ map-append frame_of (pieces_behind [] given) (pieces_behind (rest_behind [] given) piece)
 
+-- one more piece: the rest goes on from the stream's
 pub rest_behind-append : (given piece : List ℕ) → rest_behind [] (given ++ piece) ≡ rest_behind (rest_behind [] given) piece
 rest_behind-append given piece = rest-append [] given piece
 
--- a line feed makes a frame
+-- a frame that a line feed made is completed
 made : (bytes : List ℕ) → completed (frame_of bytes) ≡ frame_of bytes ∷ []
 made bytes = by_tests (ends_in_return bytes) _ where
   by_tests : (a b : Bool) → completed (cond a (cond b Overlong (Line (record { items = take (length bytes - 1) bytes }))) Cleared) ≡ cond a
@@ -29,13 +30,14 @@ made bytes = by_tests (ends_in_return bytes) _ where
   by_tests true false = refl
   by_tests false b = refl
 
--- the assembler took used bytes of left behind rest, and this frame
+-- behind `rest` the assembler used the first `used` bytes of `left`, gave this frame, and keeps this
 pub record Takes (rest left : List ℕ) (used : ℕ) (frame : Frame) (kept : Kept) : Type 0 where
   pub now : List ℕ
   pub stands : StandsFor kept now
   pub seen : frames_behind rest left ≡ completed frame ++ frames_behind now (drop used left)
   pub rests : rest_behind rest left ≡ rest_behind now (drop used left)
 
+-- without a line feed all bytes are used, and no frame is completed
 takes_none : (rest left : List ℕ) (used : ℕ) (frame : Frame) (kept : Kept) → position is_line_feed left ≡ None → used ≡ length left → frame ≡ More
     → StandsFor kept (rest ++ left) → Takes rest left used frame kept
 takes_none rest left used frame kept none all more s =
@@ -48,6 +50,7 @@ takes_none rest left used frame kept none all more s =
       rests = rw nothing cut.1;
     }
 
+-- with a line feed the bytes through it are used, and they complete a frame
 takes_some : (rest left : List ℕ) (at used : ℕ) (frame : Frame) (kept : Kept) → position is_line_feed left ≡ Some at → used ≡ at + 1
     → frame ≡ frame_of (rest ++ take at left) → StandsFor kept [] → Takes rest left used frame kept
 takes_some rest left at used frame kept some next is s =
@@ -59,7 +62,7 @@ takes_some rest left at used frame kept some next is s =
       rests = rw next cut.1;
     }
 
--- what `take` ensures, for each rest that the assembler stood for
+-- what `take` ensures of a piece with a line feed and of one without gives `Takes`, for each rest that the assembler stood for
 pub takes : (rest left : List ℕ) (used : ℕ) (frame : Frame) (kept : Kept)
     → (position is_line_feed left ≡ None → (used ≡ length left) × (frame ≡ More) × StandsFor kept (rest ++ left))
     → ((at : ℕ) → position is_line_feed left ≡ Some at → (used ≡ at + 1) × (frame ≡ frame_of (rest ++ take at left)) × StandsFor kept [])
@@ -78,6 +81,7 @@ pub record Going {State : Type 0} (rule : AnswerRule State) (rest piece left : L
   pub rests : rest_behind rest piece ≡ rest_behind now left
   pub gathered : Gathering rule from to answered text lengths
 
+-- before the first frame nothing of the piece was used, and no text waits
 pub going_start : {State : Type 0} (rule : AnswerRule State) (rest piece : List ℕ) (kept : Kept) (start : Progress State) (text lengths : List ℕ) → text ≡ [] → lengths ≡ [] → StandsFor kept rest
     → Going rule rest piece piece kept start start text lengths
 going_start rule rest piece kept start text lengths empty none s = record {
@@ -89,10 +93,11 @@ going_start rule rest piece kept start text lengths empty none s = record {
   gathered = rw (empty, none) (gathering_start rule start start [] (all_none rule start.state start.taken start.whole));
 }
 
+-- where all frames are those answered and those left, they stay so when the first of those left goes over to the answered
 seen_more : (answered frame later all left : List Frame) → all ≡ answered ++ left → left ≡ frame ++ later → all ≡ (answered ++ frame) ++ later
 seen_more answered frame later all left e f = e ∙ ap (λ zs. answered ++ zs) f ∙ sym (append_assoc answered frame later)
 
--- one more frame
+-- one more frame was answered, and its text waits or all went out
 pub going_on : {State : Type 0} (rule : AnswerRule State) (rest piece left : List ℕ) (used : ℕ) (frame : Frame) (kept kept' : Kept)
     (from to next : Progress State) (text lengths text' lengths' : List ℕ)
     → (g : Going rule rest piece left kept from to text lengths) → Takes g.now left used frame kept' → Gathering rule from next (g.answered ++ completed frame) text' lengths'
@@ -106,7 +111,7 @@ going_on rule rest piece left used frame kept kept' from to next text lengths te
   gathered = more;
 }
 
--- one more frame, and then a text went out in part
+-- where one more frame was answered and then a text went out in part, the piece was answered up to that text's frame
 pub going_part : {State : Type 0} (rule : AnswerRule State) (rest piece left : List ℕ) (used : ℕ) (frame : Frame) (kept kept' : Kept)
     (from to last : Progress State) (text lengths : List ℕ) (bytes : ℕ) (gathers : Bool)
     → (g : Going rule rest piece left kept from to text lengths) → Takes g.now left used frame kept' → GathersPart rule from last (g.answered ++ completed frame) bytes gathers
@@ -121,7 +126,7 @@ going_part rule rest piece left used frame kept kept' from to last text lengths 
       alone = part.alone;
     }
 
--- nothing is left of the piece
+-- where nothing is left of the piece, all of its frames were answered
 pub going_end : {State : Type 0} (rule : AnswerRule State) (rest piece : List ℕ) (kept : Kept) (from to : Progress State) (text lengths : List ℕ) → Going rule rest piece [] kept from to text lengths
     → StandsFor kept (rest_behind rest piece) × Gathering rule from to (frames_behind rest piece) text lengths
 going_end rule rest piece kept from to text lengths g = (
@@ -129,6 +134,6 @@ going_end rule rest piece kept from to text lengths g = (
   subst (λ (xs : List Frame). Gathering rule from to xs text lengths) (sym (g.seen ∙ append-nil g.answered)) g.gathered,
 )
 
--- a length whose test for 0 fails
+-- a length that fails the test for 0 is above 0
 pub not_empty : (n : ℕ) (b : Bool) → b ≡ eqb n 0 → b ≡ false → 0 < n
 not_empty n b is e = grind (arith, nat_tests)

@@ -4,13 +4,13 @@ use Rattle.gc_lines.specs.declared.fault.LineFault.{LineFault}
 use Rattle.gc_lines.specs.Headers.{Gives}
 use Rattle.gc_lines.specs.Readers.{◌>>=◌}
 
--- It finds just what has the form, and has one fault.
+-- a reader finds just what has the form, and has one fault
 pub record Reads {A : Type 0} (read : List ℕ → Result A LineFault) (Has : List ℕ → A → Type 0) (fault : LineFault) : Type 0 where
   pub found : (bytes : List ℕ) (a : A) → read bytes ≡ Ok a → Has bytes a
   pub again : (bytes : List ℕ) (a : A) → Has bytes a → read bytes ≡ Ok a
   pub named : (bytes : List ℕ) (d : LineFault) → read bytes ≡ Err d → fault ≡ d
 
--- where nothing has the form, it gives its fault
+-- where nothing has the form, the reader gives its fault
 pub refused : {A : Type 0} (read : List ℕ → Result A LineFault) (Has : List ℕ → A → Type 0) (fault : LineFault) → Reads read Has fault
     → (bytes : List ℕ) → ((a : A) → ¬ Has bytes a) → read bytes ≡ Err fault
 refused {A} read Has fault reads bytes absent = by_cases (read bytes) refl where
@@ -18,34 +18,37 @@ refused {A} read Has fault reads bytes absent = by_cases (read bytes) refl where
   by_cases (Ok a) e = absurd (absent a (reads.found bytes a e))
   by_cases (Err d) e = ap (λ (g : LineFault). Err g) (sym (reads.named bytes d e))
 
--- where it gives a fault, nothing has the form
+-- where the reader gives a fault, nothing has the form
 pub absent : {A : Type 0} (read : List ℕ → Result A LineFault) (Has : List ℕ → A → Type 0) (fault : LineFault) → Reads read Has fault
     → (bytes : List ℕ) (d : LineFault) → read bytes ≡ Err d → (a : A) → ¬ Has bytes a
 absent read Has fault reads bytes d e a has = let again = reads.again bytes a has in (cc)
 
--- the parts of a chain
+-- where a chain gives a value, its first part gave one, of which its second part made the chain's
 pub bind_ok : {A B : Type 0} (r : Result A LineFault) (f : A → Result B LineFault) (y : B) → (r >>= f) ≡ Ok y → (x : A) × (r ≡ Ok x) × (f x ≡ Ok y)
 bind_ok (Ok x) f y e = (x, refl, e)
 bind_ok (Err d) f y e = (cc)
 
+-- where a chain gives a fault, its first part gave the fault, or its second did
 pub bind_err : {A B : Type 0} (r : Result A LineFault) (f : A → Result B LineFault) (d : LineFault) → (r >>= f) ≡ Err d → (r ≡ Err d) ⊎ ((x : A) × (r ≡ Ok x) × (f x ≡ Err d))
 bind_err (Ok x) f d e = inr (x, refl, e)
 bind_err (Err c) f d e = inl (cc)
 
--- a chain that goes on, and one that stops
+-- a chain goes on with its first part's value
 pub bind_on : {A B : Type 0} (r : Result A LineFault) (f : A → Result B LineFault) (x : A) → r ≡ Ok x → (r >>= f) ≡ f x
 bind_on (Ok y) f x e = let same : y ≡ x = cc in ap f same
 bind_on (Err d) f x e = (cc)
 
+-- a chain stops at its first part's fault
 pub bind_stop : {A B : Type 0} (r : Result A LineFault) (f : A → Result B LineFault) (d : LineFault) → r ≡ Err d → (r >>= f) ≡ Err d
 bind_stop (Ok y) f d e = (cc)
 bind_stop (Err c) f d e = let same : c ≡ d = cc in ap (λ (g : LineFault). Err g) same
 
--- a test that guards a value
+-- where a guarded value is given, its test held
 pub guard_ok : {A : Type 0} (b : Bool) (x y : A) (d : LineFault) → cond b (Ok x) (Err d) ≡ Ok y → (b ≡ true) × (x ≡ y)
 guard_ok true x y d e = (refl, cc)
 guard_ok false x y d e = (cc)
 
+-- where a guarded value is refused, its test failed
 pub guard_err : {A : Type 0} (b : Bool) (x : A) (c d : LineFault) → cond b (Ok x) (Err c) ≡ Err d → (b ≡ false) × (c ≡ d)
 guard_err true x c d e = (cc)
 guard_err false x c d e = (refl, cc)
@@ -57,13 +60,15 @@ pub record ReadsLines {F : Type 0} (read : List ℕ → Result F LineFault) (Is 
   pub fault : (line : List ℕ) (d : LineFault) → read line ≡ Err d → Bad line d
   pub bad : (line : List ℕ) (d : LineFault) → Bad line d → read line ≡ Err d
 
--- what a caller of it learns, who sees what it returned by a view
+-- what a caller of a reader of lines learns, who sees the result by a view: a value has the grammar, a fault is the first bad field, and
+-- each comes back wherever the line has it
 pub record Learns {F X : Type 0} (Is : List ℕ → F → Type 0) (Bad : List ℕ → LineFault → Type 0) (view : X → F) (line : List ℕ) (r : Result X LineFault) : Type 0 where
   pub found : IfOk r (λ x. Is line (view x))
   pub only : (y : F) → Is line y → Gives view r (Ok y)
   pub fault : IfErr r (λ d. Bad line d)
   pub faulty : (d : LineFault) → Bad line d → r ≡ Err d
 
+-- where a result, seen by a view, is what a reader of lines gives of the line, the caller learns what `Learns` says
 pub learns : {F X : Type 0} {read : List ℕ → Result F LineFault} {Is : List ℕ → F → Type 0} {Bad : List ℕ → LineFault → Type 0} → ReadsLines read Is Bad
     → (view : X → F) (line : List ℕ) (r : Result X LineFault) → Gives view r (read line) → Learns Is Bad view line r
 learns {F} {X} {read} {Is} {Bad} reads view line r gives = record { found = found r gives; only = only; fault = fault r gives; faulty = faulty r gives } where

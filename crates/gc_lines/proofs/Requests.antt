@@ -6,13 +6,15 @@ use Rattle.gc_lines.specs.Readers.{HeaderFields, header_at, request_at}
 use Rattle.gc_lines.proofs.Reading.{ReadsLines, bind_ok, bind_on}
 use Rattle.gc_lines.proofs.Headers.{header_found, header_again, ReadsBody, line_fault, line_bad}
 
+-- what `request_at` reads behind a header: any bytes
 abbrev body : HeaderFields → Result RequestFields LineFault
 body h = Ok (record { rpc = h.number; id = h.id; params = h.rest })
 
+-- `body` reads all bytes
 reads : ReadsBody body (λ _. Unit {0})
 reads = record { named = λ h d e. (cc); refused = λ h no. absurd (no tt) }
 
--- what is read has the grammar
+-- what is read as a request has the grammar
 pub request_found : (line : List ℕ) (q : RequestFields) → request_at line ≡ Ok q → IsRequest line q
 unfolding request_at
 request_found line q e =
@@ -22,18 +24,19 @@ request_found line q e =
     let same : (let f : RequestFields = record { rpc = a.0.number; id = a.0.id; params = a.0.rest } in f) ≡ q = cc in
     subst (λ (f : RequestFields). IsRequest line f) same it
 
--- what has the grammar is read
+-- what has the grammar of a request is read
 pub request_again : (line : List ℕ) (q : RequestFields) → IsRequest line q → request_at line ≡ Ok q
 unfolding request_at
 request_again line q is =
     let h : HeaderFields = record { number = q.rpc; id = q.id; rest = q.params } in
     bind_on (header_at request_signature line) body h (header_again request_signature line h (record { number = is.number; is_number = is.is_number; is_id = is.is_id; whole = is.whole }))
 
--- a fault is the first bad field, and the first bad field is the fault
+-- a request's fault is its first bad field
 pub request_fault : (line : List ℕ) (d : LineFault) → request_at line ≡ Err d → FirstBadOfRequest line d
 unfolding request_at
 request_fault line d e = line_fault request_signature body (λ _. Unit {0}) reads line d e
 
+-- a request's first bad field is its fault
 pub request_bad : (line : List ℕ) (f : LineFault) → FirstBadOfRequest line f → request_at line ≡ Err f
 unfolding request_at
 request_bad line f bad = line_bad request_signature body (λ _. Unit {0}) reads line f bad

@@ -18,11 +18,11 @@ fault_number (Read _) = 42
 fault_number (Write _ _) = 43
 fault_number (TooManyReads _) = 44
 
--- a fault with this number, as it is printed
+-- how a printed fault begins: the word and its number
 abbrev pub numbered : ℕ → List ℕ
 numbered number = codes "fault " ++ decimal number
 
--- how far a write came that failed, as it is printed behind the number
+-- what is printed behind the number of a failed write: how many replies were written whole, and how many bytes of the next
 abbrev pub how_far : (replies bytes : ℕ) → List ℕ
 how_far replies bytes = codes " reply " ++ (decimal replies ++ (codes " byte " ++ decimal bytes))
 
@@ -36,25 +36,26 @@ fault_text (TooManyReads _) = numbered 44
 abbrev pub AnswerRule : Type 0 → Type 1
 AnswerRule State = State → Frame → State → Option (List ℕ) → Type 0
 
--- the frames, one after the other, take the state from the one to the other, with these texts in order
+-- answering the frames, one after the other, takes the state from `before` to `after`, and these are the texts in order
 abbrev pub AnswersInOrder : (State : Type 0) → AnswerRule State → State → List Frame → State → List (List ℕ) → Type 0
 AnswersInOrder State rule before [] after texts = (after ≡ before) × (texts ≡ [])
 AnswersInOrder State rule before (frame ∷ later) after texts =
     (state : State) × (text : Option (List ℕ)) × (rest : List (List ℕ))
     × rule before frame state text × AnswersInOrder State rule state later after rest × (texts ≡ option_to_list text ++ rest)
 
--- texts as they are written
+-- texts as they are written, one behind the other
 abbrev pub all_of : List (List ℕ) → List ℕ
 all_of texts = flat_map (λ text. text) texts
 
--- all of these frames were answered, and the texts went out whole, which makes count of before
+-- all of these frames were answered, and the texts went out whole: with the `before` that had gone out earlier they are `count`
 pub record AnswersAll {State : Type 0} (rule : AnswerRule State) (from to : State) (seen : List Frame) (old new : Option (List ℕ)) (before count : ℕ) : Type 0 where
   pub texts : List (List ℕ)
   pub answers : AnswersInOrder State rule from seen to texts
   pub counts : count ≡ before + length texts
   pub took : Appends old new (all_of texts)
 
--- frames were answered up to one whose text went out in part; those after it weren't
+-- these frames were answered up to one whose text was cut: only its first `bytes` bytes went out, and no later frame was answered. With the
+-- `before` texts that had gone out earlier, `count` went out whole
 pub record AnswersPart {State : Type 0} (rule : AnswerRule State) (from to : State) (seen : List Frame) (old new : Option (List ℕ)) (before count bytes : ℕ) : Type 0 where
   pub earlier : List Frame
   pub frame : Frame
@@ -69,7 +70,7 @@ pub record AnswersPart {State : Type 0} (rule : AnswerRule State) (from to : Sta
   pub not_all : bytes < length text
   pub took : Appends old new (all_of texts ++ take bytes text)
 
--- what was done with the frames of what was read
+-- how many of the frames that were read were answered, by the result: all, or at a failed write those up to the one whose text was cut
 abbrev pub AnswersFrames : {State : Type 0} → AnswerRule State → State → State → List Frame → Option (List ℕ) → Option (List ℕ) → Result Served ServeFault → Type 0
 AnswersFrames rule from to seen old new (Ok served) = AnswersAll rule from to seen old new 0 served.replies
 AnswersFrames rule from to seen old new (Err (Read count)) = AnswersAll rule from to seen old new 0 count
@@ -97,7 +98,8 @@ ports_of of_source source of_sink sink = record {
   sink_failed = of_sink.failed sink;
 }
 
--- why it ended, in at most most reads, and what the ports then are
+-- what each result of a run of at most `most` reads says of the ports before and after it: how many reads were answered, whether the last
+-- was the end, and which port has failed
 abbrev pub EndsBecause : Ports → Ports → ℕ → Result Served ServeFault → Type 0
 EndsBecause old new most (Ok _) = (old.reads < new.reads) × (new.reads ≤ old.reads + most) × (new.ended ≡ true) × (new.source_failed ≡ false) × (new.sink_failed ≡ old.sink_failed)
 EndsBecause old new most (Err (Read _)) = (new.reads < old.reads + most) × (old.reads < new.reads → new.ended ≡ false) × (new.source_failed ≡ true) × (new.sink_failed ≡ old.sink_failed)
@@ -105,7 +107,7 @@ EndsBecause old new most (Err (Write _ _)) = (old.reads < new.reads) × (new.rea
 EndsBecause old new most (Err (TooManyReads _)) = (new.reads ≡ old.reads + most) × (old.reads < new.reads → new.ended ≡ false)
     × (new.source_failed ≡ old.source_failed) × (new.sink_failed ≡ old.sink_failed)
 
--- answering in at most most reads took the ports from old to new, and gave this result
+-- answering in at most `most` reads took the ports from `old` to `new`, and gave this result
 pub record HasEnded (old new : Ports) (most : ℕ) (result : Result Served ServeFault) : Type 0 where
   -- where it is served, the source has no byte left
   pub whole : OnOk result (IsAtEnd new.remaining)
@@ -113,20 +115,20 @@ pub record HasEnded (old new : Ports) (most : ℕ) (result : Result Served Serve
   pub ends : EndsBecause old new most result
   -- it is served exactly where the last read was the end
   pub served : IsOk result ↔ ((old.reads < new.reads) × (new.ended ≡ true))
-  -- 42 exactly where the source failed, 43 exactly where the sink did
+  -- a port that hadn't failed before: 42 exactly where the source failed, 43 exactly where the sink did
   pub read : old.source_failed ≡ false → IsErrAnd result (λ fault. fault_number fault ≡ 42) ↔ (new.source_failed ≡ true)
   pub write : old.sink_failed ≡ false → IsErrAnd result (λ fault. fault_number fault ≡ 43) ↔ (new.sink_failed ≡ true)
-  -- 44 exactly where all reads were answered, none was the end, and no port failed
+  -- ports that hadn't failed before: 44 exactly where all reads were answered, none was the end, and no port failed
   pub too_many : old.source_failed ≡ false → old.sink_failed ≡ false → IsErrAnd result (λ fault. fault_number fault ≡ 44)
       ↔ ((new.reads ≡ old.reads + most) × (old.reads < new.reads → new.ended ≡ false) × (new.source_failed ≡ false) × (new.sink_failed ≡ false))
 
--- of the bytes that the source gave, the frames were answered, and the sink took the texts, or the part that the fault says
+-- the frames of the bytes that the source gave, at most 256 a read, were answered, and the sink took the texts as the result says
 abbrev pub AnswersGiven : {State : Type 0} → AnswerRule State → State → State → Ports → Ports → Result Served ServeFault → Type 0
 AnswersGiven rule from to old new result =
     (given : List ℕ) × Consumes old.remaining new.remaining given
     × (length given ≤ 256 * (new.reads - old.reads)) × AnswersFrames rule from to (frames given) old.taken new.taken result
 
--- what an answerer did with the text that it was handed: it appended what it answers to a frame, or left the text as it is
+-- what an answerer did with the text that it was handed: it appended its answer to a frame (true), or left the text as it is (false)
 abbrev pub AppendsAnswer : (Option (List ℕ) → Type 0) → List ℕ → List ℕ → Bool → Type 0
 AppendsAnswer answered old new true = (text : List ℕ) × answered (Some text) × (new ≡ old ++ text)
 AppendsAnswer answered old new false = answered None × (new ≡ old)

@@ -3,13 +3,13 @@
 -- a stream's frames, whatever it means.
 use Rattle.std.specs.Prelude.{◌≡◌, ℕ, ◌-◌, List, Bool, length, take, nat_lt, slice_index}
 
--- the first 513 of them, the last one, and whether there are more than 513
+-- what an assembler keeps of the bytes since the last line feed: the first 513, the last one, and whether there are more than 513
 pub record Kept : Type 0 where
   pub front : List ℕ
   pub last : ℕ
   pub long : Bool
 
--- an assembler stands for each rest of which this is kept: for one alone up to 513 bytes, and for many above
+-- an assembler that keeps this may have got these bytes since the last line feed: one list alone up to 513 bytes, many above
 pub record StandsFor (kept : Kept) (rest : List ℕ) : Type 0 where
   pub front : kept.front ≡ take 513 rest
   pub last : kept.last ≡ slice_index rest (length rest - 1)

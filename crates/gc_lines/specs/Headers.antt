@@ -10,7 +10,7 @@ abbrev pub id_text : Option ℕ → List ℕ
 id_text None = []
 id_text (Some id) = 44 ∷ (48 + id) ∷ []
 
--- what may not stand behind an id: a further digit, and behind none a comma
+-- an id ends in front of these bytes: no further digit follows it, and without an id no comma follows
 abbrev pub EndsId : Option ℕ → List ℕ → Type 0
 EndsId None rest = (after : List ℕ) → rest ≢ 44 ∷ after
 EndsId (Some id) rest = NoDigitFirst rest
@@ -47,7 +47,7 @@ pub record PastColon (signature line rest : List ℕ) : Type 0 where
   pub before : PastId signature line from
   pub here : from ≡ 58 ∷ rest
 
--- the first faulty field from the left, in a line with this signature, where Body says what may stand behind the colon
+-- the fault names the first faulty field, from the left, of a line with this signature; Body says what may stand behind the colon
 abbrev pub FirstBadField : List ℕ → (List ℕ → Type 0) → List ℕ → LineFault → Type 0
 FirstBadField signature Body line Signature = (rest : List ℕ) → ¬ PastSignature signature line rest
 FirstBadField signature Body line Number = (from : List ℕ) × PastSignature signature line from × ((n : ℕ) (rest : List ℕ) → ¬ HasNumber from n rest)

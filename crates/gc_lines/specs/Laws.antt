@@ -8,7 +8,7 @@ use Rattle.gc_lines.specs.Requests.{RequestFields, IsRequest, IsWrittenRequest, 
 use Rattle.gc_lines.specs.Replies.{ReplyFields, IsReply, IsWrittenReply, FirstBadOfReply, reply_text}
 use Rattle.gc_lines.specs.Readers.{request_at, reply_at}
 
--- a stream has one cutting at its line feeds, and its pieces and rest are that one
+-- a stream can be cut at its line feeds in one way alone: into its `pieces` and its `rest_of`
 abbrev pub OneCut : Type 0
 OneCut = (stream : List ℕ) (parts : List (List ℕ)) (rest : List ℕ) → IsCut stream parts rest ↔ ((parts ≡ pieces stream) × (rest ≡ rest_of stream))
 

@@ -5,7 +5,7 @@ use Rattle.gc_lines.specs.declared.frame.Frame.TheVariants as frame
 use Rattle.gc_lines.specs.declared.frame.Lent.{Lent}
 use Rattle.gc_lines.specs.declared.frame.Lent.TheVariants.{Line, Cleared, Overlong, More}
 
--- the frame that is lent
+-- the frame that a lent one stands for
 abbrev pub lent_seen : Lent → Frame
 lent_seen (Line line) = frame.Line (record { items = line.now })
 lent_seen Cleared = frame.Cleared

@@ -22,10 +22,11 @@ pub record Progress (State : Type 0) : Type 0 where
   pub taken : Option (List ℕ)
   pub whole : ℕ
 
+-- the progress with this state, these bytes taken, and this count of texts
 abbrev pub progress_at : {State : Type 0} → State → Option (List ℕ) → ℕ → Progress State
 progress_at state taken whole = record { state = state; taken = taken; whole = whole }
 
--- frames were answered; the texts of the first of them, done, went out, and those of the others, held, stand in a text, with these lengths
+-- frames were answered; the texts of the first ones, `done`, went out, and those of the others, `held`, wait in `text`, with these lengths
 pub record Gathering {State : Type 0} (rule : AnswerRule State) (from to : Progress State) (seen : List Frame) (text lengths : List ℕ) : Type 0 where
   pub state : State
   pub done : List Frame
@@ -37,19 +38,21 @@ pub record Gathering {State : Type 0} (rule : AnswerRule State) (from to : Progr
   pub text_is : text ≡ all_of texts
   pub lengths_are : lengths ≡ map length texts
 
--- a text was to go out with those that wait, and did so in part; where none may wait, the answerer stands behind the frame of that text
+-- the sink failed within a text, of which it took the first `bytes` bytes. The answerer may have got later frames than that text's, but
+-- none where texts aren't gathered
 pub record GathersPart {State : Type 0} (rule : AnswerRule State) (from to : Progress State) (seen : List Frame) (bytes : ℕ) (gathers : Bool) : Type 0 where
   pub reached : State
   pub part : AnswersPart rule from.state reached seen from.taken to.taken from.whole to.whole bytes
   pub alone : gathers ≡ false → reached ≡ to.state
 
--- there is room for one more text, and none waits where none may
+-- there is room for one more text and its length, and no text waits where texts aren't gathered
 pub record HasRoom (text lengths : List ℕ) (gathers : Bool) : Type 0 where
   pub for_text : length text + 514 ≤ 8192
   pub for_length : length lengths < 256
   pub alone : gathers ≡ false → lengths ≡ []
 
--- how many texts of these lengths are whole in the first left bytes, the whole ones before them counted, and how many bytes of the next
+-- of texts with these lengths the first `left` bytes went out: how many texts are whole, `whole` earlier ones counted, and how many
+-- bytes of the next one went out
 abbrev pub parted : ℕ → ℕ → List ℕ → ℕ × ℕ
 parted whole left [] = (whole, left)
 parted whole left (n ∷ ns) = if nat_lt left n then (whole, left) else parted (whole + 1) (left - n) ns

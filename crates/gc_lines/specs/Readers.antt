@@ -10,13 +10,13 @@ use Rattle.gc_lines.specs.declared.header.Header.{Header}
 use Rattle.gc_lines.specs.Requests.{RequestFields, request_signature}
 use Rattle.gc_lines.specs.Replies.{ReplyFields, reply_signature}
 
--- go on where there was no fault
+-- goes on with what was read where there was no fault, and else keeps the fault
 infixl 10 ◌>>=◌
 abbrev pub ◌>>=◌ : {A B : Type 0} → Result A LineFault → (A → Result B LineFault) → Result B LineFault
 (Ok x) >>= f = f x
 (Err e) >>= f = Err e
 
--- what follows the signature
+-- what follows the signature at the front of a line, or the fault `Signature`
 abbrev pub signature_at : List ℕ → List ℕ → Result (List ℕ) LineFault
 signature_at signature line = if pointwise nat_eq (take (length signature) line) signature then Ok (drop (length signature) line) else Err Signature
 
@@ -24,14 +24,14 @@ signature_at signature line = if pointwise nat_eq (take (length signature) line)
 abbrev pub digits_len : List ℕ → ℕ
 digits_len bytes = length (take_while is_ascii_digit bytes)
 
--- the number at the front and what follows it, or the fault that this place of the line has
+-- the number at the front of some bytes and what follows it, or this fault
 abbrev pub number_at : LineFault → List ℕ → Result (ℕ × List ℕ) LineFault
 number_at fault bytes =
     let len = digits_len bytes in
     if nat_lt 0 len && (nat_lt len 6 && nat_lt (digits_value 10 (take len bytes)) 65536)
     then Ok (digits_value 10 (take len bytes), drop len bytes) else Err fault
 
--- the id at the front, where a comma is, and what follows it
+-- the id behind a comma at the front, or none without a comma, and what follows; or the fault `Id`
 abbrev pub id_at : List ℕ → Result (Option ℕ × List ℕ) LineFault
 id_at bytes =
     if slice_index bytes 0 == 44
@@ -39,7 +39,7 @@ id_at bytes =
     then Ok (Some (slice_index bytes 1 - 48), drop 2 bytes) else Err Id)
     else Ok (None, bytes)
 
--- what follows the colon
+-- what follows a colon at the front, or the fault `Colon`
 abbrev pub colon_at : List ℕ → Result (List ℕ) LineFault
 colon_at bytes = if slice_index bytes 0 == 58 then Ok (drop 1 bytes) else Err Colon
 
@@ -53,7 +53,7 @@ pub record HeaderFields : Type 0 where
 abbrev pub header_seen : Header → HeaderFields
 header_seen h = record { number = h.number; id = h.id; rest = h.rest.now }
 
--- the fields through the colon
+-- reads the fields through the colon, from the left, or gives the fault of the first that hasn't its form
 unfoldable pub header_at : List ℕ → List ℕ → Result HeaderFields LineFault
 header_at signature line = do
   from ← signature_at signature line
@@ -62,25 +62,25 @@ header_at signature line = do
   rest ← colon_at id.1
   Ok (record { number = number.0; id = id.0; rest = rest })
 
--- a request from the left
+-- reads a request line's fields from the left, or gives the fault of the first that hasn't its form
 unfoldable pub request_at : List ℕ → Result RequestFields LineFault
 request_at line = do
   header ← header_at request_signature line
   Ok (record { rpc = header.number; id = header.id; params = header.rest })
 
--- the parameters behind a return code
+-- the parameters behind a return code, or the fault `Code`
 abbrev pub params_at : List ℕ → Result (List ℕ) LineFault
 params_at [] = Ok []
 params_at (b ∷ bs) = if b == 44 then Ok bs else Err Code
 
--- the return code and the parameters behind it
+-- the return code and the parameters behind it, or the fault `Code`
 abbrev pub code_at : List ℕ → Result (ℕ × List ℕ) LineFault
 code_at bytes = do
   code ← number_at Code bytes
   params ← params_at code.1
   Ok (code.0, params)
 
--- a reply from the left
+-- reads a reply line's fields from the left, or gives the fault of the first that hasn't its form
 unfoldable pub reply_at : List ℕ → Result ReplyFields LineFault
 reply_at line = do
   header ← header_at reply_signature line

@@ -44,11 +44,12 @@ pub record HasCode (bytes : List ℕ) (rc : ℕ) (params : List ℕ) : Type 0 wh
   pub is_tail : EndsCode tail params
   pub whole : bytes ≡ text ++ tail
 
--- the first field of a reply from the left that has not its form
+-- the fault names the first field of a reply, from the left, that doesn't have its form
 abbrev pub FirstBadOfReply : List ℕ → LineFault → Type 0
 FirstBadOfReply line fault = FirstBadField reply_signature (λ bytes. (rc : ℕ) × (params : List ℕ) × HasCode bytes rc params) line fault
 
--- a reply line is written where its numbers have no leading zeros, and a comma is behind the return code exactly where there are parameters
+-- a line is the written form of a reply: its numbers have no leading zeros, and a comma stands behind the return code exactly where
+-- there are parameters
 pub record IsWrittenReply (line : List ℕ) (fields : ReplyFields) : Type 0 where
   pub is : IsReply line fields
   pub number : NoLeadingZero is.number

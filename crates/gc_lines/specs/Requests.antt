@@ -27,12 +27,11 @@ pub record IsRequest (line : List ℕ) (fields : RequestFields) : Type 0 where
   pub is_id : IfSome fields.id (λ id. id < 8)
   pub whole : line ≡ request_signature ++ (number ++ (id_text fields.id ++ 58 ∷ fields.params))
 
--- the first field of a request from the left that has not its form; any bytes are parameters
--- the first field of a request, from the left, that doesn't have its form; parameters may be any bytes
+-- the fault names the first field of a request, from the left, that doesn't have its form; parameters may be any bytes
 abbrev pub FirstBadOfRequest : List ℕ → LineFault → Type 0
 FirstBadOfRequest line fault = FirstBadField request_signature (λ _. Unit {0}) line fault
 
--- a request line is written where its number has no leading zeros
+-- a line is the written form of a request with these fields: its number has no leading zeros
 pub record IsWrittenRequest (line : List ℕ) (fields : RequestFields) : Type 0 where
   pub is : IsRequest line fields
   pub number : NoLeadingZero is.number

@@ -27,7 +27,7 @@ pub trait Answers {
     /// What answering may do: the state before a frame, the frame, the state after it, and the text, if there is one.
     ghost answers: { Self → Frame → Self → Option (List ℕ) → Type 0 };
 
-    /// Appends its answer to the frame, with the line end, and says whether it has one. Without one the text stays as it is.
+    /// Appends the answer to the frame, with the line end, and returns whether there is one. Without one the text stays as it is.
     fn answer(&mut self, frame: Lent<'_>, text: &mut Outgoing) -> bool
         requires { array_vec_len text.old + 514 ≤ 8192 }
         ensures answered { AppendsAnswer (answers self.old (lent_seen frame.entry) self.new) text.old.items text.new.items result }
@@ -42,8 +42,9 @@ pub trait Answers {
 /// read; after a failed write it has got none behind the frame whose text was on its way. With `gathers` it may then have got
 /// later frames of the same read, too.
 ///
-/// It returns [`Served`] exactly where the last read was the end. It fails with 42 exactly where the source failed, with 43
-/// exactly where the sink did, and with 44 exactly where all reads were answered and none was the end.
+/// It returns [`Served`] exactly where the last read was the end. Over ports that hadn't failed before, it fails with `Read` (42)
+/// exactly where the source failed, with `Write` (43) exactly where the sink did, and with `TooManyReads` (44) exactly where all
+/// reads were answered, none was the end, and no port failed.
 pub fn answer_frames<A: Answers, S: Source, K: Sink>(
     answerer: &mut A,
     source: &mut S,
@@ -62,6 +63,7 @@ pub fn answer_frames<A: Answers, S: Source, K: Sink>(
 {
     let mut session = Session::new(gathers);
     let mut buf = [0u8; PIECE];
+    // Where a line that comes in parts is put together.
     let mut cut = Line::new();
     for _ in 0..max_reads {
         match source.read(&mut buf) {

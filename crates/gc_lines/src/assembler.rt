@@ -81,7 +81,7 @@ impl Assembler {
         (at + 1, self.finish(cut))
     }
 
-    /// As [`Assembler::next`], with the line handed over.
+    /// As [`Assembler::next`], but the frame that it returns has a copy of the line.
     #[inline]
     pub fn take(&mut self, piece: &[u8]) -> (usize, Frame)
         ensures stands { (rest : List ℕ) × StandsFor self.old rest }
@@ -97,7 +97,7 @@ impl Assembler {
         (used, lent.to_frame())
     }
 
-    // Keeps what has to be kept of more bytes.
+    // Notes further bytes of the line: those of the front as far as there is room, the last one, and whether room ran out.
     #[inline(never)]
     fn keep(&mut self, bytes: &[u8])
         ensures stands { (rest : List ℕ) × StandsFor self.old rest }
@@ -114,8 +114,8 @@ impl Assembler {
         }
     }
 
-    // The frame that a line feed makes of what came so far, its line put together in `cut`. It then stands at the start of a
-    // line.
+    // The frame that a line feed makes of what came so far, its line put together in `cut`. The assembler is then at the start
+    // of a line.
     #[inline(never)]
     fn finish<'a>(&mut self, cut: &'a mut Line) -> Lent<'a>
         ensures frame { (rest : List ℕ) → StandsFor self.old rest → lent_seen result ≡ frame_of rest }
@@ -137,7 +137,7 @@ impl Assembler {
         Lent::Line(cut)
     }
 
-    // Goes to the start of a line.
+    // Forgets all bytes: the assembler is at the start of a line.
     #[inline]
     fn clear(&mut self)
         ensures { StandsFor self.new [] }
@@ -163,7 +163,7 @@ fn frame_in(bytes: &[u8]) -> Lent<'_>
     Lent::Line(line)
 }
 
-// Where the first line feed is.
+// The index of the first line feed in a piece. `None`: the piece has no line feed.
 #[inline(always)]
 fn line_feed_at(piece: &[u8]) -> Option<usize>
     ensures at { result ≡ position is_line_feed piece.now }

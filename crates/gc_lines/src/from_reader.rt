@@ -8,7 +8,7 @@ use std::io::Read;
 
 /// A source that reads from a reader of std.
 ///
-/// It fails at the first error of the reader, and at the read after 2^64 - 1 answered ones.
+/// It fails at the first error of the reader, and at the read after 2^64 - 1 answered ones. Then each later read fails, too.
 #[derive(Drop)]
 pub struct FromReader<R> {
     reader: R,

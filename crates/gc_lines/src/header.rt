@@ -19,7 +19,7 @@ pub(crate) struct Header<'a> {
     pub(crate) rest: &'a [u8],
 }
 
-// Reads the fields up to the colon from the left.
+// Reads the fields through the colon, from the left. A refusal names the first faulty one.
 #[inline(always)]
 #[tactic(auto, unfolding(crate::specs::Readers::header_at))]
 pub(crate) fn header_of<'a>(signature: &[u8], line: &'a [u8]) -> Result<Header<'a>, LineFault>
@@ -32,7 +32,7 @@ pub(crate) fn header_of<'a>(signature: &[u8], line: &'a [u8]) -> Result<Header<'
     Ok(Header { number, id, rest })
 }
 
-// What follows the signature.
+// The bytes behind the signature. `Signature`: the line doesn't begin with it.
 #[inline(always)]
 fn after_signature<'a>(signature: &[u8], line: &'a [u8]) -> Result<&'a [u8], LineFault>
     ensures { Gives (λ rest. rest.now) result (signature_at signature.now line.now) }
@@ -40,7 +40,7 @@ fn after_signature<'a>(signature: &[u8], line: &'a [u8]) -> Result<&'a [u8], Lin
     line.strip_prefix(signature).ok_or(LineFault::Signature)
 }
 
-// The id behind a comma, or none, and what follows.
+// The id behind a comma, or none without a comma, and the bytes that follow. `Id`: no single digit from 0 to 7 follows the comma.
 #[inline(always)]
 fn id_of(bytes: &[u8]) -> Result<(Option<u8>, &[u8]), LineFault>
     ensures { Gives (λ x. (x.0, x.1.now)) result (id_at bytes.now) }
@@ -54,7 +54,7 @@ fn id_of(bytes: &[u8]) -> Result<(Option<u8>, &[u8]), LineFault>
     Ok((Some(rest[0] - b'0'), &rest[1..]))
 }
 
-// What follows the colon.
+// The bytes behind a colon. `Colon`: there is none at the front.
 #[inline(always)]
 fn after_colon(bytes: &[u8]) -> Result<&[u8], LineFault>
     ensures { Gives (λ rest. rest.now) result (colon_at bytes.now) }
@@ -65,7 +65,7 @@ fn after_colon(bytes: &[u8]) -> Result<&[u8], LineFault>
     }
 }
 
-// Appends the fields up to the colon.
+// Appends the fields through the colon.
 #[inline(always)]
 pub(crate) fn push_header<const N: usize>(
     to: &mut ArrayVec<u8, N>,

@@ -11,7 +11,7 @@ pub fn limits()
     ensures ahead { AHEAD ≡ 8192 }
 {}
 
-/// A stream is cut at its line feeds in one way: into the pieces, of which the frames are made, and a rest.
+/// A stream can be cut at its line feeds in one way alone: into the pieces before them, each of which makes a frame, and a rest.
 pub fn one_cut()
     ensures { OneCut }
 {}
@@ -36,12 +36,12 @@ pub fn replies_are_read()
     ensures { ReadsReplies }
 {}
 
-/// A request has one written line. It reads back as that request.
+/// A request in range has one written line, which reads back as that request and is plain where the parameters are.
 pub fn requests_are_written()
     ensures { WritesRequests }
 {}
 
-/// A reply has one written line. It reads back as that reply.
+/// A reply in range has one written line, which reads back as that reply and is plain where the parameters are.
 pub fn replies_are_written()
     ensures { WritesReplies }
 {}

@@ -22,7 +22,7 @@ impl Model for Lengths {
 }
 
 impl Lengths {
-    // No text waits.
+    // The empty list of lengths: no text waits.
     pub(crate) fn new() -> Lengths
         ensures { result ≡ [] }
     {
@@ -40,7 +40,7 @@ impl Lengths {
         self.count
     }
 
-    // Their lengths, in order.
+    // The lengths of the texts that wait, in order.
     #[inline]
     pub(crate) fn as_slice(&self) -> &[usize]
         ensures { result.now ≡ self.now }
@@ -58,7 +58,7 @@ impl Lengths {
         self.count += 1;
     }
 
-    // Counts no text any more: all of them went out.
+    // Forgets all lengths: no text waits any more.
     #[inline]
     pub(crate) fn clear(&mut self)
         ensures { self.new ≡ [] }

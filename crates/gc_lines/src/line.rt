@@ -22,6 +22,6 @@ pub fn append<const N: usize>(to: &mut ArrayVec<u8, N>, bytes: &[u8])
     requires { array_vec_len to.old + length bytes.now ≤ N }
     ensures { to.new.items ≡ to.old.items ++ bytes.now }
 {
-    // The caller has shown that there is room, so this is no fault that is passed over.
+    // The caller has shown that there is room, so this never fails.
     let _ = to.try_extend_from_slice(bytes);
 }

@@ -57,12 +57,12 @@ pub trait Source {
 /// Where bytes go.
 ///
 /// An implementor says with `taken` which bytes it has taken, or `None` where that is not known, as of a socket. `failed` is
-/// true from the first failed write on.
+/// true from the first failed write on, and of a `Durable` sink also from the first failed sync on.
 pub trait Sink {
     /// The bytes that were taken, where they are known.
     ghost taken: { Self → Option (List ℕ) };
 
-    /// Whether a write has failed.
+    /// Whether a write has failed, or a sync of a `Durable` sink.
     ghost failed: { Self → Bool };
 
     /// Takes bytes from the front of `bytes`, which is not empty, and returns how many: at least one.
@@ -73,7 +73,7 @@ pub trait Sink {
         ensures bytes { TakesBytes (taken self.old) (taken self.new) result bytes.now }
         ensures fails { Fails (failed self.old) (failed self.new) result };
 
-    /// Whether a write has failed.
+    /// Whether a write has failed, or a sync of a `Durable` sink.
     fn has_failed(&self) -> bool
         ensures { result ≡ failed self.now };
 }

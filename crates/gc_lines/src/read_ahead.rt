@@ -12,9 +12,9 @@ const AHEAD: usize = 8192;
 
 /// A reader that reads ahead from another one, up to 8192 bytes at a time. Takes no memory.
 ///
-/// It gives the bytes that it holds, and then those of the other. It reads the other at most once a call, and only while it
-/// holds nothing. So no call waits for more than the other has. The other's end, and an error of it, comes only once all bytes
-/// before it were given. It then does as the other does.
+/// A call gives bytes that are held, and doesn't ask the other reader. Where none are held, the call first reads the other once,
+/// and gives of what that read gave. The other's end, or its error, comes only once all bytes before that were given; a later
+/// call asks the other again.
 #[derive(Drop)]
 pub struct ReadAhead<R> {
     held: Held,
@@ -41,7 +41,7 @@ impl Model for Held {
 }
 
 impl Held {
-    // Nothing is held.
+    // The state in which nothing is held.
     fn new() -> Held
         ensures { result ≡ [] }
     {
@@ -59,7 +59,7 @@ impl Held {
         self.start == self.end
     }
 
-    // Holds what one read gives, in place of what was held.
+    // Reads once from `reader`, and holds what it gives. Where the read fails, nothing is held.
     fn refill<R: Read>(&mut self, reader: &mut R) -> io::Result<()>
         requires { self.old ≡ [] }
         ensures ok { OnOk result (Consumes (R.remaining reader.old) (R.remaining reader.new) self.new × (self.new ≡ [] → IsAtEnd (R.remaining reader.new))) }
@@ -71,7 +71,7 @@ impl Held {
         Ok(())
     }
 
-    // Moves bytes from the front into `buf`, as many as it has room for, and returns how many.
+    // Moves bytes from the front of those held into `buf`, as many as there are and `buf` has room for, and returns how many.
     fn give(&mut self, buf: &mut [u8]) -> usize
         ensures count { result ≡ min (length self.old) (length buf.old) }
         ensures bytes { self.old ≡ take result buf.new ++ self.new }

@@ -28,7 +28,7 @@ ghost use Rattle.gc_lines.specs.Replies.{ReplyFields, reply_seen, IsReply, First
 ghost use Rattle.gc_lines.specs.Readers.{params_at, code_at, reply_at};
 ghost use Rattle.gc_lines.specs.Lines.{IsPlain};
 
-// The parameters behind a return code: none at the end of the line, else all that follows a comma.
+// The parameters behind a return code: none at the end of the line, else all that follows a comma. `Code`: neither stands there.
 #[inline(always)]
 fn params_of(bytes: &[u8]) -> Result<&[u8], LineFault>
     ensures { Gives (λ params. params.now) result (params_at bytes.now) }
@@ -40,7 +40,7 @@ fn params_of(bytes: &[u8]) -> Result<&[u8], LineFault>
     }
 }
 
-// The return code and the parameters behind it.
+// The return code and the parameters behind it. `Code`: there is no such code, or neither a comma nor the end follows it.
 #[inline(always)]
 fn code_of(bytes: &[u8]) -> Result<(u16, &[u8]), LineFault>
     ensures { Gives (λ x. (x.0, x.1.now)) result (code_at bytes.now) }
@@ -50,7 +50,7 @@ fn code_of(bytes: &[u8]) -> Result<(u16, &[u8]), LineFault>
     Ok((rc, params))
 }
 
-// Reads a reply from the left.
+// Reads a reply line's fields from the left. A refusal names the first faulty one.
 #[inline(always)]
 #[tactic(auto, unfolding(crate::specs::Readers::reply_at))]
 fn reply_of(line: &[u8]) -> Result<Reply<'_>, LineFault>
@@ -108,7 +108,7 @@ pub fn push_reply<const N: usize>(to: &mut ArrayVec<u8, N>, rc_com: u16, id: u8,
     }
 }
 
-// Appends a reply through its return code.
+// Appends a reply through its return code; the id may be left out.
 fn put_reply<const N: usize>(to: &mut ArrayVec<u8, N>, rc_com: u16, id: Option<u8>, rc: u16)
     requires id { ForSome id (λ i. i < 8) }
     requires room { array_vec_len to.old + 18 ≤ N }

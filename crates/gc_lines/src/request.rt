@@ -25,7 +25,7 @@ pub struct Request<'a> {
 ghost use Rattle.gc_lines.specs.Requests.{RequestFields, request_seen, IsRequest, FirstBadOfRequest, request_text};
 ghost use Rattle.gc_lines.specs.Readers.{request_at};
 
-// Reads a request from the left.
+// Reads a request line's fields from the left. A refusal names the first faulty one.
 #[inline(always)]
 #[tactic(auto, unfolding(crate::specs::Readers::request_at))]
 fn request_of(line: &[u8]) -> Result<Request<'_>, LineFault>

@@ -6,19 +6,19 @@ ghost use Rattle.gc_lines.specs.Answering.{fault_number, fault_text};
 use std::error::Error;
 use std::fmt;
 
-/// The number of a read that failed, wherever it is told. This project's own, as the two behind it.
+/// The fault number of a read that failed, wherever one is printed. This project's own, as are the two below.
 pub const READ_FAILED: u8 = 42;
 
-/// The number of a write that failed.
+/// The fault number of a write that failed.
 pub const WRITE_FAILED: u8 = 43;
 
-/// The number of a run that made all the reads that it was allowed.
+/// The fault number of a run that made all the reads that it was allowed.
 pub const READS_SPENT: u8 = 44;
 
 /// The input was answered to its end.
 #[derive(Clone, Copy, Debug, PartialEq, Eq)]
 pub struct Served {
-    /// How many replies were written.
+    /// How many replies were written whole.
     pub replies: u64,
 }
 

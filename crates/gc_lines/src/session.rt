@@ -23,7 +23,7 @@ use crate::writing::write_whole;
 #[derive(Drop)]
 pub(crate) struct Session {
     assembler: Assembler,
-    // Whether the texts of one read wait for one another.
+    // Whether the texts of one read go out together.
     gathers: bool,
     // The texts on their way out, one behind the other, and the length of each.
     text: Outgoing,
@@ -49,8 +49,8 @@ impl Session {
         }
     }
 
-    // Answers the frames that a piece completes, and writes all of their texts; a cut line is put together in `cut`.
-    // `Err(bytes)`: the sink took these bytes of a text, and failed.
+    // Answers the frames that a piece completes, and writes all of their texts; a line that comes in parts is put together in
+    // `cut`. `Err(bytes)`: the sink failed, and took only the first `bytes` bytes of a text.
     pub(crate) fn answer_piece<A: Answers, K: Sink>(
         &mut self,
         answerer: &mut A,
@@ -87,7 +87,8 @@ impl Session {
         Ok(())
     }
 
-    // Answers a frame, if a line feed has ended it.
+    // Has a frame answered, if a line feed has ended it, and writes the texts that wait unless they may wait for one more.
+    // `Err(bytes)`: the sink failed, and took only the first `bytes` bytes of a text.
     fn answer_frame<A: Answers, K: Sink>(
         &mut self,
         answerer: &mut A,
@@ -129,7 +130,7 @@ impl Session {
         Ok(())
     }
 
-    // Whether the texts may wait for one more.
+    // Whether the texts that wait may wait for one more: texts are gathered, and there is room for it.
     #[inline]
     fn may_wait(&self) -> bool
         ensures { result ≡ true → HasRoom self.now.text.items self.now.lengths self.now.gathers }
@@ -137,7 +138,7 @@ impl Session {
         self.gathers && self.lengths.len() < 256 && self.text.len() <= 8192 - 514
     }
 
-    // Writes all texts that wait. `Err(bytes)`: the sink took these bytes of a text, and failed.
+    // Writes all texts that wait. `Err(bytes)`: the sink failed, and took only the first `bytes` bytes of one of them.
     #[inline]
     fn write_texts<K: Sink>(&mut self, sink: &mut K) -> Result<(), usize>
         requires { self.old.replies + length self.old.lengths < 2 ^ 64 }

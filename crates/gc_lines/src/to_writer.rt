@@ -54,7 +54,7 @@ impl<W: Write> Sink for ToWriter<W> {
     }
 }
 
-// What a writer of std took is meant to outlast nothing.
+// Nothing that a writer of std took is meant to outlast a crash, so `sync` has nothing to do.
 impl<W: Write> Durable for ToWriter<W> {
     ghost is_durable = { λ _. true };
 

@@ -1,4 +1,4 @@
--- What a link tells: each call adds what came of it, in the order of the calls. This project's own.
+-- The acts of a link: each call adds what came of it, in the order of the calls. This project's own.
 use Rattle.std.specs.Prelude.{◌≡◌, ℕ, ◌<◌, ◌≤◌, List, ◌++◌, length, take, Option, Some, None, Result, Ok, Err}
 use Rattle.gc_links.specs.declared.link.Came.{Came}
 use Rattle.gc_links.specs.declared.link.Came.TheVariants.{Bytes, Silence, End, Failure, NoMoment}
@@ -12,34 +12,40 @@ pub data Act : Type 0 where
   Untold : Act
   -- these bytes went out whole
   Put : (bytes : List ℕ) → Act
-  -- of these bytes the first so many went out, and the connection failed
+  -- of these bytes the first `count` went out, and the connection failed
   Cut : (bytes : List ℕ) (count : ℕ) → Act
   -- a read gave these, and then it was this moment
   Gave : (bytes : List ℕ) (moment : Moment) → Act
   -- a read gave nothing in its time, and then it was this moment
   Silent : (moment : Moment) → Act
-  -- a read gave the end; failed
+  -- the other end closed the connection, as a read said
   Ended : Act
+  -- a read failed
   Broke : Act
-  -- the connection was closed; a new one was made; none could be made
+  -- the connection was closed
   Closed : Act
+  -- a new connection was made
   Opened : Act
+  -- no new connection could be made
   Unopened : Act
 
--- known acts grow by these
+-- acts that were known are known still, with these behind them
 abbrev pub Tells : Option (List Act) → Option (List Act) → List Act → Type 0
 Tells None new acts = Unit {0}
 Tells (Some xs) None acts = ⊥
 Tells (Some xs) (Some ys) acts = ys ≡ xs ++ acts
 
+-- the act of a reading of the clock, by its result
 abbrev pub told_as : {E : Type 0} → Result Moment E → Act
 told_as (Ok moment) = Told moment
 told_as (Err _) = Untold
 
+-- the act of a write of these bytes, by its result
 abbrev pub put_as : Result (Unit {0}) ℕ → List ℕ → Act
 put_as (Ok _) bytes = Put bytes
 put_as (Err n) bytes = Cut bytes n
 
+-- the act of a read, by its outcome and the buffer behind it
 abbrev pub came_as : Came → List ℕ → Act
 came_as (Bytes n moment) buf = Gave (take n buf) moment
 came_as (Silence moment) buf = Silent moment
@@ -47,16 +53,17 @@ came_as End buf = Ended
 came_as Failure buf = Broke
 came_as NoMoment buf = Untold
 
+-- the act of an opening, by its result
 abbrev pub opened_as : {X E : Type 0} → Result X E → Act
 opened_as (Ok _) = Opened
 opened_as (Err _) = Unopened
 
--- a read gave at least one byte, and no more than it had room for
+-- where a read gave bytes, they are at least one, and no more than the buffer has room for
 abbrev pub IsWithin : Came → List ℕ → Type 0
 IsWithin (Bytes n moment) buf = (0 < n) × (n ≤ length buf)
 IsWithin _ buf = Unit {0}
 
--- less than all went out
+-- where a write of these bytes failed, fewer than all of them went out
 abbrev pub IsPart : Result (Unit {0}) ℕ → List ℕ → Type 0
 IsPart (Ok _) bytes = Unit {0}
 IsPart (Err n) bytes = n < length bytes

@@ -4,16 +4,19 @@ use Rattle.std.specs.Coded.{Coded, code_by, coded×, coded_ℕ, coded_list}
 use Rattle.gc_links.specs.declared.link.Moment.{Moment}
 use Rattle.gc_links.specs.Acts.{Act, Told, Untold, Put, Cut, Gave, Silent, Ended, Broke, Closed, Opened, Unopened}
 
--- which act, its bytes, how many, and its moment on both clocks
+-- the parts of an act: a number for its kind, its bytes, its count, and its moment on both clocks
 abbrev Parts : Type 0
 Parts = ℕ × (List ℕ × (ℕ × (ℕ × ℕ)))
 
+-- what stands for the moment of an act that has none
 abbrev no_moment : Moment
 no_moment = record { elapsed = 0; utc = 0 }
 
+-- the parts of an act of this kind, with these bytes, this count and this moment
 abbrev parts : ℕ → List ℕ → ℕ → Moment → Parts
 parts kind bytes count m = (kind, (bytes, (count, (m.elapsed, m.utc))))
 
+-- an act as its parts
 abbrev to_parts : Act → Parts
 to_parts (Told m) = parts 0 [] 0 m
 to_parts Untold = parts 1 [] 0 no_moment
@@ -27,14 +30,17 @@ to_parts Closed = parts 8 [] 0 no_moment
 to_parts Opened = parts 9 [] 0 no_moment
 to_parts Unopened = parts 10 [] 0 no_moment
 
+-- the moment among the parts of an act
 abbrev moment_in : Parts → Moment
 moment_in p = record { elapsed = p.1.1.1.0; utc = p.1.1.1.1 }
 
+-- the act of these parts; a kind above 10, which no act has, counts as 10
 abbrev from_parts : Parts → Act
 from_parts p =
     cond (p.0 == 0) (Told (moment_in p)) (cond (p.0 == 1) Untold (cond (p.0 == 2) (Put p.1.0) (cond (p.0 == 3) (Cut p.1.0 p.1.1.0) (cond (p.0 == 4) (Gave p.1.0 (moment_in p))
     (cond (p.0 == 5) (Silent (moment_in p)) (cond (p.0 == 6) Ended (cond (p.0 == 7) Broke (cond (p.0 == 8) Closed (cond (p.0 == 9) Opened Unopened)))))))))
 
+-- an act comes back from its parts
 pub from_parts-to_parts : (act : Act) → from_parts (to_parts act) ≡ act
 from_parts-to_parts (Told m) = refl
 from_parts-to_parts Untold = refl
@@ -48,5 +54,6 @@ from_parts-to_parts Closed = refl
 from_parts-to_parts Opened = refl
 from_parts-to_parts Unopened = refl
 
+-- how a list of acts is stored
 abbrev pub acts_code : Coded (List Act)
 acts_code = coded_list (code_by Parts (coded× coded_ℕ (coded× (coded_list coded_ℕ) (coded× coded_ℕ (coded× coded_ℕ coded_ℕ)))) to_parts from_parts from_parts-to_parts)

@@ -4,6 +4,7 @@ use Rattle.gc_links.specs.Acts.{Act}
 use Rattle.gc_links.specs.declared.history.Note.{Note}
 use Rattle.gc_links.specs.declared.history.Note.TheVariants.{Told, Untold, Put, Cut, Gave, Silent, Ended, Broke, Closed, Opened, Unopened}
 
+-- the act that a note stands for
 abbrev pub act_of : Note → Act
 act_of (Told m) = act.Told m
 act_of Untold = act.Untold

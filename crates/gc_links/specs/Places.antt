@@ -4,7 +4,7 @@ use Rattle.gc_values.specs.Whole.{NamesNumber}
 use Rattle.gc_links.specs.declared.place.Place.{Place}
 use Rattle.gc_links.specs.declared.place.Place.TheVariants.{Port, Host, Device}
 
--- digits write a port
+-- digits write a port, from 1 to 65535
 abbrev pub IsPort : List ℕ → ℕ → Type 0
 IsPort digits port = NamesNumber digits port × (1 ≤ port) × (port ≤ 65535)
 
@@ -12,7 +12,8 @@ IsPort digits port = NamesNumber digits port × (1 ≤ port) × (port ≤ 65535)
 abbrev pub HasSlash : List ℕ → Type 0
 HasSlash word = (at : ℕ) × (at < length word) × (get_or word at 0 ≡ 47)
 
--- a port is digits alone; a host is something, a colon and a port, with no slash; a device's path has a slash
+-- the word says this place: digits alone are a port; something, a colon and a port, without a slash, are a host; a word with a slash is the
+-- path of a device
 abbrev pub IsPlace : List ℕ → Place → Type 0
 IsPlace word (Port port) = IsPort word port
 IsPlace word (Host text) = (text.now ≡ word) × (HasSlash word → ⊥)

@@ -17,10 +17,10 @@ pub(crate) enum Peer<'a> {
     Host(&'a str),
 }
 
-/// Connects to the first address of a peer that answers, and waits for each no longer than `patience`.
+/// Connects to a peer, at the first of its addresses that answers. It waits for each address no longer than `patience`.
 ///
-/// It fails where a name isn't found, and where no address answers. It fails, too, where the connection would be one to itself,
-/// as the system can make it at a port where nobody listens.
+/// It fails where the name isn't found, and where no address answers. A connection to itself counts as no answer: the system can
+/// make one at a port where nobody listens.
 pub(crate) fn connect<R: Net<Listener = TcpListener, Stream = TcpStream>>(
     rt: &R,
     peer: Peer<'_>,
@@ -41,7 +41,7 @@ pub(crate) fn connect<R: Net<Listener = TcpListener, Stream = TcpStream>>(
     }
 }
 
-// Connects to one address.
+// Connects to one address. A connection to itself is refused.
 fn connect_to<R: Net<Listener = TcpListener, Stream = TcpStream>>(
     rt: &R,
     address: &SocketAddr,
@@ -55,7 +55,7 @@ fn connect_to<R: Net<Listener = TcpListener, Stream = TcpStream>>(
     Ok(stream)
 }
 
-// Whether a connection is one to itself.
+// Whether a connection is one to itself: both of its ends have one address.
 fn is_to_itself(stream: &TcpStream) -> bool {
     match (stream.local_addr(), stream.peer_addr()) {
         (Ok(near), Ok(far)) => near == far,
@@ -63,12 +63,12 @@ fn is_to_itself(stream: &TcpStream) -> bool {
     }
 }
 
-/// A port of this machine.
+/// The address of a port of 127.0.0.1.
 pub(crate) fn here(port: u16) -> SocketAddr {
     SocketAddr::from(([127, 0, 0, 1], port))
 }
 
-/// Has each line sent as it is written. Where the system can't do that, lines only come later, so it is no fault.
+/// Makes a connection send each line as it is written. Where the system can't do that, lines only come later, so there is no error.
 pub(crate) fn send_at_once(stream: &TcpStream) {
     let _ = stream.set_nodelay(true);
 }

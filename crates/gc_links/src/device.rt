@@ -21,9 +21,9 @@ const REST: u64 = 2;
 /// Why a path is no device that a link can be had over.
 #[derive(Clone, Copy, Debug, PartialEq, Eq)]
 pub enum Unusable {
-    /// What has this name is no terminal.
+    /// The path leads to something that is no terminal.
     NoTerminal,
-    /// Another program holds the device.
+    /// Another program, or another opening of this one, holds the device.
     Held,
     /// The system doesn't let this program read and write it.
     Forbidden,
@@ -66,13 +66,14 @@ fn reason_of(kind: ErrorKind) -> Option<Unusable> {
     }
 }
 
-// Makes no call of a device wait. The system keeps that with the open file, so it can be set by another descriptor of it.
+// Sets a device so that no read or write of it waits. The system keeps this mark with the open file, so another descriptor of the
+// file can set it.
 fn set_free(file: &File) -> io::Result<()> {
     let other = TcpStream::from(file.as_fd().try_clone_to_owned()?);
     other.set_nonblocking(true)
 }
 
-/// Whether an error says only that nothing came or went until now.
+/// Whether an error says only that nothing came or went until now, so that a rest and another call are in place.
 pub(crate) fn is_rest(kind: ErrorKind) -> bool {
     matches!(kind, ErrorKind::WouldBlock | ErrorKind::Interrupted)
 }
@@ -82,8 +83,9 @@ pub(crate) fn rest<R: Clock>(rt: &R) {
     thread::sleep(rt, Duration::from_millis(REST));
 }
 
-/// Writes what a device takes of these bytes, and rests until it takes something. `rests` counts the rests of the writes before
-/// this one, too: all of them together last no longer than [`PATIENCE`].
+/// Writes a front of these bytes, as many as a device takes at once, rests until it takes some, and returns how many it took.
+/// `rests` counts the rests of the writes before this one, too. Where all of them together last [`PATIENCE`], it fails with
+/// `TimedOut`.
 pub(crate) fn write_some<R: Clock>(
     rt: &R,
     file: &File,
@@ -133,19 +135,20 @@ impl<'a, R: Files<File = File> + Clock> DeviceLink<'a, R> {
         })
     }
 
-    /// Looks whether the device is there, and opens it. It is held for the link's first opening.
+    /// Opens the device, and holds it for the link's first opening. `None` as the reason: it isn't there now, or it can't be opened
+    /// for a reason without a name.
     pub fn look(&mut self) -> Result<(), Option<Unusable>> {
         self.held = Some(open_device(self.rt, self.path)?);
         Ok(())
     }
 
-    // The device that is held, unless its line went away meanwhile: then it is let go.
+    // Takes the device that is held. `None`: none is held, or the device that was is no terminal any more, and is let go.
     fn still_held(&mut self) -> Option<File> {
         let held = self.held.take()?;
         if held.is_terminal() { Some(held) } else { None }
     }
 
-    // One read: some bytes, none where the device is gone, or `None` where nothing has come.
+    // One read: how many bytes came, 0 where the device is gone or not open, or `None` where nothing has come.
     fn read_once(&mut self, buf: &mut [u8]) -> io::Result<Option<usize>>
         ensures { IfOk result (λ read. IfSome read (λ n. n ≤ length buf.new)) }
     {
@@ -159,8 +162,8 @@ impl<'a, R: Files<File = File> + Clock> DeviceLink<'a, R> {
         }
     }
 
-    // Reads until some bytes came, or until `millis` milliseconds have gone by since `began`. The moment of a silence is
-    // taken before the last read. That read gave nothing, so nothing had come until then.
+    // Reads until bytes came, the device ended or failed, or `millis` milliseconds have gone by since the moment `began`. The
+    // moment of a silence is taken before the last read. That read gave nothing, so nothing had come until then.
     fn read_until(&mut self, buf: &mut [u8], began: u64, millis: u64) -> Came
         ensures { IsWithin result buf.new }
     {
@@ -206,6 +209,7 @@ impl<'a, R: Files<File = File> + Clock> Link for DeviceLink<'a, R> {
         self.read_until(buf, moment.elapsed, millis)
     }
 
+    // All rests of one put together last no longer than `PATIENCE`.
     fn put(&mut self, bytes: &[u8]) -> Result<(), usize> {
         let Some(file) = &self.file else {
             return Err(0);

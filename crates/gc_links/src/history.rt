@@ -1,4 +1,4 @@
-//! What the calls of a link came to, in order. It stands in proofs alone: no code reads it, and it takes no memory.
+//! The history of a link: what its calls came to, in order. It is there for proofs alone: no code reads it, and it takes no memory.
 
 ghost use Rattle.std.specs.Prelude.{◌≡◌, [], ◌∷◌, ◌++◌, List};
 ghost use base.Fml.{ftrue};
@@ -21,31 +21,41 @@ impl Model for History {
 /// One act, with the bytes that it speaks of.
 #[derive(Clone, Copy, Drop)]
 pub enum Note<'a> {
+    /// The clock was read.
     Told(Moment),
+    /// The clock couldn't be read.
     Untold,
+    /// All of these bytes went out.
     Put(&'a [u8]),
-    /// The first bytes of these went out, this many.
+    /// `Cut(bytes, n)`: only the first n of these bytes went out.
     Cut(&'a [u8], usize),
+    /// A read gave these bytes.
     Gave(&'a [u8], Moment),
+    /// A read gave no byte in its time.
     Silent(Moment),
+    /// The other end closed the connection.
     Ended,
+    /// A read failed.
     Broke,
+    /// The connection was closed.
     Closed,
+    /// A new connection was made.
     Opened,
+    /// No new connection could be made.
     Unopened,
 }
 
 impl History {
     ghost use Rattle.gc_links.specs.Noted.{act_of};
 
-    /// No act yet.
+    /// The history of a link of which no call was made.
     pub fn new() -> History
         ensures { result.acts ≡ [] }
     {
         History {}
     }
 
-    /// The history with one more act, that of the note. Its acts are ghost, so there is nothing to copy.
+    /// The history with one more act, that of the note. The acts are ghost, so there is nothing to copy.
     pub fn then(&self, _note: &Note<'_>) -> History
         ensures { result.acts ≡ self.now.acts ++ act_of _note.now ∷ [] }
     {

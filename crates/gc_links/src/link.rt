@@ -1,4 +1,4 @@
-//! A link: a connection that can be made anew, and a clock, as one port, so that the order of all its calls is told.
+//! A link: a connection that can be made anew, and a clock, as one port, so that the order of all its calls is known.
 
 ghost use Rattle.std.specs.Prelude.{[], ◌∷◌, ◌<◌, length};
 ghost use Rattle.gc_links.specs.Acts.{Closed, Tells, told_as, put_as, came_as, opened_as, IsWithin, IsPart};
@@ -17,7 +17,7 @@ pub struct Moment {
 /// What a read of a link came to, with the moment after it.
 #[derive(Clone, Copy, Debug, PartialEq, Eq)]
 pub enum Came {
-    /// So many bytes.
+    /// This many bytes came.
     Bytes(usize, Moment),
     /// No byte came in the time that was allowed, and none had come until this moment. The link is as good as before.
     Silence(Moment),
@@ -25,13 +25,13 @@ pub enum Came {
     End,
     /// The connection failed.
     Failure,
-    /// The moment after the read can't be told. What came, if anything did, is not known.
+    /// The clock couldn't be read after the read. What came, if anything did, is not known.
     NoMoment,
 }
 
 /// A connection that can be closed and made anew, and its clock.
 ///
-/// Each call tells one act, and `acts` is what was told so far, or `None` where that isn't known, as of a socket.
+/// Each call is one act. `acts` are those so far, or `None` where they aren't known, as of a socket.
 pub trait Link {
     ghost use Rattle.std.specs.Prelude.{List, Option};
     ghost use Rattle.gc_links.specs.Acts.{Act};
@@ -62,7 +62,7 @@ pub trait Link {
     fn close(&mut self)
         ensures { Tells (acts self.old) (acts self.new) (Closed ∷ []) };
 
-    /// Makes a new connection.
+    /// Makes a new connection. `Err`: none could be made.
     fn open(&mut self) -> Result<(), PortFailed>
         ensures { Tells (acts self.old) (acts self.new) (opened_as result ∷ []) };
 }

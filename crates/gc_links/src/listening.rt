@@ -1,4 +1,4 @@
-//! Ports of 127.0.0.1: they are listened at and connected to, and connections come.
+//! Ports of 127.0.0.1: listening at one, accepting its connections, and connecting to one.
 
 use crate::connection::{PATIENCE, Peer, connect, here, send_at_once};
 use std::io;
@@ -28,7 +28,7 @@ pub fn connect_here<R: Net<Listener = TcpListener, Stream = TcpStream>>(
     connect(rt, Peer::Port(port), Duration::from_millis(PATIENCE))
 }
 
-/// Both ends of one connection of this machine to itself.
+/// Both ends of one connection of this machine to itself: the one that connected, and the one that was accepted.
 pub fn both_ends<R: Net<Listener = TcpListener, Stream = TcpStream>>(
     rt: &R,
 ) -> io::Result<(TcpStream, TcpStream)> {

@@ -19,6 +19,7 @@ pub enum Place<'a> {
 }
 
 impl<'a> Display for Place<'a> {
+    // Writes the place as a word, a port with its address in front.
     fn fmt<W: fmt::Write>(&self, f: &mut Formatter<W>) -> fmt::Result {
         match self {
             Place::Port(port) => write!(f, "127.0.0.1:{port}"),
@@ -68,7 +69,7 @@ fn is_host(host: &[u8]) -> bool {
     }
 }
 
-// What stands in the brackets of a host that begins and ends with them.
+// The text between a host's brackets. `None`: the host doesn't begin with `[` and end with `]`.
 fn within_brackets(host: &[u8]) -> Option<&[u8]> {
     host.strip_prefix(b"[")?.strip_suffix(b"]")
 }
@@ -81,7 +82,7 @@ fn has_bracket(text: &[u8]) -> bool {
     text.iter().any(|b| matches!(*b, b'[' | b']'))
 }
 
-// The port that digits write, from 1 on.
+// The port that digits write, from 1 to 65535. `None`: they write no such port.
 fn port_of(digits: &[u8]) -> Option<u16>
     ensures { IfSome result (λ port. IsPort digits.now port) }
 {

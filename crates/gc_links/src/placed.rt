@@ -12,7 +12,7 @@ use std::net::{Net, TcpListener, TcpStream};
 use std::rt::Files;
 use std::time::Clock;
 
-/// A link to where an instrument stands, by what it stands on.
+/// A link to the place of an instrument, by what it goes over.
 #[derive(Drop)]
 pub enum PlacedLink<'a, R> {
     /// Over TCP.
@@ -39,7 +39,7 @@ impl<
         }
     }
 
-    // A link to a device, which is looked at.
+    // A link to a device, which is looked at first, as `new` says.
     fn to_device(rt: &'a R, path: &'a str) -> Result<PlacedLink<'a, R>, Option<Unusable>> {
         let Ok(mut link) = DeviceLink::new(rt, path) else {
             return Err(None);

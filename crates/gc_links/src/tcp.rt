@@ -36,8 +36,8 @@ impl<'a, R: Net<Listener = TcpListener, Stream = TcpStream> + Clock> TcpLink<'a,
         TcpLink::with_patience(rt, port, PATIENCE)
     }
 
-    /// A link to a port of 127.0.0.1. One write, and the making of a connection, waits no longer than `patience`
-    /// milliseconds, and at least one.
+    /// A link to a port of 127.0.0.1 that is not connected yet. One write, and the making of a connection, waits no longer than
+    /// `patience` milliseconds, where 0 counts as 1. It fails where the clock can't be read.
     pub fn with_patience(rt: &'a R, port: u16, patience: u64) -> io::Result<TcpLink<'a, R>> {
         TcpLink::to_peer(rt, Peer::Port(port), patience)
     }
@@ -59,15 +59,15 @@ impl<'a, R: Net<Listener = TcpListener, Stream = TcpStream> + Clock> TcpLink<'a,
         })
     }
 
-    // Reads, and waits at most `millis` milliseconds; but the system may end the wait too late. `None`: nothing came, or the
-    // read was interrupted.
+    // Reads, and returns how many bytes came, 0 at the end of the stream. It waits `millis` milliseconds, where 0 counts as 1,
+    // but the system may end the wait too late. `None`: nothing came, the read was interrupted, or there is no connection.
     fn read_for(&mut self, buf: &mut [u8], millis: u64) -> io::Result<Option<usize>>
         ensures { IfOk result (λ read. IfSome read (λ n. n ≤ length buf.new)) }
     {
         let Some(stream) = &mut self.stream else {
             return Ok(None);
         };
-        // A time of zero would be an error, and none would wait for ever.
+        // A timeout of zero would be an error, and without one the read would wait for ever.
         stream.set_read_timeout(Some(Duration::from_millis(millis.max(1))))?;
         match stream.read(buf) {
             Ok(n) => Ok(Some(n)),
@@ -92,16 +92,16 @@ impl<'a, R: Net<Listener = TcpListener, Stream = TcpStream> + Clock> TcpLink<'a,
     }
 }
 
-// How long to tell a read to wait, so that it ends within `millis` milliseconds. The system may end a wait too late: one of
-// more than a quarter of a second by an eighth of it, and a shorter one by two of its ticks. Who reads repeats a read that
-// ended early.
+// The timeout in milliseconds for a read that is to end within `millis` milliseconds. The system may end a wait too late: one of
+// more than a quarter of a second by an eighth of it, and a shorter one by two of the system's ticks. The caller repeats a read
+// that ended early.
 fn in_time(millis: u64) -> u64
     ensures { result ≤ millis }
 {
     millis.saturating_sub((millis / 8).max(20))
 }
 
-// Whether a call was interrupted, and did nothing.
+// Whether an error says that a call was interrupted, and did nothing.
 fn is_interrupted(error: &io::Error) -> bool {
     error.kind() == ErrorKind::Interrupted
 }
@@ -121,6 +121,7 @@ impl<'a, R: Net<Listener = TcpListener, Stream = TcpStream> + Clock> Link for Tc
         self.timer.moment().map_err(|_| PortFailed)
     }
 
+    // A read ends early rather than late. The moment of its silence says how early, and the caller reads again.
     fn read(&mut self, buf: &mut [u8], millis: u64) -> Came {
         if self.stream.is_none() {
             return self.timer.wait(millis);
@@ -136,6 +137,7 @@ impl<'a, R: Net<Listener = TcpListener, Stream = TcpStream> + Clock> Link for Tc
         }
     }
 
+    // A write that was interrupted is made again, at most `MOST_INTERRUPTIONS` times in one put.
     fn put(&mut self, bytes: &[u8]) -> Result<(), usize> {
         let Some(stream) = &mut self.stream else {
             return Err(0);

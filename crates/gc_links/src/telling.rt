@@ -1,5 +1,5 @@
-//! Any link, made to tell its acts. Each call is that of the link inside, and what it came to is added to a history, which
-//! costs nothing.
+//! A link whose acts are known, over any other link. Each call is that of the link inside, and what it came to is added to a
+//! history, which costs nothing.
 
 ghost use Rattle.std.specs.Prelude.{◌≡◌, []};
 ghost use Rattle.gc_links.specs.Acts.{IsWithin, came_as};
@@ -9,7 +9,7 @@ use crate::history::{History, Note};
 use crate::link::{Came, Link, Moment};
 use gc_lines::PortFailed;
 
-/// A link that tells its acts, whatever link it stands over.
+/// A link whose acts are known, whatever link it stands over.
 #[derive(Drop)]
 pub struct Telling<L> {
     /// The link inside.

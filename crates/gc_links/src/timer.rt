@@ -23,7 +23,7 @@ impl<'a, R: Clock> Timer<'a, R> {
         })
     }
 
-    /// The moment on both clocks.
+    /// Reads both clocks. It fails where one can't be read. A time of day before 1970 counts as the beginning of 1970.
     pub(crate) fn moment(&self) -> io::Result<Moment> {
         let elapsed = self.start.elapsed(self.rt)?;
         let since_1970 = match SystemTime::now(self.rt)?.duration_since(UNIX_EPOCH) {
@@ -41,8 +41,8 @@ impl<'a, R: Clock> Timer<'a, R> {
         thread::sleep(self.rt, Duration::from_millis(millis));
     }
 
-    /// Waits for `millis` milliseconds, where there is no connection to read from: the outcome of a read of which nothing
-    /// came.
+    /// Waits for `millis` milliseconds in place of a read, where there is no connection. It returns `Silence` with the moment
+    /// behind the wait, or `NoMoment`.
     pub(crate) fn wait(&self, millis: u64) -> Came
         ensures { (buf : List ℕ) → IsWithin result buf }
     {
@@ -53,7 +53,8 @@ impl<'a, R: Clock> Timer<'a, R> {
         }
     }
 
-    /// The outcome of a read that gave `n` bytes, with the moment after it; `n` is 0 at the end of the stream.
+    /// The outcome of a read that gave `n` bytes, with the moment after it; `n` is 0 at the end of the stream. `NoMoment`: the
+    /// clock couldn't be read.
     pub(crate) fn came(&self, n: usize) -> Came
         ensures { (buf : List ℕ) → n ≤ length buf → IsWithin result buf }
     {

@@ -19,11 +19,12 @@ const PULLED_OUT: i32 = 5;
 pub enum Wire<'a, R> {
     /// Over TCP.
     Tcp(TcpStream),
-    /// Over a device, and what tells the time.
+    /// Over a device, with what has the clock for its rests.
     Device(&'a R, File),
 }
 
-/// Connects to a place, or opens it where it is a device. `None` as the reason: it can't be had now.
+/// Connects to a place, or opens it where it is a device. `None` as the reason: no connection could be made, or the device
+/// isn't there now or can't be opened for a reason without a name.
 pub fn wire_to<'a, R: Net<Listener = TcpListener, Stream = TcpStream> + Files<File = File>>(
     rt: &'a R,
     place: Place<'_>,
@@ -39,7 +40,8 @@ pub fn wire_to<'a, R: Net<Listener = TcpListener, Stream = TcpStream> + Files<Fi
     }
 }
 
-/// Opens a device. A read of it waits until something comes, as a read over TCP does.
+/// Opens a device. A read of it waits until something comes, as a read over TCP does. `None` as the reason: the device isn't
+/// there now, or it can't be opened for a reason without a name.
 pub fn wire_on<'a, R: Files<File = File>>(
     rt: &'a R,
     path: &str,

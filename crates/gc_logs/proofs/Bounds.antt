@@ -3,7 +3,7 @@ use Rattle.std.proofs.Common.{◌⊎◌, ℕ, List, Option, Result, Ok, Err, OnO
 use Rattle.std.specs.Io.KnownBytes.{Appends}
 use Rattle.gc_lines.specs.Ports.{TakesFront}
 
--- all of a text, or a front of it
+-- a write of a text, whatever its result, left all of the text or a front of it
 pub takes_some : {X : Type 0} (old new : Option (List ℕ)) (text : List ℕ) (r : Result X ℕ) → OnOk r (Appends old new text) → IfErr r (λ n. TakesFront old new n text)
     → Appends old new text ⊎ ((n : ℕ) × TakesFront old new n text)
 takes_some old new text (Ok x) ok err = inl ok

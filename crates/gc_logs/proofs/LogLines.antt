@@ -12,26 +12,29 @@ use Rattle.gc_logs.specs.declared.logging.Unwritten.{Unwritten}
 use Rattle.gc_logs.specs.declared.logging.Way.{Way}
 use Rattle.gc_logs.specs.declared.logging.Way.TheVariants.{Went, Came}
 
--- the lines of one more byte
+-- the lines that bytes give, and one byte more, are those of the bytes, and behind them those of that byte
 entries_more : (way : Way) (p : Unwritten) (bs : List ℕ) (b : ℕ) → entries way p (bs ++ b ∷ []) ≡ entries way p bs ++ entries_at way (pending_behind p bs) b
 entries_more way p [] b = append-nil (entries_at way p b)
 entries_more way p (c ∷ cs) b = ap (λ es. entries_at way p c ++ es) (entries_more way (pending_at p c) cs b)
     ∙ sym (append_assoc (entries_at way p c) (entries way (pending_at p c) cs) (entries_at way (pending_behind (pending_at p c) cs) b))
 
+-- what is pending behind bytes, and one more, is what that byte makes of what is pending behind the bytes
 pending_more : (p : Unwritten) (bs : List ℕ) (b : ℕ) → pending_behind p (bs ++ b ∷ []) ≡ pending_at (pending_behind p bs) b
 pending_more p [] b = refl
 pending_more p (c ∷ cs) b = pending_more (pending_at p c) cs b
 
+-- the text of lines, and of others behind them, is that of the lines, and behind it that of the others
 text_more : (utc : ℕ) (es fs : List Entry) → log_text_of utc (es ++ fs) ≡ log_text_of utc es ++ log_text_of utc fs
 text_more utc es fs = flat_map-append (λ (e : Entry). log_line utc e.mark e.bytes) es fs
 
--- one text behind the other
+-- where a log took one text, and then another, it took both as one
 pub takes_both : (a b c : Option (List ℕ)) (fa fb fc : Bool) (xs ys : List ℕ) → Takes a b fa fb xs → Takes b c fb fc ys → Takes a c fa fc (xs ++ ys)
 takes_both a b c fa fb fc xs ys one next = record {
   took = λ stands. Appends-append a b c xs ys (one.took (next.stood stands)) (next.took stands);
   stood = λ stands. one.stood (next.stood stands);
 }
 
+-- a log that took a text took one that is the same
 takes_is : (a b : Option (List ℕ)) (fa fb : Bool) (xs ys : List ℕ) → xs ≡ ys → Takes a b fa fb xs → Takes a b fa fb ys
 takes_is a b fa fb xs ys e h = subst (Takes a b fa fb) e h
 
@@ -40,6 +43,7 @@ module _ (a b c : Option (List ℕ)) (fa fb fc : Bool) (utc : ℕ) (way : Way) (
   more : take (i + 1) bs ≡ take i bs ++ get_or bs i 0 ∷ []
   more = take_more bs i 0 within
 
+  -- a log took the lines of some bytes, and those of one more
   pub took_more : q ≡ pending_behind p (take i bs) → Takes a b fa fb (log_text_of utc (entries way p (take i bs))) → Takes b c fb fc (log_text_of utc (entries_at way q (get_or bs i 0)))
       → Takes a c fa fc (log_text_of utc (entries way p (take (i + 1) bs)))
   took_more behind one next =
@@ -49,18 +53,21 @@ module _ (a b c : Option (List ℕ)) (fa fb fc : Bool) (utc : ℕ) (way : Way) (
       let last : Takes b c fb fc (log_text_of utc fs) = subst (λ z. Takes b c fb fc (log_text_of utc (entries_at way z (get_or bs i 0)))) behind next in
       takes_is a c fa fc _ _ (sym (text_more utc es fs) ∙ ap (log_text_of utc) whole) (takes_both a b c fa fb fc (log_text_of utc es) (log_text_of utc fs) one last)
 
+  -- what is pending behind some bytes, and behind one more
   pub is_behind : q ≡ pending_behind p (take i bs) → r ≡ pending_at q (get_or bs i 0) → r ≡ pending_behind p (take (i + 1) bs)
   is_behind behind next = next ∙ ap (λ z. pending_at z (get_or bs i 0)) behind ∙ sym (ap (pending_behind p) more ∙ pending_more p (take i bs) (get_or bs i 0))
 
--- bytes that end in a CR
+-- the second of two tests holds where both do
 and_right : (a b : Bool) → (a && b) ≡ true → b ≡ true
 and_right true b e = e
 and_right false b e = let bad : false ≡ true = e in cc
 
+-- the first of two tests holds where both do
 and_left : (a b : Bool) → (a && b) ≡ true → a ≡ true
 and_left true b e = refl
 and_left false b e = e
 
+-- bytes that end in a CR are the bytes before the CR, and the CR
 last_return : (bytes : List ℕ) → ends_in_return bytes ≡ true → bytes ≡ take (length bytes - 1) bytes ++ 13 ∷ []
 last_return bytes e =
     let some : 0 < length bytes = ltb-true 0 (length bytes) (and_left (nat_lt 0 (length bytes)) _ e) in
@@ -69,15 +76,17 @@ last_return bytes e =
     sym (take_all (length bytes) bytes (omega arith)) ∙ ap (λ k. take k bytes) (sym n) ∙ take_more bytes (length bytes - 1) 0 (omega (arith, some))
     ∙ ap (λ b. take (length bytes - 1) bytes ++ b ∷ []) last
 
--- what a line stands for
+-- a line with its CR LF stands for its bytes and CR LF
 whole_wire : (way : Way) (bytes : List ℕ) → wire (entry (line_mark way) bytes ∷ []) ≡ bytes ++ 13 ∷ 10 ∷ []
 whole_wire Went bytes = append-nil (bytes ++ 13 ∷ 10 ∷ [])
 whole_wire Came bytes = append-nil (bytes ++ 13 ∷ 10 ∷ [])
 
+-- a part stands for its bytes
 part_wire : (way : Way) (bytes : List ℕ) → wire (entry (part_mark way) bytes ∷ []) ≡ bytes
 part_wire Went bytes = append-nil bytes
 part_wire Came bytes = append-nil bytes
 
+-- what a line feed ends stands for the pending bytes and the line feed
 line_wire : (way : Way) (p : Unwritten) → wire (entry_of_line way p ∷ []) ≡ p.bytes.items ++ 10 ∷ []
 line_wire way p =
     cond_both (not p.is_long && ends_in_return p.bytes.items) (entry (line_mark way) (take (length p.bytes.items - 1) p.bytes.items)) (entry (part_mark way) (p.bytes.items ++ 10 ∷ []))
@@ -88,18 +97,20 @@ line_wire way p =
     whole_wire way front ∙ sym (append_assoc front (13 ∷ []) (10 ∷ [])) ∙ ap (λ bs. bs ++ 10 ∷ []) (sym cut))
     (λ _. part_wire way (p.bytes.items ++ 10 ∷ []))
 
--- one more byte
+-- one more byte that is no line feed is pending, or begins what is pending behind a part
 in_line : (way : Way) (p : Unwritten) (b : ℕ) (short : Bool) → wire (cond short [] (entry (part_mark way) p.bytes.items ∷ [])) ++
     (cond short (pending (p.bytes.items ++ b ∷ []) p.is_long) (pending (b ∷ []) true)).bytes.items ≡ p.bytes.items ++ b ∷ []
 in_line way p b true = refl
 in_line way p b false = ap (λ w. w ++ b ∷ []) (part_wire way p.bytes.items)
 
+-- what any byte gives and leaves pending stands for what was pending and that byte, by whether it is a line feed
 at_end : (way : Way) (p : Unwritten) (b : ℕ) (feed : Bool) → (b == 10) ≡ feed
     → wire (cond feed (entry_of_line way p ∷ []) (cond (nat_lt (length p.bytes.items) 513) [] (entry (part_mark way) p.bytes.items ∷ [])))
     ++ (cond feed nothing (cond (nat_lt (length p.bytes.items) 513) (pending (p.bytes.items ++ b ∷ []) p.is_long) (pending (b ∷ []) true))).bytes.items ≡ p.bytes.items ++ b ∷ []
 at_end way p b true is = append-nil (wire (entry_of_line way p ∷ [])) ∙ line_wire way p ∙ ap (λ c. p.bytes.items ++ c ∷ []) (sym (eqb-true b 10 is))
 at_end way p b false is = in_line way p b (nat_lt (length p.bytes.items) 513)
 
+-- what one more byte gives, and what is pending then, stand for what was pending and that byte
 byte_wire : (way : Way) (p : Unwritten) (b : ℕ) → wire (entries_at way p b) ++ (pending_at p b).bytes.items ≡ p.bytes.items ++ b ∷ []
 byte_wire way p b = at_end way p b (b == 10) refl
 
@@ -114,10 +125,11 @@ keeps way p (b ∷ bs) =
     ap (λ w. w ++ held) (flat_map-append (λ (e : Entry). wire_of e.mark e.bytes) es fs) ∙ append_assoc (wire es) (wire fs) held ∙ ap (λ w. wire es ++ w) (keeps way q bs)
     ∙ sym (append_assoc (wire es) q.bytes.items bs) ∙ ap (λ w. w ++ bs) (byte_wire way p b) ∙ append_assoc p.bytes.items (b ∷ []) bs
 
+-- the law: of the bytes of one way nothing is lost, nothing is added, and nothing changes places
 pub keeps_all : LogKeepsAll
 keeps_all way p bytes = sym (keeps way p bytes)
 
--- some lines, and others behind them
+-- where a log took the lines of one list, and then those of another, it took those of both
 pub takes_then : (a b c : Option (List ℕ)) (fa fb fc : Bool) (utc : ℕ) (es fs : List Entry) → Takes a b fa fb (log_text_of utc es)
     → Takes b c fb fc (log_text_of utc fs) → Takes a c fa fc (log_text_of utc (es ++ fs))
 takes_then a b c fa fb fc utc es fs one next = takes_is a c fa fc _ _ (sym (text_more utc es fs)) (takes_both a b c fa fb fc (log_text_of utc es) (log_text_of utc fs) one next)

@@ -9,7 +9,7 @@ use Rattle.gc_logs.specs.declared.logged.Logged.{Logged}
 abbrev pub full_line : List ℕ → List ℕ
 full_line line = take (min (length line) 24) line ++ codes " - full: what went or came from here on is left out\n"
 
--- a sink took all of that line, or a front of it, and failed
+-- a sink took all of the line in place of `line`, or failed and took a front of it
 abbrev pub TakesFull : Option (List ℕ) → Option (List ℕ) → List ℕ → Type 0
 TakesFull old new line = Appends old new (full_line line) ⊎ ((n : ℕ) × TakesFront old new n (full_line line))
 
@@ -19,7 +19,7 @@ pub record BoundSeen : Type 0 where
   pub left : ℕ
   pub ended : Bool
 
--- what has room goes to the sink below, and takes its room
+-- a write of bytes that have room goes to the sink below, and the room gets less by as many bytes as that sink takes
 pub record Fits {E : Type 0} (old new : BoundSeen) (result : Result ℕ E) (bytes : List ℕ) : Type 0 where
   pub took : TakesBytes old.taken new.taken result bytes
   pub left : IfOk result (λ n. new.left + n ≡ old.left)
@@ -31,7 +31,7 @@ pub record Bounds {E : Type 0} (old new : BoundSeen) (result : Result ℕ E) (by
   pub fits : old.ended ≡ false → length bytes ≤ old.left → Fits old new result bytes
   pub full : old.ended ≡ false → old.left < length bytes → TakesFull old.taken new.taken bytes
 
--- a sink with a bound takes nothing more
+-- whether a sink with a bound has ended, and takes nothing more
 abbrev pub has_ended : {K : Type 0} → Bounded K → Bool
 has_ended bounded = bounded.is_ended
 

@@ -18,53 +18,59 @@ pub record Entry : Type 0 where
   pub mark : LogMark
   pub bytes : List ℕ
 
+-- the line of a log with this mark and these bytes
 abbrev pub entry : LogMark → List ℕ → Entry
 entry mark bytes = record { mark = mark; bytes = bytes }
 
--- the mark of a line that has its CR LF, and of what isn't one
+-- the mark of a line that has its CR LF
 abbrev pub line_mark : Way → LogMark
 line_mark Went = mark.Went
 line_mark Came = mark.Came
 
+-- the mark of bytes that aren't such a line
 abbrev pub part_mark : Way → LogMark
 part_mark Went = mark.WentPart
 part_mark Came = mark.CamePart
 
--- nothing is pending
+-- what is pending where no byte is
 abbrev pub nothing : Unwritten
 nothing = record { bytes = record { items = [] }; is_long = false }
 
+-- what is pending: these bytes, and whether a front of their line was written
 abbrev pub pending : List ℕ → Bool → Unwritten
 pending bytes long = record { bytes = record { items = bytes }; is_long = long }
 
--- what a line feed makes of what is pending: a line, where a CR stands before it and no front of it was written
+-- the line of a log that a line feed makes of what is pending: a whole line without its CR LF, where a CR stands before the line feed and no
+-- front of the line was written; else a part, with the line feed
 abbrev pub entry_of_line : Way → Unwritten → Entry
 entry_of_line way p =
     if not p.is_long && ends_in_return p.bytes.items then entry (line_mark way) (take (length p.bytes.items - 1) p.bytes.items)
     else entry (part_mark way) (p.bytes.items ++ codes "\n")
 
--- which lines one more byte gives: a line feed ends one, and behind 513 others a byte begins another
+-- which lines of a log one more byte gives: a line feed gives the line that it ends; any other byte gives none, or, where 513 bytes are
+-- pending, the part that these are
 abbrev pub entries_at : Way → Unwritten → ℕ → List Entry
 entries_at way p b =
     if b == 10 then entry_of_line way p ∷ []
     else (if nat_lt (length p.bytes.items) 513 then [] else entry (part_mark way) p.bytes.items ∷ [])
 
--- what is pending behind it
+-- what is pending behind one more byte
 abbrev pub pending_at : Unwritten → ℕ → Unwritten
 pending_at p b =
     if b == 10 then nothing
     else (if nat_lt (length p.bytes.items) 513 then pending (p.bytes.items ++ b ∷ []) p.is_long else pending (b ∷ []) true)
 
--- which lines some bytes give, and what is pending behind them
+-- which lines these bytes give
 abbrev pub entries : Way → Unwritten → List ℕ → List Entry
 entries way p [] = []
 entries way p (b ∷ bs) = entries_at way p b ++ entries way (pending_at p b) bs
 
+-- what is pending behind these bytes
 abbrev pub pending_behind : Unwritten → List ℕ → Unwritten
 pending_behind p [] = p
 pending_behind p (b ∷ bs) = pending_behind (pending_at p b) bs
 
--- which line is written where no more comes
+-- the line of what is pending at a close: none where nothing is
 abbrev pub entries_of_pending : Way → List ℕ → List Entry
 entries_of_pending way [] = []
 entries_of_pending way (b ∷ bs) = entry (part_mark way) (b ∷ bs) ∷ []
@@ -73,7 +79,7 @@ entries_of_pending way (b ∷ bs) = entry (part_mark way) (b ∷ bs) ∷ []
 abbrev pub log_text_of : ℕ → List Entry → List ℕ
 log_text_of utc es = flat_map (λ (e : Entry). log_line utc e.mark e.bytes) es
 
--- a log that still stands took this text
+-- where a log's sink hasn't failed now, it hadn't failed before, and it took this text
 pub record Takes (old new : Option (List ℕ)) (old_failed new_failed : Bool) (text : List ℕ) : Type 0 where
   pub took : new_failed ≡ false → Appends old new text
   pub stood : new_failed ≡ false → old_failed ≡ false
@@ -86,15 +92,16 @@ wire_of mark.Came bytes = bytes ++ 13 ∷ 10 ∷ []
 wire_of mark.CamePart bytes = bytes
 wire_of mark.Link bytes = []
 
+-- the bytes that lines of a log stand for, in order
 abbrev pub wire : List Entry → List ℕ
 wire es = flat_map (λ (e : Entry). wire_of e.mark e.bytes) es
 
--- of the bytes of one way nothing is missing, nothing is added and nothing changes places: what was pending and the bytes are
--- what the lines stand for, and what is pending then
+-- of the bytes of one way nothing is missing, nothing is added and nothing changes places: the bytes that were pending, and behind them the
+-- new ones, are those that the lines stand for, and behind them those that are pending then
 abbrev pub LogKeepsAll : Type 0
 LogKeepsAll = (way : Way) (p : Unwritten) (bytes : List ℕ) → p.bytes.items ++ bytes ≡ wire (entries way p bytes) ++ (pending_behind p bytes).bytes.items
 
--- what is seen of a log: what its sink took, what it still holds, and its moment
+-- what is seen of a log: what its sink took and whether it has failed, what is pending of each way, and the last moment
 pub record LogSeen : Type 0 where
   pub taken : Option (List ℕ)
   pub failed : Bool
@@ -106,18 +113,18 @@ pub record LogSeen : Type 0 where
 abbrev pub log_seen : {K : Type 0} → Sink K → Log K → LogSeen
 log_seen of_sink log = record { taken = of_sink.taken log.sink; failed = of_sink.failed log.sink; went = log.went; came = log.came; utc = log.utc }
 
--- a line of what became of the connection
+-- the line of a log that says what became of the connection, in this word
 abbrev pub link_entry : List ℕ → Entry
 link_entry word = entry mark.Link word
 
--- the moment of the lines of an act: its own, where it tells one, else the last that was told
+-- the moment of the lines of an act: that of the act, where it has one, else the last one before it
 abbrev pub utc_of : ℕ → Act → ℕ
 utc_of utc (Told m) = m.utc
 utc_of utc (Gave bytes m) = m.utc
 utc_of utc (Silent m) = m.utc
 utc_of utc _ = utc
 
--- the lines of an act
+-- the lines that a log has of an act
 abbrev pub entries_of_act : Unwritten → Unwritten → Act → List Entry
 entries_of_act went came (Put bytes) = entries Went went bytes
 entries_of_act went came (Cut bytes count) = entries Went went (take count bytes) ++ link_entry (codes "failed") ∷ []
@@ -129,19 +136,20 @@ entries_of_act went came Opened = link_entry (codes "open") ∷ []
 entries_of_act went came Unopened = link_entry (codes "not open") ∷ []
 entries_of_act went came _ = []
 
--- what is pending behind an act: nothing behind a close
+-- what is pending of what went, behind an act: nothing behind a close
 abbrev pub went_behind : Unwritten → Act → Unwritten
 went_behind went (Put bytes) = pending_behind went bytes
 went_behind went (Cut bytes count) = pending_behind went (take count bytes)
 went_behind went Closed = nothing
 went_behind went _ = went
 
+-- what is pending of what came, behind an act: nothing behind a close
 abbrev pub came_behind : Unwritten → Act → Unwritten
 came_behind came (Gave bytes m) = pending_behind came bytes
 came_behind came Closed = nothing
 came_behind came _ = came
 
--- what a log did with an act
+-- a log took the lines of an act, and keeps what is then pending and the last moment
 pub record Logs (old new : LogSeen) (act : Act) : Type 0 where
   pub took : Takes old.taken new.taken old.failed new.failed (log_text_of (utc_of old.utc act) (entries_of_act old.went old.came act))
   pub went : new.went ≡ went_behind old.went act

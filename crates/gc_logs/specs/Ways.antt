@@ -12,11 +12,12 @@ abbrev pub sign_of : Way → ℕ
 sign_of Went = 62
 sign_of Came = 60
 
--- a line of a log begins its mark so
+-- the mark of a log's line begins with this character
 abbrev pub IsSigned : ℕ → Entry → Type 0
 IsSigned sign e = (rest : List ℕ) × (mark_text e.mark ≡ sign ∷ rest)
 
--- each line of what goes is marked as what goes, and each of what comes as what comes, whole or in part, also where no more follows
+-- each line of a log of bytes that went begins its mark with `>`, and each of bytes that came with `<`, whole or in part; so does the line of
+-- what is pending at a close
 pub record MarksTellTheWay : Type 0 where
   pub lines : (way : Way) (p : Unwritten) (bytes : List ℕ) → AllByRecursion (IsSigned (sign_of way)) (entries way p bytes)
   pub cut : (way : Way) (bytes : List ℕ) → AllByRecursion (IsSigned (sign_of way)) (entries_of_pending way bytes)

@@ -14,9 +14,9 @@ const MOMENT: usize = 24;
 // How many bytes are kept free for the line that says that the rest is left out.
 const SPARE: u64 = 100;
 
-/// A sink that takes lines, each in one write, up to a bound. The first line that has no room is its end: in place of it comes a
-/// line with the same moment, which says that all from there on is left out. It has failed then. Where the sink below fails, that
-/// is its end, too.
+/// A sink that takes lines, each in one write, up to a bound. It ends at the first line that has no room: in place of that line
+/// comes one with the same moment, which says that all from there on is left out. It ends, too, where the sink below fails.
+/// Once it has ended, it counts as failed.
 #[derive(Drop)]
 pub struct Bounded<K> {
     sink: K,
@@ -46,7 +46,7 @@ impl<K: Sink> Bounded<K> {
         }
     }
 
-    /// Whether it has ended at its bound, and not since the sink below failed.
+    /// Whether this sink has ended, and the sink below hasn't failed: so this one ended at its bound.
     pub fn is_full(&self) -> bool {
         self.is_ended && !self.sink.has_failed()
     }
@@ -59,7 +59,7 @@ impl<K: Sink> Bounded<K> {
     }
 }
 
-// The moment of a line.
+// The moment of a line: its first 24 bytes, or all where it has fewer.
 fn moment_of(line: &[u8]) -> &[u8]
     ensures is { result.now ≡ take (min (length line.now) 24) line.now }
     ensures short { length result.now ≤ 24 }
@@ -80,7 +80,7 @@ fn full_line(line: &[u8]) -> ArrayVec<u8, 100>
     text
 }
 
-// Writes it. `Err(n)`: the sink took the first n bytes of it, which aren't all, and failed.
+// Writes the line that stands in place of `line`. `Err(n)`: the sink took the first n bytes of it, which aren't all, and failed.
 fn put_full<K: Sink>(sink: &mut K, line: &[u8]) -> Result<(), usize>
     ensures ok { OnOk result (Appends (K.taken sink.old) (K.taken sink.new) (full_line line.now)) }
     ensures err { IfErr result (λ n. TakesFront (K.taken sink.old) (K.taken sink.new) n (full_line line.now)) }
@@ -101,6 +101,7 @@ impl<K: Sink> Sink for Bounded<K> {
 
     ghost failed = { λ b. b.is_ended };
 
+    // Writes a line that has room. In place of one that has none it writes the line that says so, and fails from then on.
     fn write(&mut self, bytes: &[u8]) -> Result<usize, PortFailed>
         requires { 0 < length bytes.now }
         ensures bytes { TakesBytes None None result bytes.now }

@@ -3,7 +3,8 @@
 ghost use Rattle.gc_logs.specs.Logging.{LogKeepsAll};
 ghost use Rattle.gc_logs.specs.Ways.{MarksTellTheWay};
 
-/// What a log has of the bytes of one way, and what it still holds of them, is all of them in their order.
+/// The bytes of one way that stand in the lines of a log, with those behind them that aren't written yet, are all the bytes of that
+/// way, in order.
 pub fn log_keeps_all()
     ensures { LogKeepsAll }
 {}

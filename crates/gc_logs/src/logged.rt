@@ -12,8 +12,8 @@ use gc_links::{Came, Link, Moment};
 /// A link over another, of which a log is written into a sink: each line that went or came, and what became of the
 /// connection. Its acts are those of the link inside, whatever becomes of the log.
 ///
-/// A line of the log has the last moment that the link told before it ended. Where the sink fails the log ends there, and the
-/// link goes on.
+/// A line of the log has the last moment that the link's clock gave before the line ended. Where the sink fails the log ends there,
+/// and the link goes on.
 #[derive(Drop)]
 pub struct Logged<L, K> {
     /// The link inside.
@@ -22,8 +22,8 @@ pub struct Logged<L, K> {
 }
 
 impl<L: Link, K: Sink> Logged<L, K> {
-    /// A link of which nothing was logged. What is logged before the link tells a moment has this one, in milliseconds since
-    /// 1970, UTC.
+    /// A link of which nothing was logged. What is logged before the link's clock gives a moment has the moment `utc`, in
+    /// milliseconds since 1970, UTC.
     pub fn new(link: L, sink: K, utc: u64) -> Logged<L, K>
         ensures { result.link ≡ link }
     {
@@ -33,7 +33,7 @@ impl<L: Link, K: Sink> Logged<L, K> {
         }
     }
 
-    /// Whether the log couldn't be written.
+    /// Whether the log's sink has failed: from then on nothing is logged.
     pub fn has_lost_its_log(&self) -> bool
         ensures { result ≡ K.failed (sink_of self.now) }
     {

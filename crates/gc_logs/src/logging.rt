@@ -28,7 +28,7 @@ impl Way {
         }
     }
 
-    // The mark of what isn't such a line.
+    // The mark of bytes that aren't such a line.
     fn part(self) -> LogMark
         ensures { result ≡ part_mark self }
     {
@@ -49,7 +49,7 @@ struct Unwritten {
 }
 
 impl Unwritten {
-    // Nothing.
+    // What is pending where no byte is.
     fn nothing() -> Unwritten
         ensures { result ≡ nothing }
     {
@@ -60,13 +60,13 @@ impl Unwritten {
     }
 }
 
-/// A log over a sink. Where the sink has failed nothing more is written, and what it is a log of goes on.
+/// A log over a sink. Where the sink has failed nothing more is written, and the link that is logged goes on.
 #[derive(Drop)]
 pub(crate) struct Log<K> {
     pub(crate) sink: K,
     went: Unwritten,
     came: Unwritten,
-    // The last moment that was told, in milliseconds since 1970.
+    // The last moment that the link's clock gave, in milliseconds since 1970.
     pub(crate) utc: u64,
 }
 
@@ -106,7 +106,7 @@ impl<K: Sink> Log<K> {
         log_bytes(&mut self.sink, self.utc, Way::Came, &mut self.came, bytes);
     }
 
-    // Writes what is pending of both ways, as it is: no more of these lines comes or goes.
+    // Writes the pending bytes of both ways, as they are: no more of these lines comes or goes.
     pub(crate) fn cut(&mut self)
         ensures took { Takes (K.taken self.old.sink) (K.taken self.new.sink) (K.failed self.old.sink) (K.failed self.new.sink)
             (log_text_of self.old.utc (entries_of_pending Went self.old.went.bytes.items ++ entries_of_pending Came self.old.came.bytes.items)) }
@@ -130,7 +130,7 @@ impl<K: Sink> Log<K> {
     }
 }
 
-// Takes bytes, and writes each line that they end.
+// Takes bytes, and writes each line that they end, and a line of more than 513 bytes in parts.
 fn log_bytes<K: Sink>(sink: &mut K, utc: u64, way: Way, pending: &mut Unwritten, bytes: &[u8])
     ensures took { Takes (K.taken sink.old) (K.taken sink.new) (K.failed sink.old) (K.failed sink.new) (log_text_of utc (entries way pending.old bytes.now)) }
     ensures pending { pending.new ≡ pending_behind pending.old bytes.now }
@@ -140,7 +140,8 @@ fn log_bytes<K: Sink>(sink: &mut K, utc: u64, way: Way, pending: &mut Unwritten,
     }
 }
 
-// Takes one more byte, and writes the line that it ends.
+// Takes one more byte. A line feed ends a line, which is written. Where 513 bytes are pending already, these are written as a
+// part of their line.
 fn log_byte<K: Sink>(sink: &mut K, utc: u64, way: Way, pending: &mut Unwritten, b: u8)
     ensures took { Takes (K.taken sink.old) (K.taken sink.new) (K.failed sink.old) (K.failed sink.new) (log_text_of utc (entries_at way pending.old b)) }
     ensures pending { pending.new ≡ pending_at pending.old b }
@@ -159,7 +160,7 @@ fn log_byte<K: Sink>(sink: &mut K, utc: u64, way: Way, pending: &mut Unwritten, 
     pending.is_long = true;
 }
 
-// Writes what a line feed ends.
+// Writes the line, or the last part of one, that a line feed ends.
 fn log_line_end<K: Sink>(sink: &mut K, utc: u64, way: Way, pending: &mut Unwritten)
     ensures took { Takes (K.taken sink.old) (K.taken sink.new) (K.failed sink.old) (K.failed sink.new) (log_text_of utc (entry_of_line way pending.old ∷ [])) }
     ensures pending { pending.new ≡ nothing }
@@ -178,7 +179,7 @@ fn log_line_end<K: Sink>(sink: &mut K, utc: u64, way: Way, pending: &mut Unwritt
     pending.is_long = false;
 }
 
-// Writes what has no end.
+// Writes the pending bytes of one way, if there are any.
 fn log_pending<K: Sink>(sink: &mut K, utc: u64, way: Way, pending: &mut Unwritten)
     ensures took { Takes (K.taken sink.old) (K.taken sink.new) (K.failed sink.old) (K.failed sink.new) (log_text_of utc (entries_of_pending way pending.old.bytes.items)) }
     ensures pending { pending.new ≡ nothing }
@@ -190,7 +191,7 @@ fn log_pending<K: Sink>(sink: &mut K, utc: u64, way: Way, pending: &mut Unwritte
     pending.is_long = false;
 }
 
-// Writes a line of the log. Where the log can't be written it goes on without it: `failed` of the sink says so.
+// Writes a line of the log. Where the sink fails, the line is lost, and `failed` of the sink says so.
 fn write_entry<K: Sink>(sink: &mut K, utc: u64, mark: LogMark, bytes: &[u8])
     requires { length bytes.now ≤ 514 }
     ensures { Takes (K.taken sink.old) (K.taken sink.new) (K.failed sink.old) (K.failed sink.new) (log_text_of utc (entry mark bytes.now ∷ [])) }

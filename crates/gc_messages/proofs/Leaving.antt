@@ -5,6 +5,7 @@ use Rattle.gc_files.specs.Files.{Step}
 use Rattle.gc_files.specs.Rows.{appended}
 use Rattle.gc_files.proofs.Adding.{appended_two}
 
+-- what was appended to the files that were left and to the new one is what was appended before
 pub went_on : (left left' steps : List Step) (taken next after : List ℕ) → left' ≡ left ++ steps → appended steps ≡ taken → next ≡ [] → after ≡ next
     → appended left' ++ after ≡ appended left ++ taken
 went_on left left' steps taken next after is same none kept =

@@ -1,4 +1,4 @@
-//! How an end is told: the status, and behind a refusal or a fault its line.
+//! How an end is reported: the exit status, and a line for a refusal or a fault.
 
 ghost use Rattle.std.specs.Prelude.{◌≡◌, ◌≤◌, IfOk};
 ghost use Rattle.std.specs.Io.KnownBytes.{Appends};
@@ -24,7 +24,8 @@ pub fn refuse_numbers<E: Write>(messages: &mut E) -> io::Result<ExitCode>
     Ok(ExitCode::from(2))
 }
 
-/// Reports a word that names no place of an instrument, or of a simulator, with status 2.
+/// Reports with status 2 that a word names no place: none to serve a simulator on where `serves` is set, else none of an
+/// instrument.
 pub fn refuse_place<E: Write>(serves: bool, messages: &mut E) -> io::Result<ExitCode>
     ensures told { IfOk result (λ status. (exit_status status ≡ 2) × Appends (E.contents messages.old) (E.contents messages.new) (place_line serves)) }
 {
@@ -42,7 +43,7 @@ pub fn refuse_place<E: Write>(serves: bool, messages: &mut E) -> io::Result<Exit
     Ok(ExitCode::from(2))
 }
 
-/// Tells how a run ended: the status, and after a fault its line.
+/// Reports how a run ended: with status 0, or with status 1 and the line of the fault.
 pub fn end_of<E: Write>(end: Result<(), RunFault>, messages: &mut E) -> io::Result<ExitCode>
     ensures told { IfOk result (λ status. Tells run_fault_text end (exit_status status) (E.contents messages.old) (E.contents messages.new)) }
     ensures bound { IfOk result (λ status. exit_status status ≤ 1) }
@@ -56,7 +57,7 @@ pub fn end_of<E: Write>(end: Result<(), RunFault>, messages: &mut E) -> io::Resu
     }
 }
 
-/// Tells how serving or checking ended.
+/// Reports how serving or checking ended: with status 0, or with status 1 and the line of the fault.
 pub fn tell_end<E: Write>(end: Result<Served, ServeFault>, messages: &mut E) -> io::Result<ExitCode>
     ensures told { IfOk result (λ status. Tells fault_text end (exit_status status) (E.contents messages.old) (E.contents messages.new)) }
 {

@@ -1,4 +1,4 @@
-//! What becomes of the files that a station writes while it runs, and how that is told. No record, and nothing that goes out, rests on it.
+//! What becomes of the files that a station writes while it runs, and how that is reported. No record and no request depends on it.
 
 use gc_links::Moment;
 use std::io::{self, Write};
@@ -24,13 +24,13 @@ pub struct FilesSeen {
     pub log: LogSeen,
     /// How many bytes of a torn line of the log were cut off.
     pub log_torn: u64,
-    /// How many times the rows went on in a new file, since the path no longer led to the one before.
+    /// How many times the rows went on in a new file, because the path no longer led to the one before.
     pub moves: u64,
-    /// How many rows of the last of these new files were copied, since an earlier run had no good end.
+    /// How many rows of the last of these new files were copied, because an earlier run had no good end.
     pub copied: u64,
-    /// How many bytes of a torn row it had.
+    /// How many bytes of a torn row were cut off the last of these new files.
     pub torn: u64,
-    /// The path doesn't lead to the rows' file, and no new one can be had there.
+    /// Whether the path doesn't lead to the rows' file, and no new one can be had there.
     pub is_astray: bool,
 }
 
@@ -48,16 +48,16 @@ impl FilesSeen {
     }
 }
 
-/// What was told of the files of a station.
+/// What was reported of the files of a station.
 #[derive(Clone, Copy)]
 pub struct FilesTold {
     told: FilesSeen,
-    // When it was told last that the path of the rows leads astray, in milliseconds of the clock for deadlines.
+    // When it was reported last that the path of the rows leads astray, in milliseconds of the clock for deadlines.
     astray: Option<u64>,
 }
 
 impl FilesTold {
-    /// Nothing was told yet.
+    /// Nothing was reported yet.
     pub fn new() -> FilesTold {
         FilesTold {
             told: FilesSeen::none(),
@@ -65,7 +65,8 @@ impl FilesTold {
         }
     }
 
-    /// Whether something is to be told now: what is new, and each minute that the rows' path leads astray. It counts as told then.
+    /// What is to be reported now: what is new, and once a minute that the rows' path leads astray. It then counts as reported.
+    /// `None`: nothing is new and the path doesn't lead astray. While it does, there may be news without a line.
     pub fn news(&mut self, seen: FilesSeen, moment: Moment) -> Option<FilesNews> {
         let is_due = match self.astray {
             Some(last) => moment.elapsed.saturating_sub(last) >= MINUTE,
@@ -91,7 +92,7 @@ impl FilesTold {
     }
 }
 
-/// What is to be told of the files of a station.
+/// What is to be reported of the files of a station.
 #[derive(Clone, Copy)]
 pub struct FilesNews {
     before: FilesSeen,
@@ -100,14 +101,14 @@ pub struct FilesNews {
 }
 
 impl FilesNews {
-    /// Tells it, in a line for each thing.
+    /// Writes the news, a line for each thing.
     pub fn tell<E: Write>(self, messages: &mut E) -> io::Result<()> {
         self.tell_log(messages)?;
         self.tell_moves(messages)?;
         self.tell_astray(messages)
     }
 
-    // That the rows go into a file that their path doesn't lead to.
+    // Writes, where that is due, that the rows go into a file that their path doesn't lead to.
     fn tell_astray<E: Write>(self, messages: &mut E) -> io::Result<()> {
         if !self.is_astray {
             return Ok(());
@@ -118,7 +119,7 @@ impl FilesNews {
         )
     }
 
-    // What became of the log.
+    // Writes what became of the log, where that is new.
     fn tell_log<E: Write>(self, messages: &mut E) -> io::Result<()> {
         self.tell_torn_log(messages)?;
         if self.now.log == self.before.log {
@@ -137,7 +138,7 @@ impl FilesNews {
         }
     }
 
-    // That bytes of a torn line of the log were cut off.
+    // Writes that bytes of a torn line of the log were cut off, where that is new.
     fn tell_torn_log<E: Write>(self, messages: &mut E) -> io::Result<()> {
         let torn = self.now.log_torn;
         if torn == self.before.log_torn {
@@ -149,7 +150,7 @@ impl FilesNews {
         )
     }
 
-    // That the rows go on in a new file.
+    // Writes that the rows go on in a new file, where that is new.
     fn tell_moves<E: Write>(self, messages: &mut E) -> io::Result<()> {
         if self.now.moves == self.before.moves {
             return Ok(());
@@ -166,7 +167,7 @@ impl FilesNews {
         writeln!(messages, "geocom: {torn} bytes of a torn row were cut off")
     }
 
-    // That rows of the new file were copied.
+    // Writes that rows of the new file were copied, if any were.
     fn tell_copied<E: Write>(self, messages: &mut E) -> io::Result<()> {
         let copied = self.now.copied;
         if copied == 0 {

@@ -51,7 +51,8 @@ impl<'a, R: Files<File = File>> Followed<'a, R> {
         }
     }
 
-    /// Ends the appending. Where all that was written is on the disk the next start finds nothing in doubt.
+    /// Ends the appending to the file that takes the rows now. Where the path leads to it, and all that it holds is on the disk, or is by
+    /// one more sync, the mark that has the next start copy the file is taken away.
     pub fn end(self) {
         let Followed {
             rt,
@@ -78,6 +79,7 @@ impl<'a, R: Files<File = File>> Sink for Followed<'a, R> {
 
     ghost failed = { λ f. has_failed f.rows };
 
+    // Writes into the file that takes the rows now.
     fn write(&mut self, bytes: &[u8]) -> Result<usize, PortFailed> {
         match self.rows.write(bytes) {
             Ok(n) => Ok(n),
@@ -93,7 +95,8 @@ impl<'a, R: Files<File = File>> Sink for Followed<'a, R> {
 impl<'a, R: Files<File = File>> Durable for Followed<'a, R> {
     ghost is_durable = { λ f. is_durable f.rows };
 
-    // What was written is kept in the file that took it, before the rows go on in another.
+    // Syncs the rows. Then, where the path no longer leads to their file, they go on in a new one there, if it can be had.
+    // `Err`: the file failed, or the new one did.
     fn sync(&mut self) -> Result<(), PortFailed> {
         match self.rows.sync() {
             Ok(()) => {}

@@ -1,5 +1,5 @@
-//! The messages of the program: how an end is told, with the system's reason, and what is noticed of a line, of its connection and of
-//! files; and the standard streams, one of which takes them.
+//! The messages of the program: how an end is reported, with the system's reason, and what is noticed of a line, of its
+//! connection and of files; and the standard streams, one of which takes them.
 #![tactic(auto)]
 
 mod bounded;

@@ -2,13 +2,16 @@
 
 use std::io::{self, ErrorKind, Write};
 
-/// A place for messages that takes all, and loses what the place inside doesn't take.
+/// A place for messages that takes all, and loses what the place inside doesn't take. An interrupted write alone fails, and is
+/// made again.
 #[derive(Drop)]
 pub struct Lossy<E> {
     pub inner: E,
 }
 
 impl<E: Write> Write for Lossy<E> {
+    // Writes into the place inside. Where that takes nothing, or fails, all bytes are dropped and count as written; only an
+    // interruption is handed on.
     fn write(&mut self, buf: &[u8]) -> io::Result<usize> {
         match self.inner.write(buf) {
             Ok(n) if n > 0 => Ok(n),
@@ -17,6 +20,7 @@ impl<E: Write> Write for Lossy<E> {
         }
     }
 
+    // Flushes the place inside. That this fails is no error.
     fn flush(&mut self) -> io::Result<()> {
         let _ = self.inner.flush();
         Ok(())

@@ -20,8 +20,8 @@ struct Refusal {
     why: io::Error,
 }
 
-/// A runtime that notes the last error of the one inside at a path or an address. The next success at any of
-/// them clears the note.
+/// A runtime that notes the last error of an opening, a bind, a connect or a look-up of the one inside, with its path, address or
+/// name. The next opening, bind or connect that succeeds clears the note.
 #[derive(Drop)]
 pub struct Noting<'a, R> {
     rt: &'a R,
@@ -69,13 +69,13 @@ impl<'a, R> Noting<'a, R> {
         }
     }
 
-    /// Clears the note, so that an old error isn't told as the reason of the next fault.
+    /// Clears the note, so that an old error isn't reported as the reason of the next fault.
     pub fn forget(&self) {
         self.last.set(None);
     }
 
-    /// Tells behind a fault what the system refused last, and why, where nothing was had since, and there is a place for messages. The
-    /// status stays.
+    /// Writes behind a fault what the system refused last, and why, unless the note was cleared since or the messages are
+    /// closed. It returns how the run ended, as it was.
     pub fn tell<E: Write>(
         &self,
         standard: Standard,
@@ -86,13 +86,13 @@ impl<'a, R> Noting<'a, R> {
     {
         let status = ended?;
         if standard.messages && status != ExitCode::SUCCESS {
-            // Where that can't be written the fault's line stands all the same.
+            // Where this line can't be written, the fault's line stands all the same.
             let _ = self.write(messages);
         }
         Ok(status)
     }
 
-    // The line of what was refused last, where there is one.
+    // Writes the line of what was refused last, if anything was.
     fn write<E: Write>(&self, messages: &mut E) -> io::Result<()> {
         match self.last.take() {
             Some(refusal) => {
@@ -137,6 +137,7 @@ impl<'a, R: Net> Net for Noting<'a, R> {
         self.note_at(addr, self.rt.connect_timeout(addr, timeout))
     }
 
+    // Looks a name up, and notes an error with the name. A success clears no note.
     fn lookup_host(&self, host: &str, port: u16, found: &mut [SocketAddr]) -> io::Result<usize>
         ensures in_bounds { IfOk result (λ n. n ≤ length found.new) }
     {

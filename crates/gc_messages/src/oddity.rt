@@ -1,5 +1,5 @@
-//! What is noticed of a line beside its replies: what is odd about it, as what comes over it shows (it sends requests back, or it changes
-//! the ends of lines), and whether its connection was lost. Beside it stands what became of the station's files.
+//! What is noticed of a line beside its replies: what is odd about it (it sends requests back, or changes the ends of lines), and
+//! whether its connection was lost. What became of the station's files is noted with that.
 
 ghost use Rattle.std.specs.Prelude.{◌≡◌};
 
@@ -71,7 +71,7 @@ impl<'a> Spot<'a> {
         });
     }
 
-    /// Whether no run stopped, or one for a place that couldn't be had.
+    /// Whether no run stopped, or one stopped because its place couldn't be reached.
     pub fn is_unreached(self) -> bool {
         match self.noticed.get().fault {
             None => true,
@@ -105,7 +105,7 @@ pub fn tell_place<E: Write>(place: Place<'_>, fault: RunFault, messages: &mut E)
     writeln!(messages, "geocom: {place}: {why}")
 }
 
-// The longest read of a link, in milliseconds: so often a station is looked at.
+// The longest read of a link, in milliseconds: what watches a station between two reads gets its turn at least so often.
 const LOOK: u64 = 1_000;
 
 /// A link that notices what is odd about its line, and what becomes of its connection. Its acts are those of the link inside. A read
@@ -151,7 +151,7 @@ impl<'a, L> Noticing<'a, L> {
         link
     }
 
-    // Looks at what came.
+    // Takes bytes that came, and judges each line that they end.
     fn look(&mut self, bytes: &[u8])
         ensures { self.new.link ≡ self.old.link }
     {
@@ -167,7 +167,8 @@ impl<'a, L> Noticing<'a, L> {
         }
     }
 
-    // Looks at a line that is at its end.
+    // Notes what is odd about the line that a line feed has just ended: it begins as a request, or as a reply and has no CR at
+    // its end.
     fn judge(&self) {
         let seen = self.seen.get();
         let odd = seen.odd;
@@ -194,6 +195,7 @@ impl<'a, L: Link> Link for Noticing<'a, L> {
         self.link.now()
     }
 
+    // Reads for a second at most, judges the lines that came, and notes an end or a failure as a lost connection.
     fn read(&mut self, buf: &mut [u8], millis: u64) -> Came {
         let came = self.link.read(buf, millis.min(LOOK));
         match came {
@@ -204,6 +206,7 @@ impl<'a, L: Link> Link for Noticing<'a, L> {
         came
     }
 
+    // Writes, and notes a write that was cut as a lost connection.
     fn put(&mut self, bytes: &[u8]) -> Result<(), usize> {
         let put = self.link.put(bytes);
         if put.is_err() {
@@ -212,11 +215,13 @@ impl<'a, L: Link> Link for Noticing<'a, L> {
         put
     }
 
+    // Closes, and forgets half a line that came. That isn't noted as a lost connection.
     fn close(&mut self) {
         self.count = 0;
         self.link.close();
     }
 
+    // Makes a connection, and notes whether none could be made.
     fn open(&mut self) -> Result<(), PortFailed> {
         let opened = self.link.open();
         self.note(opened.is_err());

@@ -22,7 +22,8 @@ pub struct Standard {
 }
 
 impl Standard {
-    /// Looks which of these are open, and which a terminal. It changes none, and opens nothing that stays open.
+    /// Looks which of these are open, and whether the messages go to a terminal and the output to none. It changes none, and
+    /// opens nothing that stays open.
     pub fn look<I: AsFd, O: AsFd, E: AsFd>(input: &I, output: &O, messages: &E) -> Standard {
         Standard {
             input: is_open(input),
@@ -32,14 +33,14 @@ impl Standard {
         }
     }
 
-    /// Whether all of them are open.
+    /// Whether all three streams are open.
     pub fn are_open(self) -> bool
         ensures { result ≡ are_open self }
     {
         self.input && self.output && self.messages
     }
 
-    /// Opens `/dev/null` for each stream that is closed. It takes that stream's place, since the system gives a file the lowest
+    /// Opens `/dev/null` for each stream that is closed. It takes that stream's place, because the system gives a file the lowest
     /// place that is free, and holds it until it is dropped.
     pub fn fill<R: Files>(self, rt: &R) -> io::Result<Places<R::File>> {
         Ok(Places {
@@ -69,8 +70,8 @@ pub struct Places<F> {
     messages: Option<F>,
 }
 
-// Whether a stream is open: then a second handle of it can be had, which is given back at once. It is none of the three first
-// ones, so it is in nobody's place.
+// Whether a stream is open: then a second handle of the stream can be had, which is given back at once. That handle's number is
+// above those of the three streams, so it takes no stream's place.
 fn is_open<F: AsFd>(stream: &F) -> bool {
     match stream.as_fd().try_clone_to_owned() {
         Ok(_) => true,
@@ -78,7 +79,7 @@ fn is_open<F: AsFd>(stream: &F) -> bool {
     }
 }
 
-// A file that takes all, and gives nothing, where a stream is closed.
+// `/dev/null`, which takes all and gives nothing, for a stream that is closed, and `None` for one that is open.
 fn null_for<R: Files>(rt: &R, is_open: bool) -> io::Result<Option<R::File>> {
     if is_open {
         return Ok(None);

@@ -1,4 +1,5 @@
-//! Angles outside one turn: a station tells them at its start, since an angle in gon or in degrees looks so. Angles are in radians.
+//! Angles outside one turn: a station reports them at its start, because an angle in gon or in degrees looks so. Angles are in
+//! radians.
 
 use gc_catalogue::Call;
 use gc_texts::Task;
@@ -10,7 +11,7 @@ fn turn() -> Decimal {
     Decimal::literal(6_283_185_307_179_586_476_925_286, 24)
 }
 
-// -2π, cut so.
+// -2π, cut after 24 places.
 fn turn_back() -> Decimal {
     Decimal::literal(-6_283_185_307_179_586_476_925_286, 24)
 }
@@ -25,7 +26,8 @@ fn is_no_vertical(v: Decimal) -> bool {
     v > turn() || v < Decimal::zero()
 }
 
-/// Tells each angle outside one turn that a positioning of a text has, with its line. These are the tasks of the text.
+/// Writes a line for each angle outside one turn that a positioning of `text` has, with the number of its line. `tasks` are the
+/// tasks of the text.
 pub fn tell_turns<E: Write>(text: &[u8], tasks: &[Task], messages: &mut E) -> io::Result<()> {
     let mut tasks = tasks.iter();
     let mut line = 1u32;
@@ -45,7 +47,7 @@ pub fn tell_turns<E: Write>(text: &[u8], tasks: &[Task], messages: &mut E) -> io
     Ok(())
 }
 
-// Tells what lies outside one turn where the task of this line is a positioning.
+// Writes a line for each angle outside one turn, where the task of this line is a positioning.
 fn tell_turn<E: Write>(line: u32, task: &Task, messages: &mut E) -> io::Result<()> {
     let Call::Position { hz, v, .. } = task.command.call else {
         return Ok(());
@@ -59,7 +61,7 @@ fn tell_turn<E: Write>(line: u32, task: &Task, messages: &mut E) -> io::Result<(
     Ok(())
 }
 
-// The line of such an angle.
+// Writes the line of an angle that lies outside one turn.
 fn tell_angle<E: Write>(line: u32, name: &str, angle: Decimal, messages: &mut E) -> io::Result<()> {
     writeln!(
         messages,

@@ -1,9 +1,10 @@
-//! Places of targets that no command asks for a direction: a station tells them at its start, since nothing is ever compared with them.
+//! Places of targets that no command asks for a direction: a station reports them at its start, because no answer is compared
+//! with them.
 
 use gc_texts::Tasks;
 use std::io::{self, Write};
 
-/// Tells each target of which a text says where it stands, and which no command of it asks for its direction.
+/// Writes a line for each target of which a text says where it stands, and which no command of the text asks for its direction.
 pub fn tell_unasked<E: Write>(tasks: &Tasks, messages: &mut E) -> io::Result<()> {
     for near in tasks.nears.as_slice() {
         if !tasks.asks_direction_of(near.target) {
@@ -13,7 +14,7 @@ pub fn tell_unasked<E: Write>(tasks: &Tasks, messages: &mut E) -> io::Result<()>
     Ok(())
 }
 
-// The line of such a target.
+// Writes the line of a target that no command asks for its direction.
 fn tell_target<E: Write>(target: u32, messages: &mut E) -> io::Result<()> {
     writeln!(
         messages,

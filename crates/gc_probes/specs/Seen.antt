@@ -1,4 +1,4 @@
--- What contracts see of the ports for tests, and what a test tells them to do: this project's own.
+-- What contracts see of the ports for tests, and what a test asks of them: this project's own.
 use Rattle.std.specs.Prelude.{◌≡◌, ℕ, ◌+◌, ◌-◌, ◌<◌, ◌≤◌, ◌==◌, ◌⊎◌, Bool, true, false, List, [], ◌∷◌, ◌++◌, length, take, drop, min, max, Result, Ok, Err}
 
 -- a source: the bytes and the sizes of the pieces that are still to come, how many reads it is to answer and how many it answered, whether the last was the end, and
@@ -11,7 +11,8 @@ pub record SourceSeen : Type 0 where
   pub ended : Bool
   pub failed : Bool
 
--- a sink: the bytes that it took, how many it takes for each call, how many writes it is still to answer, whether a call failed, and whether memory was wanting then
+-- a sink: the bytes that it took, how many it takes for each call, how many writes it is still to answer, whether a call failed, and
+-- whether memory ran out then
 pub record SinkSeen : Type 0 where
   pub taken : List ℕ
   pub most : ℕ
@@ -19,19 +20,21 @@ pub record SinkSeen : Type 0 where
   pub failed : Bool
   pub lacks_memory : Bool
 
--- the size of the next piece, which is at least one byte, where so many bytes are left and so much room is there
+-- the size of the next piece: the first of these sizes, or without one the room, but at least one byte, and at most what is left and
+-- the room
 abbrev pub piece_size : List ℕ → ℕ → ℕ → ℕ
 piece_size [] left room = min left room
 piece_size (size ∷ later) left room = min (max size 1) (min left room)
 
--- a read as the test told it: it gives the next piece, and fails exactly where one has failed or all are answered that should be
+-- a read as the test asked: it gives the next piece, and fails exactly where one has failed or as many were answered as the test asked for
 abbrev pub ReadsAsTold : {E : Type 0} → SourceSeen → SourceSeen → ℕ → Result ℕ E → Type 0
 ReadsAsTold old new room (Ok n) =
     (old.failed ≡ false) × (old.reads < old.answers) × (n ≡ piece_size old.sizes (length old.left) room)
     × (new ≡ record old { left = drop n old.left; sizes = drop 1 old.sizes; reads = old.reads + 1; ended = (n == 0) })
 ReadsAsTold old new room (Err _) = ((old.failed ≡ true) ⊎ (old.answers ≤ old.reads)) × (new ≡ record old { failed = true })
 
--- a write as the test told it: it takes as many bytes as it should, and fails exactly where one has failed, all are answered that should be, or memory is wanting
+-- a write as the test asked: it takes as many bytes as it should, and fails exactly where one has failed, as many were answered as the
+-- test asked for, or memory ran out
 abbrev pub WritesAsTold : {E : Type 0} → SinkSeen → SinkSeen → List ℕ → Result ℕ E → Type 0
 WritesAsTold old new bytes (Ok n) =
     (old.failed ≡ false) × (0 < old.answers) × (n ≡ min old.most (length bytes))

@@ -35,7 +35,7 @@ impl Pipe {
     }
 
     /// The end that writes. It takes up to `most` bytes for each call, answers `answers` writes and fails at the next one.
-    /// It fails, too, where it can't store a byte.
+    /// It fails, too, where no byte can be stored.
     pub fn sink(&self, most: usize, answers: u64) -> PipeSink<'_>
         requires { 0 < most }
         ensures { result.failed ≡ false }
@@ -48,7 +48,7 @@ impl Pipe {
         }
     }
 
-    // Takes bytes out into the front of `buf`, and says how many.
+    // Takes bytes out of the pipe into the front of `buf`, and returns how many.
     fn give(&self, buf: &mut [u8]) -> usize
         ensures within { result ≤ length buf.old }
         ensures same { length buf.new ≡ length buf.old }
@@ -68,7 +68,7 @@ impl Pipe {
         n
     }
 
-    // Stores the first of these bytes, and says how many.
+    // Stores these bytes, from the first on, as far as memory allows, and returns how many it stored.
     fn store(&self, bytes: &[u8]) -> usize
         ensures { result ≤ length bytes.now }
     {

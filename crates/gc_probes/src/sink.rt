@@ -8,8 +8,8 @@ use gc_lines::{Durable, PortFailed, Sink};
 use std::alloc::Global;
 use std::marker::Model;
 
-/// Takes at most a given number of bytes for each call, and keeps them. It fails where it can't
-/// store them, and [`PieceSink::lacks_memory`] tells that.
+/// Takes at most a given number of bytes for each call, and keeps them. It fails where memory to
+/// store them runs out, and then [`PieceSink::lacks_memory`] is true.
 #[derive(Drop)]
 pub struct PieceSink {
     taken: Vec<u8>,
@@ -59,7 +59,7 @@ impl PieceSink {
         self.taken.as_slice()
     }
 
-    /// Whether a write failed for want of memory.
+    /// Whether a write failed because memory ran out.
     pub fn lacks_memory(&self) -> bool
         ensures { result ≡ self.now.lacks_memory }
     {
@@ -77,7 +77,7 @@ impl Sink for PieceSink {
         ensures bytes { TakesBytes (Some self.old.taken) (Some self.new.taken) result bytes.now }
         ensures fails { Fails self.old.failed self.new.failed result }
 
-        // It takes as many bytes as the test told, and fails exactly at the call that it told, or for want of memory.
+        // The sink takes as many bytes as the test asked for, and fails exactly at the call that the test named, or where memory ran out.
         ensures told { WritesAsTold self.old self.new bytes.now result }
     {
         if self.failed || self.answers == 0 {
@@ -102,6 +102,7 @@ impl Sink for PieceSink {
 impl Durable for PieceSink {
     ghost is_durable = { λ _. true };
 
+    // Fails where the sink has failed; else there is nothing to sync.
     fn sync(&mut self) -> Result<(), PortFailed> {
         if self.failed {
             return Err(PortFailed);

@@ -57,7 +57,7 @@ impl<'a> PieceSource<'a> {
         }
     }
 
-    // The size of the next piece, where so much room is there.
+    // Takes the next size off the list, and returns how many bytes the next piece has: at most `room`, and at most what is left.
     fn next_size(&mut self, room: usize) -> usize
         ensures size { result ≡ piece_size self.old.sizes (length self.old.left) room }
         ensures within { (result ≤ length self.old.left) × (result ≤ room) }
@@ -90,7 +90,7 @@ impl<'a> Source for PieceSource<'a> {
         ensures counts { CountsRead self.old.reads self.new.reads self.old.ended self.new.ended result }
         ensures fails { Fails self.old.failed self.new.failed result }
 
-        // It gives the pieces that the test told, and fails exactly at the call that it told.
+        // The source gives pieces of the sizes that the test named, and fails exactly at the call that the test named.
         ensures told { ReadsAsTold self.old self.new (length buf.old) result }
     {
         if self.failed || self.reads >= self.answers {

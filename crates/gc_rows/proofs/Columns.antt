@@ -14,7 +14,7 @@ use Rattle.gc_rows.specs.Laws.{ColumnsAreFields}
 use Rattle.gc_texts.specs.Cuts.{before, behind}
 use Rattle.gc_rows.specs.Rows.{com_of}
 
--- no digit is such a mark
+-- no digit is a mark outside the digits
 no_digit : (d mark : ℕ) → d ≡ mark → IsInRange 48 57 d → mark < 48 ⊎ 57 < mark → ⊥
 no_digit d mark e range (inl low) = omega (arith, e, range.0, low)
 no_digit d mark e range (inr high) = omega (arith, e, range.1, high)
@@ -34,12 +34,12 @@ id_lacks : (id : Option ℕ) → IfSome id (λ i. i < 8) → Lacks 58 (id_text i
 id_lacks None small = tt
 id_lacks (Some i) small = ((λ e. absurd (omega (arith, e))), ((λ e. absurd (omega (arith, e, small))), tt))
 
--- a number before an id
+-- what stands before the first comma of digits and an id is the digits
 number_first : (ds : List ℕ) (id : Option ℕ) → Lacks 44 ds → before 44 (ds ++ id_text id) ≡ ds
 number_first ds None lacks = ap (before 44) (append-nil ds) ∙ before_none 44 ds lacks
 number_first ds (Some i) lacks = before_mark 44 ds ((48 + i) ∷ []) lacks
 
--- a code, and the parameters behind it
+-- a code is what stands before the first comma, and the parameters what stands behind it
 code_first : (ds tail params : List ℕ) → Lacks 44 ds → EndsCode tail params → (before 44 (ds ++ tail) ≡ ds) × (behind 44 (ds ++ tail) ≡ params)
 code_first ds tail params lacks (inl none) =
     let whole : ds ++ tail ≡ ds = ap (λ l. ds ++ l) none.0 ∙ append-nil ds in

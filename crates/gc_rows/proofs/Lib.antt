@@ -1,5 +1,5 @@
 pub mod Columns
 pub mod Rows
-mod JsonLines
-mod Members
-mod Told
+pub mod JsonLines
+pub mod Members
+pub mod Told

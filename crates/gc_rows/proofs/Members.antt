@@ -42,7 +42,7 @@ use Rattle.gc_rows.proofs.Columns.{reply_columns}
 use Rattle.gc_rows.proofs.JsonLines.{bytes_shown}
 use Rattle.gc_texts.proofs.LogStamps.{IsShown, stamp_shown}
 
--- what all of two lists have
+-- where all of two lists have something, all of both together have it
 all_both : {X : Type 0} (P : X → Type 0) (xs ys : List X) → AllByRecursion P xs → AllByRecursion P ys → AllByRecursion P (xs ++ ys)
 all_both P [] ys hx hy = hy
 all_both P (x ∷ xs) ys hx hy = (hx.0, all_both P xs ys hx.1 hy)
@@ -63,10 +63,11 @@ right : (a b : Bool) → (a && b) ≡ true → b ≡ true
 right true b e = e
 right false b e = let bad : false ≡ true = e in cc
 
--- a byte that isn't this one
+-- a byte that tests as unequal to a mark isn't the mark
 other : (b mark : ℕ) → not (b == mark) ≡ true → b ≢ mark
 other b mark e is = let bad : not (mark == mark) ≡ true = subst (λ x. not (x == mark) ≡ true) is e in absurd (false≢true (ap not (sym (eq-eqb mark mark refl)) ∙ bad))
 
+-- a name that passes the test is plain
 plain_name : (name : List ℕ) → are_fit name ≡ true → IsPlainName name
 plain_name [] e = tt
 plain_name (b ∷ bs) e =
@@ -78,6 +79,7 @@ plain_name (b ∷ bs) e =
       plain_name bs (right (is_fit b) (are_fit bs) e),
     )
 
+-- a name that passes the test is of bytes
 plain_bytes : (name : List ℕ) → are_fit name ≡ true → AllByRecursion (λ b. b < 256) name
 plain_bytes [] e = tt
 plain_bytes (b ∷ bs) e =
@@ -91,51 +93,61 @@ abbrev all_fit : List (List ℕ) → Bool
 all_fit [] = true
 all_fit (name ∷ names) = are_fit name && all_fit names
 
+-- where each of these names is plain, the one at a place is
 name_fits : (names : List (List ℕ)) (n : ℕ) → all_fit names ≡ true → are_fit (get_or names n []) ≡ true
 name_fits [] n e = refl
 name_fits (name ∷ names) zero e = left (are_fit name) (all_fit names) e
 name_fits (name ∷ names) (suc n) e = name_fits names n (right (are_fit name) (all_fit names) e)
 
+-- the name of a quantity is plain
 quantity_named : (column : ℕ) → IsPlainName (quantity_name column)
 quantity_named column = plain_name (quantity_name column) (name_fits quantity_names column refl)
 
+-- a plain name with `_text` behind it is plain
 text_named : (name : List ℕ) → IsPlainName name → IsPlainName (name ++ codes "_text")
 text_named name is = all_both (λ b. (32 ≤ b) × ((b ≢ 34) × (b ≢ 92))) name (codes "_text") is (plain_name (codes "_text") refl)
 
--- texts
+-- that all of a text are bytes, in one form, gives it in the other
 all_bytes : (bs : List ℕ) → AllByRecursion (λ b. b < 256) bs → All (λ b. b < 256) bs
 all_bytes bs h = All-from_recursion (λ b. b < 256) bs h
 
+-- the text of a stamp is of bytes
 stamp_bytes : (utc : ℕ) → utc < 2 ^ 64 → All (λ b. b < 256) (stamp_text utc)
 stamp_bytes utc h = all_bytes (stamp_text utc) (bytes_shown (stamp_text utc) (recursion_from_All IsShown (stamp_text utc) (stamp_shown utc h)))
 
+-- what stands before the first mark of bytes is of bytes
 before_bytes : (mark : ℕ) (bs : List ℕ) → AllByRecursion (λ b. b < 256) bs → AllByRecursion (λ b. b < 256) (before mark bs)
 before_bytes mark [] h = tt
 before_bytes mark (b ∷ bs) h = cond_both (b == mark) [] (b ∷ before mark bs) (AllByRecursion (λ b. b < 256)) (λ _. tt) (λ _. (h.0, before_bytes mark bs h.1))
 
+-- what stands behind the first mark of bytes is of bytes
 behind_bytes : (mark : ℕ) (bs : List ℕ) → AllByRecursion (λ b. b < 256) bs → AllByRecursion (λ b. b < 256) (behind mark bs)
 behind_bytes mark [] h = tt
 behind_bytes mark (b ∷ bs) h = cond_both (b == mark) bs (behind mark bs) (AllByRecursion (λ b. b < 256)) (λ _. h.1) (λ _. behind_bytes mark bs h.1)
 
+-- the values of a line of bytes are of bytes
 values_bytes : (line : List ℕ) → All (λ b. b < 256) line → AllByRecursion (λ b. b < 256) (values_of line)
 values_bytes line h = behind_bytes 44 (behind 58 (behind 44 line)) (behind_bytes 58 (behind 44 line) (behind_bytes 44 line (recursion_from_All (λ b. b < 256) line h)))
 
--- numbers: digits, and what is none behind them
+-- of digits, and no digit behind them, exactly the digits come first
 digits_run : (ds rest : List ℕ) → AreDigits ds → prefix_len is_ascii_digit rest ≡ 0 → prefix_len is_ascii_digit (ds ++ rest) ≡ length ds
 digits_run [] rest h none = none
 digits_run (d ∷ ds) rest h none =
     let more = digits_run ds rest h.1 none in
     ap (λ b. cond b (1 + prefix_len is_ascii_digit (ds ++ rest)) 0) (and_from _ _ (le-leb 48 d h.0.0) (le-leb d 57 h.0.1)) ∙ omega (arith, more)
 
+-- a reader of digits goes on behind them
 digits_then : (ds rest : List ℕ) → AreDigits ds → 0 < length ds → prefix_len is_ascii_digit rest ≡ 0 → after_digits (ds ++ rest) ≡ Some rest
 digits_then ds rest h some none =
     ap (λ n. cond (n == 0) None (Some (drop n (ds ++ rest)))) (digits_run ds rest h none)
     ∙ ap (λ b. cond b None (Some (drop (length ds) (ds ++ rest)))) (ne_eqb (length ds) 0 (λ e. omega (arith, some, e))) ∙ ap Some (drop_at ds rest _ refl)
 
+-- a reader that takes no digit behind a leading zero goes on behind the digits of a number, too
 first_digit : (z : Bool) (d : ℕ) (ds rest : List ℕ) → (z ≡ true → ds ≡ []) → after_digits (d ∷ ds ++ rest) ≡ Some rest → cond z (Some (ds ++ rest)) (after_digits (d ∷ ds ++ rest)) ≡ Some rest
 first_digit true d ds rest alone more = ap (λ l. Some (l ++ rest)) (alone refl)
 first_digit false d ds rest alone more = more
 
+-- a reader of a number goes on behind its whole part
 whole_then : (ds rest : List ℕ) → IsWholePart ds → prefix_len is_ascii_digit rest ≡ 0 → (after_whole (ds ++ rest) ≡ Some rest) × ((head (ds ++ rest) == 45) ≡ false)
 whole_then [] rest is none = let some = is.some in absurd (omega (arith, some))
 whole_then (d ∷ ds) rest is none = (
@@ -143,7 +155,7 @@ whole_then (d ∷ ds) rest is none = (
   ne_eqb d 45 (λ e. let digit = is.are_digits.0 in omega (arith, e, digit)),
 )
 
--- a sign, digits, and what ends a number
+-- a sign, a whole part, and what ends a number, are a number of JSON
 signed_then : (negative : Bool) (ds rest : List ℕ) → IsWholePart ds → prefix_len is_ascii_digit rest ≡ 0
     → option_and_then after_exponent (after_fraction rest) ≡ Some [] → IsNumber (minus_where negative ++ (ds ++ rest))
 unfolding after_number
@@ -153,15 +165,19 @@ signed_then false ds rest is none ends =
     ap (λ b. option_and_then after_exponent (option_and_then after_fraction (after_whole (cond b (drop 1 (ds ++ rest)) (ds ++ rest))))) whole.1
     ∙ ap (λ o. option_and_then after_exponent (option_and_then after_fraction o)) whole.0 ∙ ends
 
+-- a whole part with or without a minus is a number of JSON
 whole_number : (negative : Bool) (ds : List ℕ) → IsWholePart ds → IsNumber (minus_where negative ++ ds)
 whole_number negative ds is = subst (λ l. IsNumber (minus_where negative ++ l)) (append-nil ds) (signed_then negative ds [] is refl refl)
 
+-- a point and digits end a number
 fraction_ends : (ds : List ℕ) → AreDigits ds → 0 < length ds → option_and_then after_exponent (after_fraction (46 ∷ ds)) ≡ Some []
 fraction_ends ds digits some = ap (λ l. option_and_then after_exponent (after_digits l)) (sym (append-nil ds)) ∙ ap (option_and_then after_exponent) (digits_then ds [] digits some refl)
 
+-- a text in the form of a whole number is a number of JSON
 whole_form_number : (text : List ℕ) → HasWholeForm text → IsNumber text
 whole_form_number text form = subst IsNumber (sym form.text_is) (whole_number form.negative form.digits form.digits_are)
 
+-- a text in the form of a decimal is a number of JSON
 decimal_form_number : (text : List ℕ) → HasDecimalForm text → IsNumber text
 decimal_form_number text form =
     subst IsNumber (sym form.text_is) (signed_then form.negative form.whole (46 ∷ form.fraction) form.whole_is refl (fraction_ends form.fraction form.fraction_is.are_digits form.fraction_is.some))
@@ -171,6 +187,7 @@ digits_are : (ds : List ℕ) → AllDigits 10 ds → AreDigits ds
 digits_are [] h = tt
 digits_are (d ∷ ds) h = (digit_from_value d h.0, digits_are ds h.1)
 
+-- digits without the zeros in front of them are a whole part
 behind_zeros : (ds : List ℕ) → AreDigits ds → 0 < length ds → IsWholePart (without_zeros ds)
 behind_zeros [] digits some = absurd (omega (arith, some))
 behind_zeros (b ∷ []) digits some = record { are_digits = digits; some = some; no_zero_in_front = λ rest e. sym (ap (drop 1) e) }
@@ -178,9 +195,11 @@ behind_zeros (b ∷ c ∷ ds) digits some =
     cond_both (b == 48) (without_zeros (c ∷ ds)) (b ∷ c ∷ ds) IsWholePart (λ _. behind_zeros (c ∷ ds) digits.1 (omega arith))
     (λ none. record { are_digits = digits; some = some; no_zero_in_front = λ rest e. absurd (false≢true (sym none ∙ eq-eqb b 48 (ap (λ l. get_or l 0 0) e))) })
 
+-- a code without the zeros in front of it is a number of JSON
 code_number : (ds : List ℕ) → AllDigits 10 ds → 0 < length ds → IsNumber (without_zeros ds)
 code_number ds digits some = whole_number false (without_zeros ds) (behind_zeros ds (digits_are ds digits) some)
 
+-- the number of a fault has at most 64 bits
 fault_fits : (fault : ValueFault) → fault_number fault < 2 ^ 64
 fault_fits Spelling = omega arith
 fault_fits Range = omega arith
@@ -188,11 +207,12 @@ fault_fits OpenQuote = omega arith
 fault_fits TooMany = omega arith
 fault_fits Count = omega arith
 
--- when, and for whom
+-- the member that says when a command was sent is one that reads back (`IsMember`)
 sent_are : (sent : Option ℕ) → IfSome sent (λ utc. utc < 2 ^ 64) → AllByRecursion IsMember (sent_members sent)
 sent_are None h = tt
 sent_are (Some utc) h = ((plain_name (codes "sent") refl, stamp_bytes utc h), tt)
 
+-- the members that say when a command was sent and ended, and which one it was, read back
 when_are : (when : When) → IsWhen when → AllByRecursion IsMember (when_members when)
 when_are when is =
     all_both IsMember (sent_members when.stamp.sent) (Text (codes "time") (stamp_text when.stamp.utc) ∷ Number (codes "cycle")
@@ -202,10 +222,12 @@ when_are when is =
       ((plain_name (codes "cycle") refl, IsNumber-decimal when.stamp.cycle is.cycle), ((plain_name (codes "place") refl, IsNumber-decimal when.stamp.place is.place), tt)),
     )
 
+-- the member of a name reads back
 name_are : (name : List ℕ) → All (λ b. b < 256) name → AllByRecursion IsMember (name_members name)
 name_are [] h = tt
 name_are (b ∷ bs) h = ((plain_name (codes "name") refl, h), tt)
 
+-- the members of a command's target, its name and the procedure read back
 what_are : (command : Command) (name : List ℕ) → All (λ b. b < 256) name → command.target < 2 ^ 64 → AllByRecursion IsMember (what_members command name)
 what_are command name bytes target = (
   (plain_name (codes "target") refl, IsNumber-decimal command.target target),
@@ -213,10 +235,11 @@ what_are command name bytes target = (
       ((plain_name (codes "procedure") refl, IsNumber-decimal (call_fields command.call).number (omega (arith, number_fits command.call))), tt),
 )
 
--- how it ended
+-- the member of an outcome reads back
 outcome : (text : List ℕ) → are_fit text ≡ true → IsMember (Text (codes "outcome") text)
 outcome text fit = (plain_name (codes "outcome") refl, all_bytes text (plain_bytes text fit))
 
+-- the members of a reply's line read back
 reply_are : (line : List ℕ) → IsReplyOfBytes line → AllByRecursion IsMember (reply_members (Some line))
 reply_are line is =
     let say : ColumnsSay line is.0 = reply_columns line is.0 is.1 in (
@@ -227,6 +250,7 @@ reply_are line is =
       ),
     )
 
+-- the members that say how a command ended read back
 ending_are : (end : End) → IsEnd end → AllByRecursion IsMember (ending_members end)
 ending_are (Answered (Some answer) line) is = (outcome (codes "answered") refl, reply_are line is.0)
 ending_are (Answered None line) is = (outcome (codes "answered") refl, reply_are line is)
@@ -247,15 +271,18 @@ HoldsBytes (value.Byte n) = n < 256
 HoldsBytes (value.Bool b) = Unit {0}
 HoldsBytes (value.Text bytes) = All (λ b. b < 256) bytes
 
+-- the members of a number, in its one written form and as it came, read back
 number_are : (name digits came : List ℕ) → IsPlainName name → IsNumber digits → AllByRecursion (λ b. b < 256) came
     → AllByRecursion IsMember (Number name digits ∷ Text (name ++ codes "_text") came ∷ [])
 number_are name digits came named number bytes = ((named, number), ((text_named name named, all_bytes came bytes), tt))
 
+-- a boolean is written as a number of JSON
 boolean_number : (b : Bool) → IsNumber (boolean_text b)
 unfolding after_number
 boolean_number false = refl
 boolean_number true = refl
 
+-- the members of a value read back
 value_are : (name : List ℕ) (v : Value) (came : List ℕ) → IsPlainName name → HoldsBytes v → AllByRecursion (λ b. b < 256) came → AllByRecursion IsMember (value_members name v came)
 value_are name (value.Double d) came named is bytes =
     number_are name (written d.digits d.scale) came named (decimal_form_number (written d.digits d.scale) ((decimal_text_once d (written d.digits d.scale)).0 refl).0) bytes
@@ -265,6 +292,7 @@ value_are name (value.Byte n) came named is bytes = number_are name (decimal n) 
 value_are name (value.Bool b) came named is bytes = number_are name (boolean_text b) came named (boolean_number b) bytes
 value_are name (value.Text text) came named is bytes = ((named, is), tt)
 
+-- the members of values read back
 values_are : (column : ℕ) (vs : List Value) (came : List ℕ) → AllByRecursion HoldsBytes vs → AllByRecursion (λ b. b < 256) came → AllByRecursion IsMember (values_members column vs came)
 values_are column [] came hold bytes = tt
 values_are column (v ∷ vs) came hold bytes =
@@ -272,7 +300,7 @@ values_are column (v ∷ vs) came hold bytes =
     (value_are (quantity_name column) v (before 44 came) (quantity_named column) hold.0 (before_bytes 44 came bytes))
     (values_are (column + 1) vs (behind 44 came) hold.1 (behind_bytes 44 came bytes))
 
--- the values of an answer
+-- the values of an answer of bytes hold bytes
 answer_holds : (answer : Answer) → IsAnswerOfBytes answer → AllByRecursion HoldsBytes (answer_fields answer).values
 answer_holds Nothing is = tt
 answer_holds (Short n) is = (tt, tt)
@@ -287,11 +315,13 @@ answer_holds (Angles hz v) is = (tt, (tt, tt))
 answer_holds (Measured hz v distance) is = (tt, (tt, (tt, tt)))
 answer_holds (MeasuredMode hz v distance mode) is = (tt, (tt, (tt, (tt, tt))))
 
+-- the members of an answer's quantities read back
 quantities_are : (call : Call) (end : End) → IsEnd end → AllByRecursion IsMember (quantity_members call end)
 quantities_are call (Answered (Some answer) line) is =
     values_are (column_of call answer) (answer_fields answer).values (values_of line) (answer_holds answer is.1) (values_bytes line is.0.2)
 quantities_are call end is = tt
 
+-- the law: all members of a record's line read back
 pub are_members : RecordsAreMembers
 are_members when name command end is bytes target ended =
     let ws = when_members when in

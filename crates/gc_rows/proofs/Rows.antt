@@ -17,7 +17,7 @@ use Rattle.gc_rows.specs.Rows.{is_special, within_quotes, csv_field, field_text,
 use Rattle.gc_texts.proofs.LogStamps.{IsShown, escaped_prints}
 use Rattle.gc_texts.proofs.Logs.{one_text}
 
--- fields that were appended one after the other
+-- five lists of fields, appended one after the other with a line feed behind them, are one row
 pub all_fields : (run : List ℕ) (ws hs es qs : List (List ℕ))
     → (((((field_text run) ++ behind_commas ws) ++ behind_commas hs) ++ behind_commas es) ++ behind_commas qs) ++ codes "\n" ≡ row_of (run ∷ (ws ++ (hs ++ (es ++ qs))))
 all_fields run ws hs es qs =
@@ -33,16 +33,18 @@ all_fields run ws hs es qs =
     append_assoc ((a ++ w) ++ h) e q ∙ append_assoc (a ++ w) h (e ++ q) ∙ append_assoc a w (h ++ (e ++ q)) in
     ap (λ l. l ++ n) (grouped ∙ ap (λ l. a ++ l) (sym joined))
 
--- a byte calls for quotes here and there
+-- three tests have one result, however they are joined
 or_same : (x y z : Bool) → ((x || y) || z) ≡ (((x || (y || z)) || false) || false)
 or_same true y z = refl
 or_same false true z = refl
 or_same false false true = refl
 or_same false false false = refl
 
+-- a byte calls for quotes exactly where the writer of comma-separated values says so
 same_byte : (b : ℕ) → is_special b ≡ needs_byte default_writer b
 same_byte b = or_same ((b == 44) || (b == 34)) (b == 13) (b == 10)
 
+-- a text stands within quotes exactly where the writer of comma-separated values puts it there
 same_any : (text : List ℕ) → list_any is_special text ≡ list_any (needs_byte default_writer) text
 same_any [] = refl
 same_any (b ∷ bs) = ap (λ x. x || list_any is_special bs) (same_byte b) ∙ ap (λ x. needs_byte default_writer b || x) (same_any bs)
@@ -56,12 +58,14 @@ same_quoted (b ∷ bs) = elim (cases_Bool (b == 34)) [
   | inr other ↦ rw other (ap (λ l. b ∷ l) (same_quoted bs))
 ]
 
+-- a field is what that writer writes
 same_field : (text : List ℕ) → csv_field text ≡ csv.field_text default_writer text
 same_field text = elim (cases_Bool (list_any is_special text)) [
   | inl special ↦ rw (special, sym (same_any text) ∙ special) (ap (λ l. 34 ∷ (l ++ 34 ∷ [])) (same_quoted text))
   | inr plain ↦ rw (plain, sym (same_any text) ∙ plain) refl
 ]
 
+-- fields behind commas are what that writer writes
 same_fields : (fields : List (List ℕ)) → behind_commas fields ≡ fields_text default_writer (map escaped fields)
 unfolding fields_text
 same_fields [] = refl
@@ -81,12 +85,14 @@ row_back (first ∷ []) behind many = absurd (omega (arith, many))
 row_back (first ∷ second ∷ others) behind many =
     ap (λ l. next_record default_config StartRecord [] [] (l ++ behind)) (same_row first second others) ∙ read-write-many (escaped first) (escaped second) (map escaped others) behind
 
+-- rows of two fields or more read back as a table
 table_back : (rows : List (List (List ℕ))) → AllByRecursion (λ fields. 1 < length fields) rows
     → records_from default_config (length rows) StartRecord (flat_map row_of rows) ≡ map (map escaped) rows
 unfolding records_from
 table_back [] many = refl
 table_back (fields ∷ rows) many = rw (row_back fields (flat_map row_of rows) many.0) (ap (λ l. map escaped fields ∷ l) (table_back rows many.1))
 
+-- the law: rows and tables read back
 pub read_back : RowsReadBack
 read_back = record {
   row = row_back;
@@ -95,13 +101,15 @@ read_back = record {
   once = one_text;
 }
 
--- what is printable stays so within quotes
+-- a list of one printable byte is printable
 one_shown : (b : ℕ) → IsShown b → All IsShown (b ∷ [])
 one_shown b h = All-from_recursion IsShown (b ∷ []) (h, tt)
 
+-- a byte from 32 to 126 is printable
 mark_shown : (b : ℕ) → 32 ≤ b → b ≤ 126 → All IsShown (b ∷ [])
 mark_shown b low high = one_shown b (low, high)
 
+-- what is printable stays so within quotes
 doubled_shown : (text : List ℕ) → AllByRecursion IsShown text → All IsShown (flat_map within_quotes text)
 doubled_shown [] h = All-from_recursion IsShown [] tt
 doubled_shown (b ∷ bs) h =
@@ -109,6 +117,7 @@ doubled_shown (b ∷ bs) h =
     (cond_both (b == 34) (34 ∷ 34 ∷ []) (b ∷ []) (All IsShown) (λ _. All-from_recursion IsShown (34 ∷ 34 ∷ []) ((omega arith, omega arith), ((omega arith, omega arith), tt))) (λ _. one_shown b h.0))
     (doubled_shown bs h.1)
 
+-- the field of any bytes is printable
 field_shown : (bytes : List ℕ) → All (λ b. b < 256) bytes → All IsShown (field_text bytes)
 field_shown bytes are =
     let text = escaped bytes in
@@ -119,12 +128,14 @@ field_shown bytes are =
     (All-append IsShown (flat_map within_quotes text) (34 ∷ []) (doubled_shown text (recursion_from_All IsShown text shown)) mark))
     (λ _. shown)
 
+-- fields of any bytes, each behind a comma, are printable
 fields_shown : (fields : List (List ℕ)) → AllByRecursion (All (λ b. b < 256)) fields → All IsShown (behind_commas fields)
 fields_shown [] are = All-from_recursion IsShown [] tt
 fields_shown (f ∷ fs) are =
     All-append IsShown (44 ∷ field_text f) (behind_commas fs)
     (All-append IsShown (44 ∷ []) (field_text f) (mark_shown 44 (omega arith) (omega arith)) (field_shown f are.0)) (fields_shown fs are.1)
 
+-- the law: a row is printable before its line feed
 pub printable : RowsArePrintable
 printable [] are = ([], refl, All-from_recursion IsShown [] tt)
 printable (first ∷ others) are = (

@@ -14,6 +14,7 @@ use Rattle.gc_rows.specs.Told.{QuantitiesHaveTheirNames, RowsFillTheirColumns}
 use Rattle.gc_texts.specs.declared.commands.Command.{Command}
 use Rattle.gc_rows.specs.declared.when.When.{When}
 
+-- the law: the values of an answer stand under the names of the quantities that its procedure returns
 pub have_their_names : QuantitiesHaveTheirNames
 have_their_names GetPrecision (Short n) is = refl
 have_their_names GetPrecision answer is = cc
@@ -48,11 +49,13 @@ have_their_names (MeasDistance mode) answer is = cc
 have_their_names call Nothing is = refl
 have_their_names call answer is = cc
 
+-- the column of a lone whole number is one of the 24
 long_fits : (call : Call) → column_of_long call + 1 ≤ 24
 long_fits GetFace = omega arith
 long_fits GetPrism = omega arith
 long_fits call = omega arith
 
+-- the values of an answer, from its column on, fit the 24 columns
 answer_fits : (call : Call) (answer : Answer) → column_of call answer + length (answer_fields answer).values ≤ 24
 answer_fits call Nothing = omega arith
 answer_fits call (Short n) = omega arith
@@ -77,6 +80,7 @@ spread_fills first texts fits =
     let d = length-replicate (24 - first - length texts) none in
     omega (arith, a, b, c, d, fits)
 
+-- however a command ended, its quantities have 24 fields
 quantities_fill : (call : Call) (end : End) → length (quantity_fields call end) ≡ 24
 quantities_fill call (Answered (Some answer) line) =
     let texts = map quantity_text (answer_fields answer).values in
@@ -85,13 +89,16 @@ quantities_fill call (Answered (Some answer) line) =
     spread_fills (column_of call answer) texts (omega (arith, few, same))
 quantities_fill call end = refl
 
+-- a row without quantities has a field for each name of its header
 csv_fills : (when : When) (name : List ℕ) (command : Command) (end : End) → length (row_fields false when name command end) ≡ length names
 csv_fills when name command (Answered answer line) = refl
 csv_fills when name command end = refl
 
+-- a row with quantities has a field for each name of its header
 columns_fill : (when : When) (name : List ℕ) (command : Command) (end : End) → length (row_fields true when name command end) ≡ length (names ++ quantity_names)
 columns_fill when name command (Answered answer line) = ap (λ n. suc (suc (suc (suc (suc (suc (suc (suc (suc (suc (suc (suc (suc n))))))))))))) (quantities_fill command.call (Answered answer line))
 columns_fill when name command end = refl
 
+-- the law: each row has a field for each name of its header
 pub fill_their_columns : RowsFillTheirColumns
 fill_their_columns = record { csv = csv_fills; columns = columns_fill }

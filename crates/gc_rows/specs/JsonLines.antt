@@ -40,24 +40,28 @@ pub data Member : Type 0 where
 abbrev pub named : List ℕ → List ℕ
 named name = codes ",\"" ++ name ++ codes "\":"
 
+-- a member that is a string of these bytes, as it is written
 abbrev pub text_member : List ℕ → List ℕ → List ℕ
 text_member name bytes = named name ++ string_text bytes
 
+-- a member that is a number with these digits, as it is written
 abbrev pub number_member : List ℕ → List ℕ → List ℕ
 number_member name digits = named name ++ digits
 
+-- a member as it is written
 abbrev pub member_text : Member → List ℕ
 member_text (Text name bytes) = text_member name bytes
 member_text (Number name digits) = number_member name digits
 
+-- members as they are written, in order
 abbrev pub members_text : List Member → List ℕ
 members_text members = flat_map member_text members
 
--- the line of a run that began then, and of these members
+-- the line of a record, with the moment at which its run began and these members
 abbrev pub json_line : ℕ → List Member → List ℕ
 json_line run members = codes "{\"run\":" ++ string_text (stamp_text run) ++ members_text members ++ codes "}\n"
 
--- digits without the zeros before them, but for the last digit
+-- digits without the zeros in front of them; the last digit stays
 abbrev pub without_zeros : List ℕ → List ℕ
 without_zeros [] = []
 without_zeros (b ∷ []) = b ∷ []
@@ -68,7 +72,7 @@ abbrev pub sent_members : Option ℕ → List Member
 sent_members None = []
 sent_members (Some utc) = Text (codes "sent") (stamp_text utc) ∷ []
 
--- when it was sent and ended, and which of its run it was
+-- when a command was sent and ended, and which command of its run it was
 abbrev pub when_members : When → List Member
 when_members when =
     sent_members when.stamp.sent
@@ -79,12 +83,12 @@ abbrev pub name_members : List ℕ → List Member
 name_members [] = []
 name_members (b ∷ bs) = Text (codes "name") (b ∷ bs) ∷ []
 
--- for whom it was, and what it asked for
+-- the target of a command, its name, and the number of the procedure
 abbrev pub what_members : Command → List ℕ → List Member
 what_members command name =
     Number (codes "target") (decimal command.target) ∷ (name_members name ++ Number (codes "procedure") (decimal (call_fields command.call).number) ∷ [])
 
--- the fault of its values, where they don't read
+-- the fault of a reply's values, where they don't read
 abbrev pub fault_members : Option ValueFault → List Member
 fault_members None = []
 fault_members (Some fault) = Number (codes "fault") (decimal (fault_number fault)) ∷ []
@@ -95,7 +99,7 @@ reply_members None = []
 reply_members (Some line) =
     Number (codes "rc_com") (without_zeros (com_of line)) ∷ Number (codes "rc") (without_zeros (code_of line)) ∷ Text (codes "values") (values_of line) ∷ []
 
--- how it ended: the outcome, the fault, and what the reply's line says
+-- how a command ended: the outcome, the fault, and what the reply's line says
 abbrev pub ending_members : End → List Member
 ending_members end = Text (codes "outcome") (word_of end) ∷ (fault_members (fault_of end) ++ reply_members (line_of end))
 
@@ -104,12 +108,12 @@ abbrev pub value_members : List ℕ → Value → List ℕ → List Member
 value_members name (value.Text bytes) came = Text name bytes ∷ []
 value_members name v came = Number name (quantity_text v) ∷ Text (name ++ codes "_text") came ∷ []
 
--- values, the first of them in this column, which came with commas between them
+-- the members of values, the first of which stands in this column; `came` are the same values as they came, with commas between them
 abbrev pub values_members : ℕ → List Value → List ℕ → List Member
 values_members column [] came = []
 values_members column (v ∷ vs) came = value_members (quantity_name column) v (before 44 came) ++ values_members (column + 1) vs (behind 44 came)
 
--- the quantities of how a call's command ended
+-- the quantities of a call's answer, where its command ended with one
 abbrev pub quantity_members : Call → End → List Member
 quantity_members call (Answered (Some answer) line) = values_members (column_of call answer) (answer_fields answer).values (values_of line)
 quantity_members call _ = []

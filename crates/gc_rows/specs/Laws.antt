@@ -23,18 +23,18 @@ use Rattle.gc_texts.specs.Stamps.{stamp_text}
 use Rattle.gc_texts.specs.declared.commands.Command.{Command}
 use Rattle.gc_rows.specs.declared.when.When.{When}
 
--- what the columns of a reply's line say
+-- the three columns of a reply's line say its communication code, its return code and its values
 pub record ColumnsSay (line : List ℕ) (r : ReplyFields) : Type 0 where
   pub rc_com : numbers.IsNumber (com_of line) r.rc_com
   pub rc : numbers.IsNumber (code_of line) r.rc
   pub values : values_of line ≡ r.params
 
--- the columns of a reply's line are its fields
+-- the columns of each reply's line are its fields
 abbrev pub ColumnsAreFields : Type 0
 ColumnsAreFields = (line : List ℕ) (r : ReplyFields) → IsReply line r → ColumnsSay line r
 
 -- a reader of comma-separated values gives each row of two fields and more back as its fields, whatever bytes these hold, and reads on behind it; it gives back a
--- table of rows, and what stands in front of it is the row of the columns' names; and a field was written of no other bytes
+-- table of rows, and what stands in front of it is the row of the columns' names; and no two lists of bytes are written as one field
 pub record RowsReadBack : Type 0 where
   pub row : (fields : List (List ℕ)) (behind : List ℕ) → 1 < length fields
       → next_record default_config StartRecord [] [] (row_of fields ++ behind) ≡ Some (map escaped fields, StartRecord, behind)
@@ -52,7 +52,7 @@ RowsArePrintable =
 abbrev pub IsPlainName : List ℕ → Type 0
 IsPlainName name = AllByRecursion (λ b. (32 ≤ b) × ((b ≢ 34) × (b ≢ 92))) name
 
--- a member has such a name, and holds bytes, or is a number of JSON
+-- a member has a plain name, and holds bytes or a number of JSON
 abbrev pub IsMember : Member → Type 0
 IsMember (Text name bytes) = IsPlainName name × All (λ b. b < 256) bytes
 IsMember (Number name digits) = IsPlainName name × IsNumber digits
@@ -67,13 +67,13 @@ members_read (Number name digits ∷ members) = json.member name (json.number di
 abbrev pub record_read : ℕ → List Member → json.Members
 record_read run members = json.member (codes "run") (json.string (escaped (stamp_text run))) (members_read members)
 
--- a line of JSON, without its line feed, reads as an object of its members, in their order, whatever bytes they hold
+-- a line of JSON whose members are `IsMember`, without its line feed, reads as an object of the run's moment and these, in their order
 abbrev pub JsonLinesReadBack : Type 0
 JsonLinesReadBack =
     (run : ℕ) (members : List Member) → run < 2 ^ 64 → AllByRecursion IsMember members
     → (text : List ℕ) × (json_line run members ≡ text ++ codes "\n") × (document text ≡ Some (json.object (record_read run members)))
 
--- a line that reads as a reply
+-- a line of bytes that reads as a reply
 abbrev pub IsReplyOfBytes : List ℕ → Type 0
 IsReplyOfBytes line = (r : ReplyFields) × IsReply line r × All (λ b. b < 256) line
 
@@ -82,7 +82,7 @@ abbrev pub IsAnswerOfBytes : Answer → Type 0
 IsAnswerOfBytes (answers.Name bytes) = IsFittingAnswer (answers.Name bytes) × All (λ b. b < 256) bytes
 IsAnswerOfBytes answer = IsFittingAnswer answer
 
--- an end that a station writes down
+-- how a command can end: a line, if it ended with one, is of bytes and reads as a reply, and an answer's numbers and text fit
 abbrev pub IsEnd : End → Type 0
 IsEnd (Answered (Some answer) line) = IsReplyOfBytes line × IsAnswerOfBytes answer
 IsEnd (Answered None line) = IsReplyOfBytes line
@@ -93,14 +93,14 @@ IsEnd Lost = Unit {0}
 IsEnd Skipped = Unit {0}
 IsEnd Missed = Unit {0}
 
--- moments, a cycle and a place of 64 bits
+-- the moments, the cycle and the place of a record have at most 64 bits each
 pub record IsWhen (when : When) : Type 0 where
   pub sent : IfSome when.stamp.sent (λ utc. utc < 2 ^ 64)
   pub utc : when.stamp.utc < 2 ^ 64
   pub cycle : when.stamp.cycle < 2 ^ 64
   pub place : when.stamp.place < 2 ^ 64
 
--- the members of a record's line are such members: so the line reads back
+-- each member of a record's line has a plain name, and holds bytes or a number of JSON: so the line reads back
 abbrev pub RecordsAreMembers : Type 0
 RecordsAreMembers =
     (when : When) (name : List ℕ) (command : Command) (end : End)

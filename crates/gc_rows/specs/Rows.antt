@@ -17,17 +17,19 @@ use Rattle.gc_texts.specs.Logs.{escaped}
 use Rattle.gc_rows.specs.Quantities.{column_of, quantity_text}
 use Rattle.gc_texts.specs.Stamps.{stamp_text}
 
--- the fields of a reply's line `%R1P,RC_COM,ID:RC,VALUES`, as they are written: RC_COM, RC and VALUES. The id and the values may be missing
+-- RC_COM of a reply's line `%R1P,RC_COM,ID:RC,VALUES`, as it is written. The id and the values may be missing
 abbrev pub com_of : List ℕ → List ℕ
 com_of line = before 44 (before 58 (behind 44 line))
 
+-- RC of a reply's line, as it is written
 abbrev pub code_of : List ℕ → List ℕ
 code_of line = before 44 (behind 58 (behind 44 line))
 
+-- VALUES of a reply's line, as they are written
 abbrev pub values_of : List ℕ → List ℕ
 values_of line = behind 44 (behind 58 (behind 44 line))
 
--- a byte that stands in a field only within quotes: a comma, a double quote, CR or LF
+-- whether a byte may stand in a field only within quotes: a comma, a double quote, CR or LF
 abbrev pub is_special : ℕ → Bool
 is_special b = (b == 44) || (b == 34) || (b == 13) || (b == 10)
 
@@ -43,10 +45,11 @@ csv_field text = if list_any is_special text then codes "\"" ++ flat_map within_
 abbrev pub field_text : List ℕ → List ℕ
 field_text bytes = csv_field (escaped bytes)
 
--- a field behind a comma, and all of these fields so
+-- a field that holds these bytes, behind a comma
 abbrev pub behind_comma : List ℕ → List ℕ
 behind_comma bytes = 44 ∷ field_text bytes
 
+-- fields that hold these bytes, each behind a comma
 abbrev pub behind_commas : List (List ℕ) → List ℕ
 behind_commas fields = flat_map behind_comma fields
 
@@ -55,7 +58,7 @@ abbrev pub row_of : List (List ℕ) → List ℕ
 row_of [] = codes "\n"
 row_of (first ∷ others) = field_text first ++ behind_commas others ++ codes "\n"
 
--- a moment, where there is one
+-- the text of a moment; empty where there is none
 abbrev pub moment_text : Option ℕ → List ℕ
 moment_text None = []
 moment_text (Some utc) = stamp_text utc
@@ -64,33 +67,33 @@ moment_text (Some utc) = stamp_text utc
 abbrev pub when_fields : When → List (List ℕ)
 when_fields when = moment_text when.stamp.sent ∷ stamp_text when.stamp.utc ∷ decimal when.stamp.cycle ∷ decimal when.stamp.place ∷ []
 
--- for whom it was, and what it asked for
+-- the target of a command, its name, and the number of the procedure
 abbrev pub what_fields : Command → List ℕ → List (List ℕ)
 what_fields command name = decimal command.target ∷ name ∷ decimal (call_fields command.call).number ∷ []
 
--- the number of a fault, where there is one
+-- the number of a fault; empty where there is none
 abbrev pub fault_field : Option ValueFault → List ℕ
 fault_field None = []
 fault_field (Some fault) = decimal (fault_number fault)
 
--- what a reply's line says, where there is one: its communication code, its return code, and its values
+-- what a reply's line says: its communication code, its return code, and its values; three empty fields where there is no reply
 abbrev pub reply_fields : Option (List ℕ) → List (List ℕ)
 reply_fields None = [] ∷ [] ∷ [] ∷ []
 reply_fields (Some line) = com_of line ∷ code_of line ∷ values_of line ∷ []
 
--- how it ended: the outcome, the fault, and what the reply's line says
+-- how a command ended: the outcome, the fault, and what the reply's line says
 abbrev pub ending_fields : End → List (List ℕ)
 ending_fields end = word_of end ∷ fault_field (fault_of end) ∷ reply_fields (line_of end)
 
--- a value in its column
+-- a value as a field, behind a comma
 abbrev pub value_text : Value → List ℕ
 value_text value = behind_comma (quantity_text value)
 
--- values in 24 columns, from this one on
+-- these texts in 24 columns, the first of them in this one, and the other columns empty
 abbrev pub spread : ℕ → List (List ℕ) → List (List ℕ)
 spread first texts = replicate first [] ++ (texts ++ replicate (24 - first - length texts) [])
 
--- the quantities of how a call's command ended, each in its column
+-- the quantities of a call's answer, each in its column; all columns are empty where its command ended without one
 abbrev pub quantity_fields : Call → End → List (List ℕ)
 quantity_fields call (Answered (Some answer) line) = spread (column_of call answer) (map quantity_text (answer_fields answer).values)
 quantity_fields call _ = replicate 24 []
@@ -100,8 +103,8 @@ abbrev pub more_fields : Bool → Call → End → List (List ℕ)
 more_fields true call end = quantity_fields call end
 more_fields false call end = []
 
--- the fields of a record's row: when its run began, when it was sent and ended, and which of its run it was; for whom, what it asked for,
--- and how it ended; and a field for each quantity, or none
+-- the fields of a record's row: when its run began, when its command was sent and ended, and which one of the run it was; the target, its
+-- name and the procedure; how the command ended; and, if `columns` asks for them, a field for each quantity
 abbrev pub row_fields : Bool → When → List ℕ → Command → End → List (List ℕ)
 row_fields columns when name command end =
     stamp_text when.run ∷ (when_fields when ++ (what_fields command name ++ (ending_fields end ++ more_fields columns command.call end)))

@@ -1,4 +1,4 @@
--- Which quantities a procedure tells, and how many fields a row has. A procedure's number and what it tells are those of the manual's
+-- Which quantities a procedure returns, and how many fields a row has. A procedure's number and what it returns are those of the manual's
 -- procedure tables; the names are this project's own.
 use Rattle.std.specs.Prelude.{◌≡◌, ℕ, ◌+◌, ◌==◌, ◌||◌, true, false, List, [], ◌∷◌, ◌++◌, length, if◌then◌else◌, codes}
 use Rattle.gc_catalogue.specs.Answers.{answer_fields, IsAnswerOf}
@@ -13,10 +13,11 @@ use Rattle.gc_rows.specs.Rows.{row_fields}
 use Rattle.gc_texts.specs.declared.commands.Command.{Command}
 use Rattle.gc_rows.specs.declared.when.When.{When}
 
--- the angles that an instrument measures, and with them the slope distance
+-- the angles that an instrument measures
 abbrev pub angles : List (List ℕ)
 angles = codes "hz_rad" ∷ codes "v_rad" ∷ []
 
+-- the angles, and behind them the slope distance
 abbrev pub measured : List (List ℕ)
 measured = angles ++ codes "distance_m" ∷ []
 
@@ -24,7 +25,7 @@ measured = angles ++ codes "distance_m" ∷ []
 abbrev pub versions : List (List ℕ)
 versions = codes "release" ∷ codes "version" ∷ codes "subversion" ∷ []
 
--- what the procedure with this number tells, in its order on the line; nothing, where it isn't among these
+-- the names of the quantities that the procedure with this number returns, in their order on the line; none where it isn't among these
 abbrev pub quantities_told : ℕ → List (List ℕ)
 quantities_told rpc =
     -- COM_GetDoublePrecision
@@ -56,7 +57,7 @@ abbrev pub names_from : ℕ → List Value → List (List ℕ)
 names_from column [] = []
 names_from column (v ∷ vs) = quantity_name column ∷ names_from (column + 1) vs
 
--- the values of an answer stand under the names of what its procedure tells, in that order
+-- the values of an answer stand under the names of the quantities that its procedure returns, in that order
 abbrev pub QuantitiesHaveTheirNames : Type 0
 QuantitiesHaveTheirNames =
     (call : Call) (answer : Answer) → IsAnswerOf call answer → names_from (column_of call answer) (answer_fields answer).values ≡ quantities_told (call_fields call).number

@@ -47,7 +47,7 @@ fn append_string<const N: usize>(line: &mut ArrayVec<u8, N>, bytes: &[u8])
     append(line, b"\"");
 }
 
-// Appends the name of a member, which has this ending, behind a comma and with its colon.
+// Appends the name of a member, which is `name` with `ending` behind it, behind a comma and with its colon.
 fn append_name<const N: usize>(line: &mut ArrayVec<u8, N>, name: &[u8], ending: &[u8])
     requires short { length name.now ≤ 32 }
     requires ends { length ending.now ≤ 5 }
@@ -73,7 +73,7 @@ fn append_text<const N: usize>(line: &mut ArrayVec<u8, N>, name: &[u8], bytes: &
     append_string(line, bytes);
 }
 
-// Appends a member that is a number with these digits.
+// Appends a member that is a number, written as `digits`.
 fn append_number<const N: usize>(line: &mut ArrayVec<u8, N>, name: &[u8], digits: &[u8])
     requires named { length name.now ≤ 32 }
     requires short { length digits.now ≤ 514 }
@@ -85,7 +85,7 @@ fn append_number<const N: usize>(line: &mut ArrayVec<u8, N>, name: &[u8], digits
     append(line, digits);
 }
 
-// When a command was sent, where it was.
+// Appends when a command was sent, if it was.
 fn append_sent<const N: usize>(line: &mut ArrayVec<u8, N>, sent: Option<u64>)
     requires { array_vec_len line.old + 384 ≤ N }
     ensures text { line.new.items ≡ line.old.items ++ members_text (sent_members sent) }
@@ -109,7 +109,7 @@ fn append_when<const N: usize>(line: &mut ArrayVec<u8, N>, when: &When)
     append_number(line, b"place", digits.format(when.stamp.place).as_bytes());
 }
 
-// What a target is called, where it has a name.
+// Appends a target's name, if it has one.
 fn append_called<const N: usize>(line: &mut ArrayVec<u8, N>, name: &[u8])
     requires short { length name.now ≤ 64 }
     requires room { array_vec_len line.old + 640 ≤ N }
@@ -121,7 +121,7 @@ fn append_called<const N: usize>(line: &mut ArrayVec<u8, N>, name: &[u8])
     }
 }
 
-// For whom a command was, and what it asked for.
+// Appends the target of a command, its name, and the number of the procedure.
 fn append_what<const N: usize>(line: &mut ArrayVec<u8, N>, command: &Command, name: &[u8])
     requires short { length name.now ≤ 64 }
     requires room { array_vec_len line.old + 1408 ≤ N }
@@ -138,7 +138,7 @@ fn append_what<const N: usize>(line: &mut ArrayVec<u8, N>, command: &Command, na
     );
 }
 
-// Digits without the zeros before them, but for the last digit.
+// Digits without the zeros in front of them; the last digit stays.
 fn without_zeros(digits: &[u8]) -> &[u8]
     ensures is { result.now ≡ without_zeros digits.now }
     ensures short { length result.now ≤ length digits.now }
@@ -149,7 +149,7 @@ fn without_zeros(digits: &[u8]) -> &[u8]
     }
 }
 
-// The fault of a reply's values, where they don't read.
+// Appends the number of the fault of a reply's values, where they don't read.
 fn append_fault<const N: usize>(line: &mut ArrayVec<u8, N>, fault: Option<ValueFault>)
     requires { array_vec_len line.old + 64 ≤ N }
     ensures text { line.new.items ≡ line.old.items ++ members_text (fault_members fault) }
@@ -164,7 +164,7 @@ fn append_fault<const N: usize>(line: &mut ArrayVec<u8, N>, fault: Option<ValueF
     }
 }
 
-// What a reply's line says: its communication code, its return code, and its values.
+// Appends what a reply's line says: its communication code, its return code, and its values.
 fn append_texts<const N: usize>(line: &mut ArrayVec<u8, N>, reply: &Line)
     requires { array_vec_len line.old + 5346 ≤ N }
     ensures text { line.new.items ≡ line.old.items ++ members_text (reply_members (Some reply.now.items)) }
@@ -187,7 +187,7 @@ fn append_reply<const N: usize>(line: &mut ArrayVec<u8, N>, reply: Option<&Line>
     }
 }
 
-// How a command ended.
+// Appends how a command ended: its word, its fault, and what the reply's line says.
 fn append_ending<const N: usize>(line: &mut ArrayVec<u8, N>, ending: Ending<'_>)
     requires { array_vec_len line.old + 5632 ≤ N }
     ensures text { line.new.items ≡ line.old.items ++ members_text (ending_members (ending_seen ending.entry)) }
@@ -198,7 +198,7 @@ fn append_ending<const N: usize>(line: &mut ArrayVec<u8, N>, ending: Ending<'_>)
     append_reply(line, ending.line());
 }
 
-// A value: a number in its one written form and as it came, or a text.
+// Appends the members of a value: a number in its one written form, and behind it the text `came` of that number; or a text.
 fn append_value<const N: usize>(line: &mut ArrayVec<u8, N>, name: &[u8], value: &Value, came: &[u8])
     requires named { length name.now ≤ 32 }
     requires short { length came.now ≤ 514 }
@@ -216,7 +216,8 @@ fn append_value<const N: usize>(line: &mut ArrayVec<u8, N>, name: &[u8], value: 
     }
 }
 
-// Values, the first of them in this column, which came as this text.
+// Appends values, each under the name of its column: the first in column `first`, and the others behind it. `came` are the same
+// values as the reply's line has them, with the commas between them.
 fn append_values<const N: usize>(
     line: &mut ArrayVec<u8, N>,
     first: usize,
@@ -238,7 +239,7 @@ fn append_values<const N: usize>(
     }
 }
 
-// The quantities of how a command ended.
+// Appends the quantities of a command's answer, if it ended with one.
 fn append_quantities<const N: usize>(line: &mut ArrayVec<u8, N>, call: &Call, ending: Ending<'_>)
     requires { array_vec_len line.old + 28416 ≤ N }
     ensures text { line.new.items ≡ line.old.items ++ members_text (quantity_members call.now (ending_seen ending.entry)) }
@@ -254,7 +255,7 @@ fn append_quantities<const N: usize>(line: &mut ArrayVec<u8, N>, call: &Call, en
     }
 }
 
-/// The line of a record.
+/// The line of JSON of a record, whose target has this name; without one the name is empty.
 pub(crate) fn json_line(
     when: &When,
     name: &[u8],

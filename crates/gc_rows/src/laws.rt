@@ -8,8 +8,8 @@ pub fn columns_are_a_replys_fields()
     ensures { ColumnsAreFields }
 {}
 
-/// A reader of comma-separated values gives each row back as its fields, and a table as its rows, whatever bytes a reply had; and
-/// a field was written of no other bytes.
+/// A reader of comma-separated values gives each row back as its fields, and a table as its rows, whatever bytes a reply had.
+/// No two lists of bytes are written as one field.
 pub fn rows_read_back()
     ensures { RowsReadBack }
 {}
@@ -19,7 +19,8 @@ pub fn rows_are_printable()
     ensures { RowsArePrintable }
 {}
 
-/// A line of JSON reads as an object of its members, in their order, whatever bytes they hold.
+/// A line of JSON, whose members have plain names and hold bytes or numbers of JSON, reads as an object of these members, in their order,
+/// whatever the bytes.
 pub fn json_lines_read_back()
     ensures { JsonLinesReadBack }
 {}
@@ -29,7 +30,7 @@ pub fn records_are_members()
     ensures { RecordsAreMembers }
 {}
 
-/// The values of an answer stand under the names of what its procedure tells, by its number in the manual's procedure tables. The
+/// The values of an answer stand under the names of the quantities that its procedure returns by the manual's procedure tables. The
 /// columns of a row and the members of an object have these names.
 pub fn quantities_have_their_names()
     ensures { QuantitiesHaveTheirNames }

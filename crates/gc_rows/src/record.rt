@@ -23,7 +23,7 @@ pub enum Form {
     Lines,
     /// Each a row of comma-separated values, quoted as RFC 4180 has it, with the names of the columns in front of all.
     Csv,
-    /// The same, with a column for each quantity that an answer may have.
+    /// As `Csv`, with a column for each quantity that an answer may have.
     Columns,
     /// Each an object of JSON on a line of its own, with the quantities of its answer.
     Json,
@@ -110,7 +110,7 @@ fn record_line(when: &When, command: &Command, ending: Ending<'_>) -> ArrayVec<u
     line
 }
 
-// How a command ended, in words, and behind them the line of the reply, as it stands in a row.
+// How a command ended: its word, the number of its fault and the line of the reply, as it stands in a row, each behind a space.
 fn ending_text(ending: Ending<'_>) -> ArrayVec<u8, ENDING_ROOM>
     ensures { result.items ≡ ending_text (ending_seen ending.entry) }
 {
@@ -122,7 +122,7 @@ fn ending_text(ending: Ending<'_>) -> ArrayVec<u8, ENDING_ROOM>
     text
 }
 
-// The number of a fault behind a space, where there is one.
+// Appends the number of a fault behind a space, where there is one.
 fn append_fault<const N: usize>(text: &mut ArrayVec<u8, N>, fault: Option<ValueFault>)
     requires { array_vec_len text.old + 21 ≤ N }
     ensures text { text.new.items ≡ text.old.items ++ spaced_fault fault }
@@ -134,7 +134,7 @@ fn append_fault<const N: usize>(text: &mut ArrayVec<u8, N>, fault: Option<ValueF
     }
 }
 
-// The line of a reply behind a space, as it stands in a row, where there is one.
+// Appends the line of a reply behind a space, as it stands in a row, where there is one.
 fn append_line<const N: usize>(text: &mut ArrayVec<u8, N>, line: Option<&Line>)
     requires { array_vec_len text.old + 2049 ≤ N }
     ensures { text.new.items ≡ text.old.items ++ spaced_line (option_map (λ l. l.now.items) line.entry) }

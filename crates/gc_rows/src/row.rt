@@ -33,7 +33,7 @@ pub(crate) struct ReplyTexts<'a> {
     pub values: &'a [u8],
 }
 
-/// Cuts a reply's line once, into what it says.
+/// Cuts a reply's line into what it says: its two codes and its values.
 pub(crate) fn texts_of(line: &[u8]) -> ReplyTexts<'_>
     ensures com { result.com.now ≡ com_of line.now }
     ensures code { result.code.now ≡ code_of line.now }
@@ -49,7 +49,7 @@ pub(crate) fn texts_of(line: &[u8]) -> ReplyTexts<'_>
     }
 }
 
-// What stands before the first mark, and what stands behind it.
+// What stands before the first mark, and what stands behind it; without a mark, all of the text and nothing.
 fn parts(mark: u8, text: &[u8]) -> (&[u8], &[u8])
     ensures front { result.0.now ≡ before mark text.now }
     ensures rest { result.1.now ≡ behind mark text.now }
@@ -58,7 +58,7 @@ fn parts(mark: u8, text: &[u8]) -> (&[u8], &[u8])
     (before(mark, text), behind(mark, text))
 }
 
-// Whether a field has to stand within quotes.
+// Whether a field has to stand within quotes: it has a comma, a double quote, a CR or a line feed.
 fn is_special(text: &[u8]) -> bool
     ensures { result ≡ list_any is_special text.now }
 {
@@ -127,7 +127,7 @@ fn append_blanks<const N: usize>(row: &mut ArrayVec<u8, N>, count: usize)
     append(row, &COMMAS[..count]);
 }
 
-// A moment, where there is one.
+// The text of a moment; empty where there is none.
 fn moment_text(moment: Option<u64>) -> ArrayVec<u8, STAMP_ROOM>
     ensures { result.items ≡ moment_text moment }
 {
@@ -150,7 +150,7 @@ fn append_when<const N: usize>(row: &mut ArrayVec<u8, N>, when: &When)
     append_next(row, digits.format(when.stamp.place).as_bytes());
 }
 
-// For whom a command was, and what it asked for.
+// Appends the target of a command, its name, and the number of the procedure.
 fn append_what<const N: usize>(row: &mut ArrayVec<u8, N>, command: &Command, name: &[u8])
     requires short { length name.now ≤ 64 }
     requires room { array_vec_len row.old + 5120 ≤ N }
@@ -163,7 +163,7 @@ fn append_what<const N: usize>(row: &mut ArrayVec<u8, N>, command: &Command, nam
     append_next(row, digits.format(command.call.number()).as_bytes());
 }
 
-// The number of a fault, where there is one.
+// The number of a fault; empty where there is none.
 fn fault_text(fault: Option<ValueFault>) -> ArrayVec<u8, 20>
     ensures { result.items ≡ fault_field fault }
 {
@@ -174,7 +174,8 @@ fn fault_text(fault: Option<ValueFault>) -> ArrayVec<u8, 20>
     text
 }
 
-// What a reply's line says, where there is one: its communication code, its return code, and its values.
+// Appends what a reply's line says: its communication code, its return code, and its values. The three fields are empty where there
+// is no reply.
 fn append_reply<const N: usize>(row: &mut ArrayVec<u8, N>, line: Option<&Line>)
     requires { array_vec_len row.old + 12297 ≤ N }
     ensures text { row.new.items ≡ row.old.items ++ behind_commas (reply_fields (option_map (λ l. l.now.items) line.entry)) }
@@ -191,7 +192,7 @@ fn append_reply<const N: usize>(row: &mut ArrayVec<u8, N>, line: Option<&Line>)
     }
 }
 
-// How a command ended.
+// Appends how a command ended: its word, its fault, and what the reply's line says.
 fn append_ending<const N: usize>(row: &mut ArrayVec<u8, N>, ending: Ending<'_>)
     requires { array_vec_len row.old + 12800 ≤ N }
     ensures text { row.new.items ≡ row.old.items ++ behind_commas (ending_fields (ending_seen ending.entry)) }
@@ -202,7 +203,7 @@ fn append_ending<const N: usize>(row: &mut ArrayVec<u8, N>, ending: Ending<'_>)
     append_reply(row, ending.line());
 }
 
-// Values as quantities.
+// Appends values as quantities, each a field behind a comma.
 fn append_values<const N: usize>(row: &mut ArrayVec<u8, N>, values: &[Value])
     requires few { length values.now ≤ 6 }
     requires room { array_vec_len row.old + 515 * length values.now ≤ N }
@@ -214,7 +215,7 @@ fn append_values<const N: usize>(row: &mut ArrayVec<u8, N>, values: &[Value])
     }
 }
 
-// The quantities of how a command ended, each in its column.
+// Appends the quantities of a command's answer, each in its column. All columns are empty where it ended without one.
 fn append_quantities<const N: usize>(row: &mut ArrayVec<u8, N>, call: &Call, ending: Ending<'_>)
     requires { array_vec_len row.old + 3200 ≤ N }
     ensures text { row.new.items ≡ row.old.items ++ behind_commas (quantity_fields call.now (ending_seen ending.entry)) }
@@ -232,7 +233,7 @@ fn append_quantities<const N: usize>(row: &mut ArrayVec<u8, N>, call: &Call, end
     }
 }
 
-// Appends the quantities of how a command ended where `columns` asks for them, and else nothing.
+// Appends the quantities of a command's answer, each in its column, where `columns` is true, and else nothing.
 fn append_more<const N: usize>(
     row: &mut ArrayVec<u8, N>,
     columns: bool,
@@ -248,7 +249,7 @@ fn append_more<const N: usize>(
     }
 }
 
-/// The row of a record, with a column for each quantity or without them.
+/// The row of a record, with a column for each quantity where `columns` is true.
 pub(crate) fn csv_row(
     columns: bool,
     when: &When,

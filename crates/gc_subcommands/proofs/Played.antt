@@ -1,4 +1,4 @@
--- Status 0 is told only of a schedule that was played.
+-- Status 0 comes only of a schedule that was played.
 use Rattle.std.proofs.Common.{◌≡◌, ℕ, Bool, true, List, Option, Result, Ok, Err, refl, arith}
 use Rattle.std.specs.Io.KnownBytes.{Appends}
 use Rattle.gc_engines.specs.Drill.{drill_text_on, DrillsOn, is_read_whole}
@@ -8,6 +8,7 @@ use Rattle.gc_texts.specs.Faults.{run_fault_text, Tells}
 use Rattle.gc_texts.specs.declared.fault.RunFault.{RunFault}
 use Rattle.gc_world.specs.declared.event.Event.{Event}
 
+-- if the status is 0, the text was a schedule, and the sink took its output
 pub played_at_0 : (start : State) (width : ℕ) (given : List ℕ) (totals : Bool) (old new : Option (List ℕ)) (end : Result (Unit {0}) RunFault) (status : ℕ) (told messages : Option (List ℕ))
     → DrillsOn start width given totals old new end → Tells run_fault_text end status told messages → status ≡ 0
     → (events : List Event) × IsSchedule given events × Appends old new (drill_text_on start width events totals)

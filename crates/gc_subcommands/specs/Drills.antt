@@ -1,4 +1,4 @@
--- What becomes of a schedule that a source gives, and what is told of it: this project's own.
+-- What becomes of a schedule that a source gives, and how that is reported: this project's own.
 use Rattle.std.specs.Prelude.{◌≡◌, ℕ, ◌<◌, ◌⊎◌, true, List, Option, Result}
 use Rattle.std.specs.Io.KnownBytes.{Consumes, Appends, IsAtEnd}
 use Rattle.gc_messages.specs.Refusals.{range_line}
@@ -12,7 +12,7 @@ use Rattle.gc_texts.specs.Faults.{run_fault_text, Tells}
 use Rattle.gc_texts.specs.declared.fault.RunFault.{RunFault}
 use Rattle.gc_world.specs.declared.event.Event.{Event}
 
--- what became of a schedule on an instrument that began so, and that the status and the messages tell it
+-- a source gave a schedule, this came of it on an instrument with this opening state, and the status and the messages tell how that ended
 pub record TellsSchedule (start : State) (asked : Drilling) (old new : Ports) (status : ℕ) (told told' : Option (List ℕ)) : Type 0 where
   pub end : Result (Unit {0}) RunFault
   pub given : List ℕ
@@ -22,17 +22,17 @@ pub record TellsSchedule (start : State) (asked : Drilling) (old new : Ports) (s
   pub sink : new.sink_failed ≡ sink_failed end old.sink_failed
   pub tells : Tells run_fault_text end status told told'
 
--- the width is out of its range, which is told with status 2, and nothing was read or written
+-- the width was out of its range, which is reported with status 2, and nothing was read or written
 pub record RefusesWidth (old new : Ports) (status : ℕ) (told told' : Option (List ℕ)) : Type 0 where
   pub is : status ≡ 2
   pub tells : Appends told told' range_line
   pub unused : AreUnused old new
 
--- what became of a schedule, or that its width was refused
+-- the width was refused, or a schedule was played, and how that ended is reported
 abbrev pub TellsWithin : State → Drilling → Ports → Ports → ℕ → Option (List ℕ) → Option (List ℕ) → Type 0
 TellsWithin start asked old new status told told' = RefusesWidth old new status told told' ⊎ TellsSchedule start asked old new status told told'
 
--- the scene was refused, or the width was; or what became of the schedule on the instrument of the scene
+-- the scene or the width was refused, or the schedule was played on the instrument of the scene, and how that ended is reported
 abbrev pub TellsDrill : Drilling → Ports → Ports → ℕ → Option (List ℕ) → Option (List ℕ) → Type 0
 TellsDrill asked old new status told told' =
     RefusesScene asked.scene old new status told told' ⊎ ((start : State) × IsOfScene asked.scene start × TellsWithin start asked old new status told told')
@@ -42,6 +42,6 @@ abbrev pub PlaysWhole : State → Drilling → Ports → Ports → Type 0
 PlaysWhole start asked old new = (given : List ℕ) × Consumes old.remaining new.remaining given
     × ((events : List Event) × IsSchedule given events × Appends old.taken new.taken (drill_text_on start asked.width events asked.totals))
 
--- the last read was the end, and the source has no byte left
+-- the source was read to its end: the last read was the end, and the source has no byte left
 abbrev pub AreReadWhole : Ports → Ports → Type 0
 AreReadWhole old new = IsAtEnd new.remaining × (new.ended ≡ true) × (old.reads < new.reads)

@@ -1,4 +1,4 @@
--- The instrument that a subcommand begins with, and what is told where its scene is refused: this project's own.
+-- The instrument that a subcommand begins with, and what is reported where its scene is refused: this project's own.
 use Rattle.std.specs.Prelude.{◌≡◌, ℕ, List, Option, None}
 use Rattle.std.specs.Io.KnownBytes.{Appends}
 use Rattle.gc_instrument.specs.State.{State, simulator_opening}
@@ -10,7 +10,7 @@ use Rattle.gc_texts.specs.declared.fault.RunFault.{RunFault}
 abbrev pub AreUnused : Ports → Ports → Type 0
 AreUnused old new = (new.remaining ≡ old.remaining) × (new.taken ≡ old.taken)
 
--- the scene that was named was refused, which is told with status 1, and nothing was read or written
+-- the scene that was named was refused, which is reported with status 1, and nothing was read or written
 pub record RefusesScene {Name : Type 0} (scene : Option Name) (old new : Ports) (status : ℕ) (told told' : Option (List ℕ)) : Type 0 where
   pub fault : RunFault
   pub is : status ≡ 1

@@ -1,4 +1,4 @@
--- What `exec` and `check` tell of how their loop over frames ended: this project's own.
+-- How `exec` and `check` report how their loop over frames ended: this project's own.
 use Rattle.std.specs.Prelude.{◌≡◌, ℕ, ◌+◌, ◌<◌, ◌⊎◌, ◌↔◌, Bool, true, false, List, Option, Result}
 use Rattle.gc_subcommands.specs.Scenes.{RefusesScene, IsOfScene}
 use Rattle.gc_engines.specs.Checking.{IsChecking}
@@ -10,24 +10,24 @@ use Rattle.gc_lines.specs.declared.served.Served.{Served}
 use Rattle.gc_lines.specs.declared.served.ServeFault.{ServeFault}
 use Rattle.gc_texts.specs.Faults.{Tells}
 
--- what an instrument that began so served, why it ended, and that the status and the messages tell it
+-- an instrument with this opening state served a source, and the status and the messages tell how that ended
 pub record TellsServing (start : State) (old new : Ports) (status : ℕ) (told told' : Option (List ℕ)) : Type 0 where
   pub end : Result Served ServeFault
   pub after : State
   pub serves : IsServing start after old new 4294967295 end
   pub tells : Tells fault_text end status told told'
 
--- the scene was refused, or what was served by the instrument of the scene
+-- the scene was refused, or its instrument served a source, and how that ended is reported
 abbrev pub TellsExec : {Name : Type 0} → Option Name → Ports → Ports → ℕ → Option (List ℕ) → Option (List ℕ) → Type 0
 TellsExec scene old new status told told' =
     RefusesScene scene old new status told told' ⊎ ((start : State) × IsOfScene scene start × TellsServing start old new status told told')
 
--- what was checked, of a log or of a stream, and with which result
+-- a log or a stream was checked, with this result
 abbrev pub ChecksInput : Bool → Ports → Ports → Result Served ServeFault → Type 0
 ChecksInput true old new end = IsCheckingLog old new 4294967295 end
 ChecksInput false old new end = IsChecking old new 4294967295 end
 
--- what was checked, why it ended, and that the status and the messages tell it
+-- an input was checked, and the status and the messages tell how that ended
 pub record TellsChecking (log : Bool) (old new : Ports) (status : ℕ) (told told' : Option (List ℕ)) : Type 0 where
   pub end : Result Served ServeFault
   pub checks : ChecksInput log old new end

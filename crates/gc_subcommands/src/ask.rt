@@ -18,10 +18,10 @@ use std::process::ExitCode;
 use std::rt::Files;
 use std::time::Clock;
 
-// Its arguments.
+// The arguments of `ask`.
 const ARGUMENTS: &[Argument<'static>] = &[PLACE];
 
-/// The words of `ask`.
+/// The subcommand `ask` for clap: its help and its arguments.
 pub fn ask_command<'a>(alloc: Global, name: &'a str) -> Result<Command<'a>, AllocError> {
     command_of(
         alloc,
@@ -32,7 +32,7 @@ pub fn ask_command<'a>(alloc: Global, name: &'a str) -> Result<Command<'a>, Allo
     )
 }
 
-/// Asks at a place, and tells how it ended.
+/// Asks the commands of a source at a place, and reports how that ended.
 pub fn ask_place<
     R: Net<Listener = TcpListener, Stream = TcpStream> + Files<File = File> + Clock,
     S: Source,
@@ -51,7 +51,7 @@ pub fn ask_place<
     let end = ask_at(rt, alloc, place, source, sink, u32::MAX);
     let ended = end_of(end, messages);
     if let Err(fault) = end {
-        // Where that can't be written the fault's line stands all the same.
+        // Where this line can't be written, the fault's line stands all the same.
         let _ = tell_place(place, fault, messages);
     }
     ended

@@ -15,14 +15,14 @@ use std::alloc::{AllocError, Global};
 use std::io::{self, Write};
 use std::process::ExitCode;
 
-// Its arguments.
+// The arguments of `check`.
 const ARGUMENTS: &[Argument<'static>] = &[Argument {
     name: "log",
     help: "Reads a log that `station --log` wrote",
     ..FLAG
 }];
 
-/// The words of `check`.
+/// The subcommand `check` for clap: its help and its arguments.
 pub fn check_command<'a>(alloc: Global, name: &'a str) -> Result<Command<'a>, AllocError> {
     command_of(
         alloc,
@@ -33,14 +33,14 @@ pub fn check_command<'a>(alloc: Global, name: &'a str) -> Result<Command<'a>, Al
     )
 }
 
-/// Checks a log, or a stream, and tells how it ended.
+/// Checks a log where `log` is set, else a stream, and reports how that ended.
 pub fn check<S: Source, K: Sink, E: Write>(
     log: bool,
     source: &mut S,
     sink: &mut K,
     messages: &mut E,
 ) -> io::Result<ExitCode>
-    // What was checked, why it ended, and that the messages and the status tell it.
+    // The input was checked, and the status and the messages report how that ended.
     ensures told { IfOk result (λ status. TellsChecking log
         (ports_of S.Source source.old K.Sink sink.old)
         (ports_of S.Source source.new K.Sink sink.new)
@@ -56,7 +56,7 @@ pub fn check<S: Source, K: Sink, E: Write>(
     tell_end(check_input(log, source, sink), messages)
 }
 
-// Checks a log, or a stream.
+// Checks a log where `log` is set, else a stream.
 fn check_input<S: Source, K: Sink>(
     log: bool,
     source: &mut S,

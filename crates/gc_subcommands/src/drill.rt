@@ -21,8 +21,7 @@ use std::fs::Files;
 use std::io::{self, Write};
 use std::process::ExitCode;
 
-/// What the words of `drill` ask for: on the instrument of which scene, whether with totals, and with how many requests that may
-/// wait.
+/// What the words of `drill` ask for: the file of the scene, whether totals are written, and how many requests may wait.
 #[derive(Clone, Copy)]
 pub struct Drilling<'a> {
     pub scene: Option<&'a str>,
@@ -30,7 +29,7 @@ pub struct Drilling<'a> {
     pub width: u8,
 }
 
-// Its arguments.
+// The arguments of `drill`.
 const ARGUMENTS: &[Argument<'static>] = &[
     Argument {
         name: "totals",
@@ -48,7 +47,7 @@ const ARGUMENTS: &[Argument<'static>] = &[
     SCENE,
 ];
 
-/// The words of `drill`.
+/// The subcommand `drill` for clap: its help and its arguments.
 pub fn drill_command<'a>(alloc: Global, name: &'a str) -> Result<Command<'a>, AllocError> {
     command_of(
         alloc,
@@ -59,7 +58,8 @@ pub fn drill_command<'a>(alloc: Global, name: &'a str) -> Result<Command<'a>, Al
     )
 }
 
-/// What the words of `drill` say.
+/// What the words of `drill` ask for. clap gives a missing width its default, though no clause of clap's says so: else it would be 0,
+/// which `drill_scene` refuses.
 pub fn drilling_of<'a>(words: &ArgMatches<'a>) -> Drilling<'a> {
     Drilling {
         scene: words.get_str("scene"),
@@ -68,7 +68,7 @@ pub fn drilling_of<'a>(words: &ArgMatches<'a>) -> Drilling<'a> {
     }
 }
 
-/// Reads the scene, plays a schedule on its instrument, and tells how it ended.
+/// Reads the scene, plays a schedule on its instrument, and reports how that ended.
 pub fn drill_scene<R: Files, S: Source, K: Sink, E: Write>(
     rt: &R,
     alloc: Global,
@@ -77,8 +77,8 @@ pub fn drill_scene<R: Files, S: Source, K: Sink, E: Write>(
     sink: &mut K,
     messages: &mut E,
 ) -> io::Result<ExitCode>
-    // Either the scene was refused, which is told, and nothing was read or written; or the width was; or what became of the schedule
-    // on the instrument, which is the simulator where no scene is named.
+    // Either the scene or the width was refused, which is reported, and nothing was read or written; or the schedule was
+    // played on the instrument, which is the simulator where no scene is named, and how that ended is reported.
     ensures told { IfOk result (λ status. TellsDrill drilling.entry
         (ports_of S.Source source.old K.Sink sink.old)
         (ports_of S.Source source.new K.Sink sink.new)
@@ -104,7 +104,8 @@ pub fn drill_scene<R: Files, S: Source, K: Sink, E: Write>(
     }
 }
 
-// Plays a schedule, and tells how it ended. A width out of its range, which clap refuses by no clause, is refused here.
+// Plays a schedule, and reports how that ended. A width out of its range is refused here, and by clap, though no clause of
+// clap's says so.
 fn drill_within<S: Source, K: Sink, E: Write>(
     alloc: Global,
     instrument: Instrument,
@@ -113,7 +114,8 @@ fn drill_within<S: Source, K: Sink, E: Write>(
     sink: &mut K,
     messages: &mut E,
 ) -> io::Result<ExitCode>
-    // Either status 2 behind a refused number's line, and nothing was read or written; or what became of the schedule.
+    // Either the width was refused with status 2 and a line, and nothing was read or written; or the schedule was played, and
+    // how that ended is reported.
     ensures told { IfOk result (λ status. TellsWithin instrument drilling.entry
         (ports_of S.Source source.old K.Sink sink.old)
         (ports_of S.Source source.new K.Sink sink.new)
@@ -142,7 +144,7 @@ fn drill_within<S: Source, K: Sink, E: Write>(
     drill(alloc, instrument, drilling, source, sink, messages)
 }
 
-// Plays a schedule, and tells how it ended.
+// Plays a schedule, and reports how that ended.
 fn drill<S: Source, K: Sink, E: Write>(
     alloc: Global,
     instrument: Instrument,
@@ -154,7 +156,7 @@ fn drill<S: Source, K: Sink, E: Write>(
     requires least { 1 ≤ drilling.width }
     requires most { drilling.width ≤ WINDOW }
 
-    // What became of the schedule, and that the messages and the status tell it.
+    // The schedule was played, and the status and the messages report how that ended.
     ensures told { IfOk result (λ status. TellsSchedule instrument drilling.entry
         (ports_of S.Source source.old K.Sink sink.old)
         (ports_of S.Source source.new K.Sink sink.new)

@@ -17,10 +17,10 @@ use std::fs::Files;
 use std::io::{self, Write};
 use std::process::ExitCode;
 
-// Its arguments.
+// The arguments of `exec`.
 const ARGUMENTS: &[Argument<'static>] = &[SCENE];
 
-/// The words of `exec`.
+/// The subcommand `exec` for clap: its help and its arguments.
 pub fn exec_command<'a>(alloc: Global, name: &'a str) -> Result<Command<'a>, AllocError> {
     command_of(
         alloc,
@@ -31,7 +31,7 @@ pub fn exec_command<'a>(alloc: Global, name: &'a str) -> Result<Command<'a>, All
     )
 }
 
-/// Reads the scene, serves with its instrument, and tells how it ended.
+/// Reads the scene, serves with its instrument, and reports how that ended.
 pub fn exec_scene<R: Files, S: Source, K: Sink, E: Write>(
     rt: &R,
     alloc: Global,
@@ -40,8 +40,8 @@ pub fn exec_scene<R: Files, S: Source, K: Sink, E: Write>(
     sink: &mut K,
     messages: &mut E,
 ) -> io::Result<ExitCode>
-    // Either the scene was refused, which is told, and nothing was read or written; or what was served, which is the simulator's
-    // where no scene is named.
+    // Either the scene was refused, which is reported, and nothing was read or written; or the instrument served, which is the
+    // simulator where no scene is named, and how that ended is reported.
     ensures told { IfOk result (λ status. TellsExec scene.entry
         (ports_of S.Source source.old K.Sink sink.old)
         (ports_of S.Source source.new K.Sink sink.new)
@@ -67,14 +67,14 @@ pub fn exec_scene<R: Files, S: Source, K: Sink, E: Write>(
     }
 }
 
-// Serves, and tells how it ended.
+// Serves with the instrument, and reports how that ended.
 fn exec<S: Source, K: Sink, E: Write>(
     mut instrument: Instrument,
     source: &mut S,
     sink: &mut K,
     messages: &mut E,
 ) -> io::Result<ExitCode>
-    // What was served, why it ended, and that the messages and the status tell it.
+    // The instrument served the source, and the status and the messages report how that ended.
     ensures told { IfOk result (λ status. TellsServing instrument
         (ports_of S.Source source.old K.Sink sink.old)
         (ports_of S.Source source.new K.Sink sink.new)

@@ -17,10 +17,10 @@ use std::net::{Net, TcpListener, TcpStream};
 use std::process::ExitCode;
 use std::rt::Files;
 
-// Its arguments.
+// The arguments of `loop`.
 const ARGUMENTS: &[Argument<'static>] = &[SCENE];
 
-/// The subcommand `loop` as clap is given it: its help and its arguments.
+/// The subcommand `loop` for clap: its help and its arguments.
 pub fn loop_command<'a>(alloc: Global, name: &'a str) -> Result<Command<'a>, AllocError> {
     command_of(
         alloc,
@@ -31,7 +31,8 @@ pub fn loop_command<'a>(alloc: Global, name: &'a str) -> Result<Command<'a>, All
     )
 }
 
-/// Asks over a connection to the instrument of a scene, which is read first, and tells how it ended.
+/// Asks over a connection to the instrument of a scene, which is read first, or to the simulator where no scene is named, and
+/// reports how that ended.
 pub fn loop_port<
     R: Net<Listener = TcpListener, Stream = TcpStream> + Files,
     S: Source,
@@ -63,7 +64,7 @@ pub fn loop_port<
     ended
 }
 
-/// Tells behind a fault that it is of the scene.
+/// Writes behind a fault's line that the fault is the scene's, where a scene is named.
 pub(crate) fn tell_scene<E: Write>(scene: Option<&str>, messages: &mut E) -> io::Result<()> {
     match scene {
         Some(path) => writeln!(messages, "geocom: of the scene in {path}"),
@@ -71,7 +72,7 @@ pub(crate) fn tell_scene<E: Write>(scene: Option<&str>, messages: &mut E) -> io:
     }
 }
 
-// Tells behind a fault of the commands that it isn't of the scene, where there is one.
+// Writes behind a fault's line that the fault is the commands', where a scene is named, too.
 fn tell_commands<E: Write>(scene: Option<&str>, messages: &mut E) -> io::Result<()> {
     match scene {
         Some(_) => writeln!(messages, "geocom: of the commands of standard input"),

@@ -38,7 +38,7 @@ fn scene_in<S: Source>(alloc: Global, source: &mut S) -> Result<Instrument, RunF
     ensures found { IfOk result (λ instrument. (text : List ℕ) × Consumes (S.remaining source.old) (S.remaining source.new) text
         × IsAtEnd (S.remaining source.new) × IsScene text instrument) }
 
-    // Either its reading ended so, or its text is faulty.
+    // Either the source wasn't read to its end, or its text is faulty.
     ensures fault { IfErr result (λ e. (given : List ℕ) × Consumes (S.remaining source.old) (S.remaining source.new) given
         × (IsReadFault given e ⊎ SceneFault given e)) }
 {

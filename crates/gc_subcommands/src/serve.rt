@@ -24,8 +24,8 @@ use std::time::Clock;
 // The longest time for which a kept connection may be idle, in seconds: a day.
 const LONGEST_IDLE: u32 = 86_400;
 
-/// What the words of `serve` ask for: the instrument of which scene, on which port or device, and for how many connections; one that
-/// is kept says after how many seconds a connection is idle.
+/// What the words of `serve` ask for: the file of the scene, the port or device, the number of connections where one is given,
+/// and with `--keep` the seconds without bytes after which a connection is idle (`None`: without `--keep`).
 #[derive(Clone, Copy)]
 pub struct Serving<'a> {
     pub scene: Option<&'a str>,
@@ -34,7 +34,7 @@ pub struct Serving<'a> {
     pub idle: Option<u32>,
 }
 
-// Its arguments.
+// The arguments of `serve`.
 const ARGUMENTS: &[Argument<'static>] = &[
     Argument {
         help: "A port of 127.0.0.1, from 1 on, or the path of a device",
@@ -64,7 +64,7 @@ const ARGUMENTS: &[Argument<'static>] = &[
     SCENE,
 ];
 
-/// The words of `serve`.
+/// The subcommand `serve` for clap: its help and its arguments.
 pub fn serve_command<'a>(alloc: Global, name: &'a str) -> Result<Command<'a>, AllocError> {
     command_of(
         alloc,
@@ -75,7 +75,8 @@ pub fn serve_command<'a>(alloc: Global, name: &'a str) -> Result<Command<'a>, Al
     )
 }
 
-/// What the words of `serve` say, unless they name no place: a simulator is served on this machine alone.
+/// What the words of `serve` ask for. `None`: they name no place, or one that isn't on this machine, where alone a simulator is
+/// served.
 pub fn serving_of<'a>(words: &ArgMatches<'a>) -> Option<Serving<'a>> {
     match named_place(words) {
         None | Some(Place::Host(_)) => None,
@@ -88,7 +89,8 @@ pub fn serving_of<'a>(words: &ArgMatches<'a>) -> Option<Serving<'a>> {
     }
 }
 
-// After how many seconds a connection is idle, where it is to be kept.
+// After how many seconds a connection is idle, where the place is to be kept; else `None`. clap gives a missing number its default, though
+// no clause of clap's says so: else it would be 0, which `keep_place` refuses.
 fn idle_of(words: &ArgMatches) -> Option<u32> {
     if words.get_flag("keep") {
         Some(words.get_one::<u32>("idle").unwrap_or(0))
@@ -97,9 +99,9 @@ fn idle_of(words: &ArgMatches) -> Option<u32> {
     }
 }
 
-/// Serves a port or a device, or keeps it where it is told after how many seconds a connection is idle, and tells how it ended. The places
-/// of standard streams that are closed are filled first, and stay so. `StreamClosed` comes where that can't be done. Then the scene
-/// is read, and no port is bound and no device opened before.
+/// Serves a port or a device, or keeps it where `serving.idle` is set, and reports how that ended. The places of standard
+/// streams that are closed are filled first, and stay so. `StreamClosed` comes where that can't be done. Then the scene is
+/// read, and only then a port is bound or a device opened.
 pub fn serve_filled<
     R: Net<Listener = TcpListener, Stream = TcpStream> + Clock + Files<File = File>,
     E: Write,
@@ -153,7 +155,8 @@ fn serve_scene<
     }
 }
 
-// Serves a port or a device, and tells how it ended. Numbers out of their range, which clap refuses by no clause, are refused here.
+// Serves a port or a device, and reports how that ended. clap refuses numbers out of their range, though no clause of clap's says so:
+// hence they are refused here, too, but for 0 connections of a device, which is not opened then.
 fn serve_place<
     R: Net<Listener = TcpListener, Stream = TcpStream> + Clock + Files<File = File>,
     E: Write,
@@ -177,7 +180,7 @@ fn serve_place<
     }
 }
 
-// Serves a port, and tells how it ended. Numbers out of their range, which clap refuses by no clause, are refused here.
+// Serves a port, and reports how that ended. Numbers out of their range are refused here, as in `serve_place`.
 fn serve_port<R: Net<Listener = TcpListener, Stream = TcpStream>, E: Write>(
     rt: &R,
     port: u16,
@@ -196,7 +199,7 @@ fn serve_port<R: Net<Listener = TcpListener, Stream = TcpStream>, E: Write>(
     )
 }
 
-// Keeps a port or a device, and tells how it ended. Numbers out of their range, which clap refuses by no clause, are refused here.
+// Keeps a port or a device, and reports how that ended. Numbers out of their range are refused here, as in `serve_place`.
 fn keep_place<
     R: Net<Listener = TcpListener, Stream = TcpStream> + Clock + Files<File = File>,
     E: Write,
@@ -210,7 +213,7 @@ fn keep_place<
 ) -> io::Result<ExitCode>
     ensures { IfOk result (λ status. exit_status status ≤ 2) }
 {
-    if idle == 0 || idle > LONGEST_IDLE || !are_few(connections) {
+    if idle == 0 || idle > LONGEST_IDLE || !may_be_asked(connections) {
         return refuse_numbers(messages);
     }
     let keeping = Keeping {
@@ -230,7 +233,7 @@ fn keep_place<
     }
 }
 
-// Tells how serving a place ended, and of a fault where and why.
+// Reports how serving a place ended, and of a fault where and why.
 fn tell_served<E: Write>(
     place: Place<'_>,
     end: Result<(), RunFault>,
@@ -240,14 +243,14 @@ fn tell_served<E: Write>(
 {
     let ended = end_of(end, messages);
     if let Err(fault) = end {
-        // Where that can't be written the fault's line stands all the same.
+        // Where this line can't be written, the fault's line stands all the same.
         let _ = tell_place(place, fault, messages);
     }
     ended
 }
 
 // Whether this number of connections may be asked for: none given, or 1 to 1000.
-fn are_few(connections: Option<u32>) -> bool {
+fn may_be_asked(connections: Option<u32>) -> bool {
     match connections {
         None => true,
         Some(connections) => 1 <= connections && connections <= MOST_CONNECTIONS,

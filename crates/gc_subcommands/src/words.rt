@@ -23,7 +23,7 @@ pub enum Asked<'a> {
     Drill(Drilling<'a>),
     Serve(Serving<'a>),
     Over(Asking<'a>),
-    /// The word for the place names none: none that can be served where `serves` is set, else none of an instrument.
+    /// The word for the place names none: none to serve a simulator on where `serves` is set, else none of an instrument.
     Nowhere { serves: bool },
     /// A number is missing that has a default.
     Unnumbered,
@@ -59,7 +59,7 @@ pub enum Subcommand {
     Station,
 }
 
-// They stand in this order in help.
+// The subcommands, in the order of the help.
 const SUBCOMMANDS: [Subcommand; 7] = [
     Subcommand::Exec,
     Subcommand::Check,
@@ -71,7 +71,7 @@ const SUBCOMMANDS: [Subcommand; 7] = [
 ];
 
 impl Subcommand {
-    // Its name, by which it is asked for.
+    // The name of the subcommand, by which it is asked for.
     fn name<'a>(self) -> &'a str {
         match self {
             Subcommand::Exec => "exec",
@@ -84,7 +84,7 @@ impl Subcommand {
         }
     }
 
-    /// The one of this name.
+    /// The subcommand of this name, if there is one.
     pub fn named(name: &str) -> Option<Subcommand> {
         for subcommand in SUBCOMMANDS {
             if subcommand.name() == name {
@@ -94,7 +94,7 @@ impl Subcommand {
         None
     }
 
-    /// Whether it reads a text from standard input.
+    /// Whether the subcommand reads a text from standard input.
     pub fn reads_a_text(self) -> bool {
         match self {
             Subcommand::Drill | Subcommand::Loop | Subcommand::Ask | Subcommand::Station => true,
@@ -102,7 +102,7 @@ impl Subcommand {
         }
     }
 
-    // What its help says, and its arguments: a row in its own file.
+    // The subcommand for clap, as its own file makes it.
     fn command<'a>(self, alloc: Global) -> Result<Command<'a>, AllocError> {
         match self {
             Subcommand::Exec => exec_command(alloc, self.name()),
@@ -115,7 +115,7 @@ impl Subcommand {
         }
     }
 
-    // What it is asked for by these words, which stand behind its name.
+    // What the words behind the subcommand's name ask for.
     fn asked<'a>(self, words: &ArgMatches<'a>) -> Asked<'a> {
         match self {
             Subcommand::Exec => Asked::Exec {
@@ -135,7 +135,7 @@ impl Subcommand {
     }
 }
 
-/// What the words ask for. A subcommand is required.
+/// What the words ask for. `Err`: they don't parse, as without a subcommand, or ask for the help or the version, or memory ran out.
 // A loop makes the subcommands: the proof of a chain of `.subcommand(..)?` grows faster than the chain.
 pub fn asked_of<'a>(alloc: Global, words: &'a [String]) -> Result<Asked<'a>, Error> {
     let subcommands = subcommands_of(alloc)?;
@@ -145,7 +145,7 @@ pub fn asked_of<'a>(alloc: Global, words: &'a [String]) -> Result<Asked<'a>, Err
     Ok(asked_for(&matches))
 }
 
-// The program, with no subcommand yet.
+// The command line of the program for clap, with no subcommand yet.
 fn geocom<'a>(alloc: Global) -> Command<'a> {
     Command::new(alloc, "geocom")
         .version(VERSION)
@@ -157,7 +157,7 @@ fn geocom<'a>(alloc: Global) -> Command<'a> {
         .disable_help_subcommand(true)
 }
 
-// The subcommands in turn.
+// The subcommands for clap, in the order of the help. `Err`: memory ran out.
 fn subcommands_of<'a>(alloc: Global) -> Result<Vec<Command<'a>>, AllocError> {
     let mut subcommands = Vec::new(alloc);
     for subcommand in SUBCOMMANDS {
@@ -166,7 +166,7 @@ fn subcommands_of<'a>(alloc: Global) -> Result<Vec<Command<'a>>, AllocError> {
     Ok(subcommands)
 }
 
-// What the words ask for. clap refuses words without a subcommand, and an unknown one.
+// What the words ask for. clap refuses words without a subcommand, and an unknown one, so the last line isn't reached.
 fn asked_for<'a>(matches: &ArgMatches<'a>) -> Asked<'a> {
     if let Some((name, words)) = matches.subcommand() {
         if let Some(subcommand) = Subcommand::named(name) {

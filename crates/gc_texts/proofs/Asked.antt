@@ -8,6 +8,7 @@ use Rattle.gc_values.specs.declared.fault.ValueFault.TheVariants as fault
 use Rattle.gc_texts.specs.Troubles.{IsCallTrouble, list_trouble}
 use Rattle.gc_texts.specs.declared.trouble.Trouble.{Trouble}
 
+-- the trouble of parameters that have a fault is that of their call
 of_fault : (rpc : ℕ) (params : List ℕ) (e : ValueFault) → IsRefusal rpc params (Parameters e) → IsCallTrouble rpc params (list_trouble rpc e)
 of_fault rpc params fault.Spelling refused = record { fault = fault.Spelling; refused = refused; is = refl }
 of_fault rpc params fault.Range refused = record { fault = fault.Range; refused = refused; is = refl }
@@ -15,7 +16,7 @@ of_fault rpc params fault.OpenQuote refused = record { fault = fault.OpenQuote; 
 of_fault rpc params fault.TooMany refused = record { fault = fault.TooMany; refused = refused; is = refl }
 of_fault rpc params fault.Count refused = record { fault = fault.Count; refused = refused; is = refl }
 
--- parameters with a fault
+-- the trouble of parameters with a fault is that of their call
 pub list_is : (rpc : ℕ) (params : List ℕ) (of : CallFault) (e : ValueFault) (t : Trouble) → IsRefusal rpc params of → of ≡ Parameters e → t ≡ list_trouble rpc e → IsCallTrouble rpc params t
 list_is rpc params of e t refused same is =
     subst (λ (x : Trouble). IsCallTrouble rpc params x) (sym is) (of_fault rpc params e (subst (λ (f : CallFault). IsRefusal rpc params f) same refused))

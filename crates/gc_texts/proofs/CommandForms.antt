@@ -15,24 +15,28 @@ some_is : (a b : List ℕ) → Some a ≡ Some b → a ≡ b
 some_is a b e = cc
 
 module _ (line : List ℕ) (command : Command) (is : IsCommand line command) where
+  -- the first space of a command's line stands between its target and its procedure
   the_cut : (target : List ℕ) (rest : Option (List ℕ)) → Cuts 32 line target rest → (target ≡ is.target_text) × (rest ≡ Some is.procedure)
   the_cut target rest cut = cut_found 32 line target rest is.target_text is.procedure cut is.line_is (digits_lack_spaces is.target_text is.target_is.names.digits)
 
-  -- a space is there
+  -- the line of a command has a space
   pub no_space : (target : List ℕ) → Cuts 32 line target None → ⊥
   no_space target cut = let parts = the_cut target None cut in let bad : None ≡ Some is.procedure = parts.1 in cc
 
-  -- and a target and a call stand before and behind it
+  -- what stands before that space is a target
   pub has_number : (target : List ℕ) (rest : Option (List ℕ)) → Cuts 32 line target rest → ((n : ℕ) → IsNumber target n 4294967295 → ⊥) → ⊥
   has_number target rest cut none = none command.target (subst (λ (ds : List ℕ). IsNumber ds command.target 4294967295) (sym (the_cut target rest cut).0) is.target_is)
 
+  -- what stands behind that space is a call
   pub has_call : (target procedure : List ℕ) → Cuts 32 line target (Some procedure) → ((c : Call) → IsProcedure procedure c → ⊥) → ⊥
   has_call target procedure cut none = none command.call (subst (λ (p : List ℕ). IsProcedure p command.call)
       (sym (some_is procedure is.procedure (the_cut target (Some procedure) cut).1)) is.procedure_is)
 
+-- two commands with one target and one call are one
 same_command : (c d : Command) → c.target ≡ d.target → c.call ≡ d.call → c ≡ d
 same_command c d e f = ap (λ t. record { target = t; call = c.call }) e ∙ ap (λ x. record { target = d.target; call = x }) f
 
+-- a line has the form of one command at most
 pub one_command : (line : List ℕ) (c d : Command) → IsCommand line c → IsCommand line d → c ≡ d
 one_command line c d r s =
     let parts = one_front 32 r.target_text s.target_text r.procedure s.procedure (sym r.line_is ∙ s.line_is)

@@ -10,17 +10,17 @@ use Rattle.gc_texts.specs.Stamps.{is_leap, month_days, year_days, days_of_months
 abbrev pub on : ℕ → ℕ → ℕ → Date
 on y m d = record { year = y; month = m; day = d }
 
--- first some days pass, and then some more
+-- the date after a + b days is the date b days after that after a days
 pub days_sum : (a b : ℕ) (d : Date) → days_after (a + b) d ≡ days_after b (days_after a d)
 unfolding days_after
 days_sum zero b d = let e : 0 + b ≡ b = omega arith in rw e refl
 days_sum (suc a) b d = let e : suc a + b ≡ suc (a + b) = omega arith in rw e (days_sum a b (next_day d))
 
--- the day behind one that isn't its month's last
+-- the day after one that isn't its month's last is the next day of the same month
 next_within : (y m d : ℕ) → d < month_days y m → next_day (on y m d) ≡ on y m (d + 1)
 next_within y m d below = cond-true (nat_lt d (month_days y m)) _ _ (lt-ltb d (month_days y m) below)
 
--- some days pass within a month
+-- as long as the month has enough days, k days later is k days on in the same month
 pub within : (k y m d : ℕ) → d + k ≤ month_days y m → days_after k (on y m d) ≡ on y m (d + k)
 unfolding days_after
 within zero y m d le = let e : d ≡ d + 0 = omega arith in ap (on y m) e
@@ -28,25 +28,25 @@ within (suc k) y m d le =
     let e : d + 1 + k ≡ d + suc k = omega arith in
     ap (days_after k) (next_within y m d (omega (arith, le))) ∙ within k y m (d + 1) (omega (arith, le)) ∙ ap (on y m) e
 
--- the day behind a month's last
+-- the day after a month's last is the first of the next month, where the month isn't December
 next_month : (y m d : ℕ) → d ≡ month_days y m → m < 12 → next_day (on y m d) ≡ on y (m + 1) 1
 next_month y m d last below =
     cond-false (nat_lt d (month_days y m)) _ _ (le-ltb d (month_days y m) (omega (arith, last))) ∙ cond-true (nat_lt m 12) _ _ (lt-ltb m 12 below)
 
--- a month passes
+-- one day after a month's last, which comes after k days, is the first of the next month
 pub month_passes : (k y m d : ℕ) → d + k ≡ month_days y m → m < 12 → days_after (suc k) (on y m d) ≡ on y (m + 1) 1
 unfolding days_after
 month_passes zero y m d last below = next_month y m d (omega (arith, last)) below
 month_passes (suc k) y m d last below =
     ap (days_after (suc k)) (next_within y m d (omega (arith, last))) ∙ month_passes k y m (d + 1) (omega (arith, last)) below
 
--- a month has days
+-- a month has at least one day
 pub some_days : (y m : ℕ) → 0 < month_days y m
 some_days y m =
     cond_both (m == 2) _ _ (λ n. 0 < n) (λ _. cond_both (is_leap y) 29 28 (λ n. 0 < n) (λ _. omega arith) (λ _. omega arith))
     (λ _. cond_both ((m == 4) || (m == 6) || (m == 9) || (m == 11)) 30 31 (λ n. 0 < n) (λ _. omega arith) (λ _. omega arith))
 
--- the month's days pass
+-- a month's days and more after its first are as many more after the first of the next month
 pub whole_month : (y m left : ℕ) → m < 12 → days_after (month_days y m + left) (on y m 1) ≡ days_after left (on y (m + 1) 1)
 whole_month y m left below =
     let some = some_days y m in
@@ -54,7 +54,7 @@ whole_month y m left below =
     ap (λ n. days_after (n + left) (on y m 1)) e ∙ days_sum (suc (month_days y m - 1)) left (on y m 1)
     ∙ ap (days_after left) (month_passes (month_days y m - 1) y m 1 (omega (arith, some)) below)
 
--- the days of the year's first months pass
+-- the days of a year's first k months and more after its first day are as many more after the first of month k + 1
 pub whole_months : (k y left : ℕ) → k < 12 → days_after (days_of_months y k + left) (on y 1 1) ≡ days_after left (on y (k + 1) 1)
 unfolding days_of_months
 whole_months zero y left below = let e : 0 + left ≡ left = omega arith in rw e refl
@@ -64,21 +64,22 @@ whole_months (suc k) y left below =
     ap (λ n. days_after n (on y 1 1)) e ∙ whole_months k y (month_days y (k + 1) + left) (omega (arith, below))
     ∙ whole_month y (k + 1) left (omega (arith, below)) ∙ ap (λ m. days_after left (on y m 1)) next
 
--- the twelve months have the days of the year
+-- the days of the twelve months add up to 366 in a leap year, and to 365 in another
 sum_of_months : (leap : Bool) → 31 + (if leap then 29 else 28) + 31 + 30 + 31 + 30 + 31 + 31 + 30 + 31 + 30 + 31 ≡ (if leap then 366 else 365)
 sum_of_months true = refl
 sum_of_months false = refl
 
+-- the twelve months have the days of the year
 pub months_of_year : (y : ℕ) → days_of_months y 12 ≡ year_days y
 unfolding days_of_months
 months_of_year y = sum_of_months (is_leap y)
 
--- the last month's days pass
+-- 31 days after 1 December is 1 January of the next year
 december : (y : ℕ) → days_after 31 (on y 12 1) ≡ on (y + 1) 1 1
 unfolding days_after
 december y = refl
 
--- the year's days pass
+-- a year's days and more after its first day are as many more after the first day of the next year
 pub whole_year : (y left : ℕ) → days_after (year_days y + left) (on y 1 1) ≡ days_after left (on (y + 1) 1 1)
 unfolding days_of_months
 whole_year y left =
@@ -86,7 +87,7 @@ whole_year y left =
     ap (λ n. days_after (n + left) (on y 1 1)) (sym (months_of_year y)) ∙ ap (λ n. days_after n (on y 1 1)) e
     ∙ whole_months 11 y (31 + left) (omega arith) ∙ days_sum 31 left (on y 12 1) ∙ ap (days_after left) (december y)
 
--- one more month
+-- the first m months have the days of the first m - 1, and those of month m
 pub one_month_more : (y m : ℕ) → 1 ≤ m → days_of_months y m ≡ days_of_months y (m - 1) + month_days y m
 unfolding days_of_months
 one_month_more y zero le = absurd (omega (arith, le))
@@ -109,20 +110,20 @@ before_december y m left high part whole =
       | inr is ↦ is.1
     ]
 
--- what is left behind a month's days
+-- a date that is at least a month's days after the month's first is as many fewer days after the first of the next month
 pub month_left : (y m days left : ℕ) (d : Date) → m < 12 → month_days y m ≤ left → days_after days d ≡ days_after left (on y m 1)
     → days_after days d ≡ days_after (left - month_days y m) (on y (m + 1) 1)
 month_left y m days left d below whole so =
     let e : left ≡ month_days y m + (left - month_days y m) = omega (arith, whole) in
     so ∙ ap (λ n. days_after n (on y m 1)) e ∙ whole_month y m (left - month_days y m) below
 
--- what is left of the year then
+-- where the days left have a whole month, those behind it still lie within the year
 pub part_left : (y m left : ℕ) → 1 ≤ m → month_days y m ≤ left → days_of_months y (m - 1) + left < year_days y → days_of_months y (m + 1 - 1) + (left - month_days y m) < year_days y
 part_left y m left low whole part =
     let e : m + 1 - 1 ≡ m = omega arith in
     rw e (omega (arith, one_month_more y m low, whole, part))
 
--- what is left behind a year's days
+-- a date that is at least a year's days after its first day is as many fewer days after the first day of the next year
 pub year_left : (y days left : ℕ) (d : Date) → year_days y ≤ left → days_after days d ≡ days_after left (on y 1 1) → days_after days d ≡ days_after (left - year_days y) (on (y + 1) 1 1)
 year_left y days left d whole so =
     let e : left ≡ year_days y + (left - year_days y) = omega (arith, whole) in
@@ -134,12 +135,12 @@ few_days y m =
     cond_both (m == 2) _ _ (λ n. n ≤ 31) (λ _. cond_both (is_leap y) 29 28 (λ n. n ≤ 31) (λ _. omega arith) (λ _. omega arith))
     (λ _. cond_both ((m == 4) || (m == 6) || (m == 9) || (m == 11)) 30 31 (λ n. n ≤ 31) (λ _. omega arith) (λ _. omega arith))
 
--- the days of no month
+-- in front of the first month no days have passed, so the days left lie within the year
 pub no_months : (y left : ℕ) → left < year_days y → days_of_months y (1 - 1) + left < year_days y
 unfolding days_of_months
 no_months y left part = omega (arith, part)
 
--- the day itself, where it is in the month
+-- a date that is `left` days after the first of a month, fewer than the month has, is day left + 1 of that month
 pub day_in_month : (y m days left : ℕ) (d : Date) → left < month_days y m → days_after days d ≡ days_after left (on y m 1) → on y m (left + 1) ≡ days_after days d
 day_in_month y m days left d part so =
     let e : 1 + left ≡ left + 1 = omega arith in

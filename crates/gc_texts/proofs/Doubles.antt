@@ -7,6 +7,7 @@ use Rattle.gc_values.proofs.DecimalLaws.{spells_unique}
 use Rattle.gc_texts.specs.Nears.{IsDouble, AreWords}
 use Rattle.gc_texts.specs.declared.near.Near.{Near}
 
+-- a text that doesn't read is no double
 pub no_double : (r : Result Decimal ValueFault) (e : ValueFault) (d : Decimal) → r ≡ Err e → r ≡ Ok d → ⊥
 no_double r e d failed read = let bad : ◌≡◌ {A = Result Decimal ValueFault} (Err e) (Ok d) = sym failed ∙ read in cc
 
@@ -14,6 +15,7 @@ never : (b : Bool) → b ≡ true → b ≡ false → ⊥
 never b e f = let bad : true ≡ false = sym e ∙ f in cc
 
 module _ (target hz v tolerance : List ℕ) (near : Near) (are : AreWords target hz v tolerance near) where
+  -- the words are no place where the numbers that they write are none
   pub no_place : (h w : Decimal) → IsDouble hz h → IsDouble v w → is_place (record { hz = h; v = w }) ≡ false → ⊥
   no_place h w is_h is_w isnt =
       let one = spells_unique hz near.place.hz h are.hz_is is_h in
@@ -21,5 +23,6 @@ module _ (target hz v tolerance : List ℕ) (near : Near) (are : AreWords target
       never (is_place near.place) are.place_is
       (ap (λ x. is_place (record { hz = x; v = near.place.v })) one ∙ ap (λ x. is_place (record { hz = h; v = x })) other ∙ isnt)
 
+  -- the word is no tolerance where the number that it writes is none
   pub no_tolerance : (t : Decimal) → IsDouble tolerance t → is_tolerance t ≡ false → ⊥
   no_tolerance t is isnt = never (is_tolerance near.tolerance) are.tolerance_in (ap is_tolerance (spells_unique tolerance near.tolerance t are.tolerance_is is) ∙ isnt)

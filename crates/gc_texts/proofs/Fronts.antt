@@ -4,17 +4,17 @@ use Rattle.std.proofs.lemmas.Bool.{cond-true, cond-false, eq-eqb}
 use Rattle.std.proofs.lemmas.Bool.Decides.{eqb_tells}
 use Rattle.gc_texts.specs.Cuts.{Lacks, Cuts, before, behind}
 
--- a byte that isn't the mark
+-- a byte other than the mark tests as unequal to the mark
 not_mark : (b mark : ℕ) → b ≢ mark → (b == mark) ≡ false
 not_mark b mark other = elim (eqb_tells b mark) as (λ _. (b == mark) ≡ false) [ inl is ↦ absurd (other is.1) | inr is ↦ is.0 ]
 
--- what stands before a mark that isn't in the front
+-- where a front has no mark, what stands before the first mark is that front
 pub before_mark : (mark : ℕ) (front rest : List ℕ) → Lacks mark front → before mark (front ++ mark ∷ rest) ≡ front
 before_mark mark [] rest lacks = cond-true (mark == mark) [] (mark ∷ before mark rest) (eq-eqb mark mark refl)
 before_mark mark (b ∷ bs) rest lacks =
     cond-false (b == mark) [] (b ∷ before mark (bs ++ mark ∷ rest)) (not_mark b mark lacks.0) ∙ ap (λ l. b ∷ l) (before_mark mark bs rest lacks.1)
 
--- what is behind the first mark
+-- where a front has no mark, what stands behind the first mark is the rest
 pub behind_mark : (mark : ℕ) (front rest : List ℕ) → Lacks mark front → behind mark (front ++ mark ∷ rest) ≡ rest
 behind_mark mark [] rest lacks = cond-true (mark == mark) rest (behind mark rest) (eq-eqb mark mark refl)
 behind_mark mark (b ∷ bs) rest lacks =
@@ -30,7 +30,7 @@ pub behind_none : (mark : ℕ) (text : List ℕ) → Lacks mark text → behind 
 behind_none mark [] lacks = refl
 behind_none mark (b ∷ bs) lacks = cond-false (b == mark) bs (behind mark bs) (not_mark b mark lacks.0) ∙ behind_none mark bs lacks.1
 
--- a cut finds both
+-- the front of a cut is what stands before the first mark
 pub cut_before : (mark : ℕ) (text front : List ℕ) (rest : Option (List ℕ)) → Cuts mark text front rest → front ≡ before mark text
 cut_before mark text front None cut = sym (ap (before mark) cut.0 ∙ before_none mark front cut.1)
 cut_before mark text front (Some rest) cut = sym (ap (before mark) cut.0 ∙ before_mark mark front rest cut.1)
@@ -39,6 +39,7 @@ abbrev pub unwrapped : Option (List ℕ) → List ℕ
 unwrapped None = []
 unwrapped (Some rest) = rest
 
+-- the rest of a cut is what stands behind the first mark
 pub cut_behind : (mark : ℕ) (text front : List ℕ) (rest : Option (List ℕ)) → Cuts mark text front rest → unwrapped rest ≡ behind mark text
 cut_behind mark text front None cut = sym (ap (behind mark) cut.0 ∙ behind_none mark front cut.1)
 cut_behind mark text front (Some rest) cut = sym (ap (behind mark) cut.0 ∙ behind_mark mark front rest cut.1)

@@ -19,7 +19,7 @@ use Rattle.gc_texts.specs.declared.stamp.Date.{Date}
 use Rattle.gc_texts.proofs.Dates.{few_days}
 use Rattle.gc_texts.proofs.Logs.{one_reading}
 
--- a byte of a moment
+-- a byte of a moment: printable, and no space
 record IsInk (b : ℕ) : Type 0 where
   above : 32 < b
   below : b ≤ 126
@@ -31,22 +31,27 @@ IsShown b = (32 ≤ b) × (b ≤ 126)
 ink : (b : ℕ) → 32 < b → b ≤ 126 → IsInk b
 ink b above below = record { above = above; below = below }
 
+-- digits are printable, and none is a space
 digits_ink : (ds : List ℕ) → AllDigits 10 ds → AllByRecursion IsInk ds
 digits_ink [] digits = tt
 digits_ink (d ∷ ds) digits = let r = digit_from_value d digits.0 in (ink d (omega (arith, r.0)) (omega (arith, r.1)), digits_ink ds digits.1)
 
+-- a number in decimal is printable, without a space
 decimal_ink : (n : ℕ) → n < 2 ^ 64 → All IsInk (decimal n)
 decimal_ink n h = All-from_recursion IsInk (decimal n) (digits_ink (decimal n) (decimal_is_IsNumeral n h).0.1)
 
 one_ink : (b : ℕ) → 32 < b → b ≤ 126 → All IsInk (b ∷ [])
 one_ink b above below = All-from_recursion IsInk (b ∷ []) (ink b above below, tt)
 
+-- two digits are printable, without a space
 two_ink : (n : ℕ) → n < 100 → All IsInk (two_digits n)
 two_ink n h = All-from_recursion IsInk (two_digits n) (ink (48 + n / 10) (omega arith) (omega (arith, h, div-add-mod n 10)), (ink (48 + n % 10) (omega arith) (omega arith), tt))
 
+-- three digits are printable, without a space
 three_ink : (n : ℕ) → n < 1000 → All IsInk (three_digits n)
 three_ink n h = All-append IsInk ((48 + n / 100) ∷ []) (two_digits (n % 100)) (one_ink (48 + n / 100) (omega arith) (omega (arith, h, div-add-mod n 100))) (two_ink (n % 100) (omega arith))
 
+-- two texts without a space, one behind the other, have none
 both : (xs ys : List ℕ) → All IsInk xs → All IsInk ys → All IsInk (xs ++ ys)
 both xs ys = All-append IsInk xs ys
 
@@ -56,6 +61,7 @@ record IsWithin (d : Date) (year : ℕ) : Type 0 where
   day : d.day ≤ 31
   years : d.year ≤ year
 
+-- the day after a date lies within one more year
 next_within : (d : Date) (year : ℕ) → IsWithin d year → IsWithin (next_day d) (suc year)
 next_within d year h =
     cond_both (nat_lt d.day (month_days d.year d.month)) _ _ (λ e. IsWithin e (suc year))
@@ -64,15 +70,18 @@ next_within d year h =
     (λ less. record { month = omega (arith, ltb-true d.month 12 less); day = omega arith; years = omega (arith, h.years) })
     (λ _. record { month = omega arith; day = omega arith; years = omega (arith, h.years) }))
 
+-- the date n days after one lies within n more years
 later_within : (n : ℕ) (d : Date) (year : ℕ) → IsWithin d year → IsWithin (days_after n d) (year + n)
 unfolding days_after
 later_within zero d year h = let e : year + 0 ≡ year = omega arith in subst (IsWithin d) (sym e) h
 later_within (suc n) d year h = let e : year + suc n ≡ suc year + n = omega arith in
     subst (IsWithin (days_after n (next_day d))) (sym e) (later_within n (next_day d) (suc year) (next_within d year h))
 
+-- the date n days after 1 January 1970 lies within n more years
 date_within : (n : ℕ) → IsWithin (date_of n) (1970 + n)
 date_within n = later_within n (record { year = 1970; month = 1; day = 1 }) 1970 (record { month = omega arith; day = omega arith; years = omega arith })
 
+-- the text of a date is printable, without a space
 date_ink : (d : Date) → d.year < 2 ^ 64 → d.month < 100 → d.day < 100 → All IsInk (date_text d)
 date_ink d year month day =
     let dash = one_ink 45 (omega arith) (omega arith) in
@@ -81,6 +90,7 @@ date_ink d year month day =
     let third = both (decimal d.year ++ 45 ∷ [] ++ two_digits d.month) (45 ∷ []) second dash in
     both (decimal d.year ++ 45 ∷ [] ++ two_digits d.month ++ 45 ∷ []) (two_digits d.day) third (two_ink d.day day)
 
+-- the text of a time is printable, without a space
 time_ink : (millis : ℕ) → millis < 86400000 → All IsInk (time_text millis)
 time_ink millis h =
     let hours = two_ink (millis / 3600000) (omega (arith, h, div-add-mod millis 3600000)) in
@@ -97,6 +107,7 @@ time_ink millis h =
     (both (two_digits (millis / 60000 % 60)) (58 ∷ (two_digits (millis / 1000 % 60) ++ 46 ∷ rest)) minutes third) in
     both (two_digits (millis / 3600000)) (58 ∷ (two_digits (millis / 60000 % 60) ++ 58 ∷ (two_digits (millis / 1000 % 60) ++ 46 ∷ rest))) hours second
 
+-- a stamp's bytes are printable, and none is a space
 stamp_ink : (utc : ℕ) → utc < 2 ^ 64 → All IsInk (stamp_text utc)
 stamp_ink utc h =
     let days = utc / 86400000 in
@@ -108,16 +119,17 @@ stamp_ink utc h =
     let second = both (date_text (date_of days) ++ 84 ∷ []) moment first (time_ink (utc % 86400000) (omega arith)) in
     both (date_text (date_of days) ++ 84 ∷ [] ++ moment) (90 ∷ []) second (one_ink 90 (omega arith) (omega arith))
 
--- ink is no space
+-- a text whose bytes are printable, and none a space, lacks the space
 ink_lacks : (bs : List ℕ) → AllByRecursion IsInk bs → Lacks 32 bs
 ink_lacks [] h = tt
 ink_lacks (b ∷ bs) h = ((λ e. absurd (omega (arith, e, h.0.above))), ink_lacks bs h.1)
 
+-- bytes that are printable, and no spaces, are printable
 ink_prints : (bs : List ℕ) → AllByRecursion IsInk bs → AllByRecursion IsShown bs
 ink_prints [] h = tt
 ink_prints (b ∷ bs) h = ((omega (arith, h.0.above), h.0.below), ink_prints bs h.1)
 
--- a byte as it is written
+-- a digit of base 16 is printable
 digit_ink : (n : ℕ) → n < 16 → IsShown (hex_digit n)
 digit_ink n h = cond_both (nat_lt n 10) (48 + n) (87 + n) IsShown (λ e. (omega (arith, h), omega (arith, h))) (λ e. (omega (arith, h), omega (arith, h)))
 
@@ -129,6 +141,7 @@ and_right : (a b : Bool) → (a && b) ≡ true → b ≡ true
 and_right true b e = e
 and_right false b e = let bad : false ≡ true = e in cc
 
+-- a byte that stands as it is is printable
 as_it_is_prints : (b : ℕ) → is_as_it_is b ≡ true → IsShown b
 as_it_is_prints b e =
     let bounds = and_left (nat_lt 31 b && nat_lt b 127) (not (b == 92)) e in
@@ -137,6 +150,7 @@ as_it_is_prints b e =
 high_digit : (b : ℕ) → b < 256 → b / 16 < 16
 high_digit b h = omega (arith, h, div-add-mod b 16)
 
+-- the escaped form of a byte is printable
 escape_prints : (b : ℕ) → b < 256 → All IsShown (escape b)
 escape_prints b h =
     cond_both (is_as_it_is b) (b ∷ []) (92 ∷ 120 ∷ hex_digit (b / 16) ∷ hex_digit (b % 16) ∷ []) (All IsShown)
@@ -144,10 +158,12 @@ escape_prints b h =
     (λ _. All-from_recursion IsShown (92 ∷ 120 ∷ hex_digit (b / 16) ∷ hex_digit (b % 16) ∷ [])
     ((omega arith, omega arith), ((omega arith, omega arith), (digit_ink (b / 16) (high_digit b h), (digit_ink (b % 16) (omega arith), tt)))))
 
+-- the escaped form of bytes is printable
 pub escaped_prints : (bs : List ℕ) → AllByRecursion (λ b. b < 256) bs → All IsShown (escaped bs)
 escaped_prints [] h = All-from_recursion IsShown [] tt
 escaped_prints (b ∷ bs) h = All-append IsShown (escape b) (escaped bs) (escape_prints b h.0) (escaped_prints bs h.1)
 
+-- the text of a mark is printable
 mark_prints : (mark : LogMark) → All IsShown (mark_text mark)
 mark_prints Went = All-from_recursion IsShown (62 ∷ []) ((omega arith, omega arith), tt)
 mark_prints WentPart = All-from_recursion IsShown (62 ∷ 124 ∷ []) ((omega arith, omega arith), ((omega arith, omega arith), tt))
@@ -155,6 +171,7 @@ mark_prints Came = All-from_recursion IsShown (60 ∷ []) ((omega arith, omega a
 mark_prints CamePart = All-from_recursion IsShown (60 ∷ 124 ∷ []) ((omega arith, omega arith), ((omega arith, omega arith), tt))
 mark_prints Link = All-from_recursion IsShown (45 ∷ []) ((omega arith, omega arith), tt)
 
+-- a printable text behind a space is printable
 space_prints : (bs : List ℕ) → All IsShown bs → All IsShown (32 ∷ bs)
 space_prints bs h = All-append IsShown (32 ∷ []) bs (All-from_recursion IsShown (32 ∷ []) ((omega arith, omega arith), tt)) h
 
@@ -162,6 +179,7 @@ space_prints bs h = All-append IsShown (32 ∷ []) bs (All-from_recursion IsShow
 pub stamp_shown : (utc : ℕ) → utc < 2 ^ 64 → All IsShown (stamp_text utc)
 stamp_shown utc h = All-from_recursion IsShown (stamp_text utc) (ink_prints (stamp_text utc) (recursion_from_All IsInk (stamp_text utc) (stamp_ink utc h)))
 
+-- the law: a log line that was written reads back, in one way alone
 pub read_back : LogLinesReadBack
 read_back = record {
   written = λ utc mark bytes h are. record {
@@ -174,6 +192,7 @@ read_back = record {
   once = λ text one other mark sign bytes more. one_reading text one other mark sign bytes more;
 }
 
+-- the law: a log line is printable before its line feed
 pub printable : LogLinesArePrintable
 printable utc mark bytes h are =
     All-append IsShown (stamp_text utc) (32 ∷ (mark_text mark ++ 32 ∷ escaped bytes)) (stamp_shown utc h)

@@ -19,20 +19,24 @@ data IsEscape (b : ℕ) (text : List ℕ) : Type 0 where
   as_it_is : is_as_it_is b ≡ true → text ≡ b ∷ [] → IsEscape b text
   as_digits : is_as_it_is b ≡ false → text ≡ 92 ∷ 120 ∷ hex_digit (b / 16) ∷ hex_digit (b % 16) ∷ [] → IsEscape b text
 
+-- by whether it stands as it is (`test`), a byte has one of the two forms
 escapes_at : (b : ℕ) (test : Bool) → is_as_it_is b ≡ test → IsEscape b (cond test (b ∷ []) (92 ∷ 120 ∷ hex_digit (b / 16) ∷ hex_digit (b % 16) ∷ []))
 escapes_at b true is = as_it_is is refl
 escapes_at b false is = as_digits is refl
 
+-- the escaped form of a byte is that byte, or `\x` and its two digits
 escapes : (b : ℕ) → IsEscape b (escape b)
 escapes b = escapes_at b (is_as_it_is b) refl
 
--- a digit has one value
+-- the digits below 10
 low_digit : (n : ℕ) → n < 10 → hex_digit n ≡ 48 + n
 low_digit n low = cond_both (nat_lt n 10) (48 + n) (87 + n) (λ d. d ≡ 48 + n) (λ _. refl) (λ e. absurd (omega (arith, low, ltb-false n 10 e)))
 
+-- the digits from 10 on
 high_digit : (n : ℕ) → 10 ≤ n → hex_digit n ≡ 87 + n
 high_digit n high = cond_both (nat_lt n 10) (48 + n) (87 + n) (λ d. d ≡ 87 + n) (λ e. absurd (omega (arith, high, ltb-true n 10 e))) (λ _. refl)
 
+-- a digit of base 16 has one value
 one_value : (m n : ℕ) → hex_digit m ≡ hex_digit n → m < 16 → n < 16 → m ≡ n
 one_value m n same small few =
     cond_both (nat_lt m 10) (48 + m) (87 + m) (λ d. d ≡ hex_digit n → m ≡ n)
@@ -40,7 +44,7 @@ one_value m n same small few =
     (λ a. cond_both (nat_lt n 10) (48 + n) (87 + n) (λ d. 87 + m ≡ d → m ≡ n) (λ b e. absurd (omega (arith, e, small, few, ltb-false m 10 a, ltb-true n 10 b))) (λ b e. omega (arith, e)))
     same
 
--- what a text begins with is the text of one byte alone
+-- a byte that stands as it is isn't the backslash
 not_a_backslash : (b : ℕ) → is_as_it_is b ≡ true → b ≡ 92 → ⊥
 not_a_backslash b is e = let bad : false ≡ true = subst (λ x. is_as_it_is x ≡ true) e is in cc
 
@@ -50,6 +54,7 @@ small_high b h = omega (arith, h, div-add-mod b 16)
 small_low : (b : ℕ) → b % 16 < 16
 small_low b = omega arith
 
+-- the escaped form that a text begins with is that of one byte alone
 one_byte : (b c : ℕ) (s t xs ys : List ℕ) → b < 256 → c < 256 → IsEscape b s → IsEscape c t → s ++ xs ≡ t ++ ys → (b ≡ c) × (xs ≡ ys)
 one_byte b c s t xs ys small few (as_it_is is so) (as_it_is was to) e =
     let same : b ∷ xs ≡ c ∷ ys = sym (ap (λ z. z ++ xs) so) ∙ e ∙ ap (λ z. z ++ ys) to in
@@ -68,7 +73,7 @@ one_byte b c s t xs ys small few (as_digits is so) (as_digits was to) e =
     let low = one_value (b % 16) (c % 16) lows (small_low b) (small_low c) in
     (omega (arith, high, low, div-add-mod b 16, div-add-mod c 16), cc)
 
--- no byte has no text
+-- the escaped form of a byte isn't empty
 some_text : (b : ℕ) (s xs : List ℕ) → IsEscape b s → s ++ xs ≡ [] → ⊥
 some_text b s xs (as_it_is is so) e = let bad : b ∷ xs ≡ [] = sym (ap (λ z. z ++ xs) so) ∙ e in cc
 some_text b s xs (as_digits is so) e = let bad : 92 ∷ 120 ∷ hex_digit (b / 16) ∷ hex_digit (b % 16) ∷ xs ≡ [] = sym (ap (λ z. z ++ xs) so) ∙ e in cc
@@ -80,6 +85,7 @@ record IsBehind (bytes left all : List ℕ) : Type 0 where
   are : AllByRecursion IsByte more
   so : left ≡ escaped more
 
+-- where the first bytes of a text were read, what is left is the escaped form of the others
 behind_bytes : (bytes left all : List ℕ) → AllByRecursion IsByte bytes → AllByRecursion IsByte all → escaped bytes ++ left ≡ escaped all → IsBehind bytes left all
 behind_bytes [] left all h k e = record { more = all; joins = refl; are = k; so = e }
 behind_bytes (b ∷ bs) left [] h k e = absurd (some_text b (escape b) (escaped bs ++ left) (escapes b) (sym (append_assoc (escape b) (escaped bs) left) ∙ e))
@@ -93,17 +99,19 @@ pub record ReadsBytes (text bytes left : List ℕ) : Type 0 where
   pub so : text ≡ escaped bytes ++ left
   pub are : All IsByte bytes
 
+-- a list whose length isn't 0 isn't empty
 pub is_left : (left : List ℕ) → false ≡ (length left == 0) → left ≢ []
 is_left left some none = let bad : false ≡ true = some ∙ ap (λ l. length l == 0) none in cc
 
 pub are_many : (n : ℕ) → true ≡ (n == 514) → 514 ≤ n
 are_many n full = omega (arith, eqb-true n 514 (sym full))
 
--- a text of which no more reads is that of no bytes
+-- what is left, and begins with no escaped byte, is the escaped form of no bytes
 no_more : (left more : List ℕ) → left ≢ [] → ((b : ℕ) (rest : List ℕ) → b < 256 → left ≡ escape b ++ rest → ⊥) → AllByRecursion IsByte more → left ≡ escaped more → ⊥
 no_more left [] some none h e = some e
 no_more left (b ∷ bs) some none h e = none b (escaped bs) h.0 e
 
+-- where what is left of a text begins with no escaped byte, the text is the escaped form of no bytes
 pub reads_no_more : (text bytes left : List ℕ) → ReadsBytes text bytes left → left ≢ [] → ((b : ℕ) (rest : List ℕ) → b < 256 → left ≡ escape b ++ rest → ⊥)
     → (all : List ℕ) → All IsByte all → text ≡ escaped all → ⊥
 reads_no_more text bytes left h some none all are e =
@@ -115,22 +123,24 @@ too_many : (left more : List ℕ) → left ≢ [] → left ≡ escaped more → 
 too_many left [] some e = absurd (some e)
 too_many left (b ∷ bs) some e = omega arith
 
+-- where 514 bytes were read and something is left, the text isn't the escaped form of at most 514 bytes
 pub reads_too_many : (text bytes left : List ℕ) → ReadsBytes text bytes left → left ≢ [] → 514 ≤ length bytes → (all : List ℕ) → length all ≤ 514 → All IsByte all → text ≡ escaped all → ⊥
 reads_too_many text bytes left h some full all room are e =
     let k = behind_bytes bytes left all (recursion_from_All IsByte bytes h.are) (recursion_from_All IsByte all are) (sym h.so ∙ e) in
     omega (arith, full, room, ap length k.joins, length-append bytes k.more, too_many left k.more some k.so)
 
--- bytes have one text alone
+-- where the escaped form of the further bytes is empty, there are none
 none_left : (xs ys more : List ℕ) → ys ≡ xs ++ more → [] ≡ escaped more → xs ≡ ys
 none_left xs ys [] joins so = sym (joins ∙ append-nil xs)
 none_left xs ys (b ∷ bs) joins so = absurd (some_text b (escape b) (escaped bs) (escapes b) (sym so))
 
+-- the escaped form of bytes is that of these alone
 pub one_text : (xs ys : List ℕ) → All IsByte xs → All IsByte ys → escaped xs ≡ escaped ys → xs ≡ ys
 one_text xs ys h j e =
     let k = behind_bytes xs [] ys (recursion_from_All IsByte xs h) (recursion_from_All IsByte ys j) (append-nil (escaped xs) ∙ e) in
     none_left xs ys k.more k.joins k.so
 
--- a mark is a word
+-- a mark has no space
 mark_lacks : (mark : LogMark) → Lacks 32 (mark_text mark)
 mark_lacks Went = ((λ e. absurd (omega (arith, e))), tt)
 mark_lacks WentPart = ((λ e. absurd (omega (arith, e))), ((λ e. absurd (omega (arith, e))), tt))
@@ -146,35 +156,42 @@ module _ (line front : List ℕ) (rest : Option (List ℕ)) (cut : Cuts 32 line 
   first_word : (front ≡ moment) × (rest ≡ Some (mark_text mark ++ 32 ∷ escaped bytes))
   first_word = cut_found 32 line front rest moment (mark_text mark ++ 32 ∷ escaped bytes) cut is.is is.one_word
 
+  -- so a line whose first word isn't printable is none of a log
   pub not_printable : (IsPrintable front → ⊥) → ⊥
   not_printable none = none (subst IsPrintable (sym first_word.0) is.is_printable)
 
-  -- and the mark before the second
+  -- the mark stands before the second space
   second_word : (behind word : List ℕ) (text : Option (List ℕ)) → rest ≡ Some behind → Cuts 32 behind word text → (word ≡ mark_text mark) × (text ≡ Some (escaped bytes))
   second_word behind word text so next = cut_found 32 behind word text (mark_text mark) (escaped bytes) next (some_is behind _ (sym so ∙ first_word.1)) (mark_lacks mark)
 
+  -- so is a line without a space none of a log
   pub no_moment : rest ≡ None → ⊥
   no_moment none = let bad : None ≡ Some (mark_text mark ++ 32 ∷ escaped bytes) = sym none ∙ first_word.1 in cc
 
+  -- so is a line without a second space
   pub no_mark : (behind word : List ℕ) (text : Option (List ℕ)) → rest ≡ Some behind → Cuts 32 behind word text → text ≡ None → ⊥
   no_mark behind word text so next none = let bad : None ≡ Some (escaped bytes) = sym none ∙ (second_word behind word text so next).1 in cc
 
+  -- so is a line whose second word is no mark
   pub another_mark : (behind word : List ℕ) (text : Option (List ℕ)) → rest ≡ Some behind → Cuts 32 behind word text → ((m : LogMark) → word ≡ mark_text m → ⊥) → ⊥
   another_mark behind word text so next none = none mark (second_word behind word text so next).0
 
+  -- so is a line whose text is the escaped form of no bytes of at most 514
   pub other_bytes : (behind word text : List ℕ) → rest ≡ Some behind → Cuts 32 behind word (Some text) → length bytes ≤ 514
       → ((all : List ℕ) → length all ≤ 514 → All IsByte all → text ≡ escaped all → ⊥) → ⊥
   other_bytes behind word text so next room none = none bytes room is.are_bytes (some_is text (escaped bytes) (second_word behind word (Some text) so next).1)
 
--- the text of a mark is that of one alone
+-- one of two marks: the first where the text is at its end
 by_end : List ℕ → LogMark → LogMark → LogMark
 by_end [] whole part = whole
 by_end (b ∷ bs) whole part = part
 
+-- the mark that a text is
 mark_from : List ℕ → LogMark
 mark_from [] = Link
 mark_from (b ∷ bs) = cond (b == 62) (by_end bs Went WentPart) (cond (b == 60) (by_end bs Came CamePart) Link)
 
+-- the text of a mark is read as that mark
 marked : (m : LogMark) → mark_from (mark_text m) ≡ m
 unfolding by_end mark_from
 marked Went = refl
@@ -183,6 +200,7 @@ marked Came = refl
 marked CamePart = refl
 marked Link = refl
 
+-- the text of a mark is that of one alone
 one_mark : (m k : LogMark) → mark_text m ≡ mark_text k → m ≡ k
 one_mark m k e = sym (marked m) ∙ ap mark_from e ∙ marked k
 

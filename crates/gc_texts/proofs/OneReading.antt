@@ -10,11 +10,12 @@ use Rattle.gc_texts.specs.Procedures.{IsNumber, IsProcedure, behind_number}
 use Rattle.gc_texts.proofs.Cutting.{digits_lack_spaces}
 use Rattle.gc_texts.proofs.Procedures.{one_number, procedure_parts}
 
+-- digits without a space, and the parameters behind them, are cut at the first space
 cut_text : (text digits : List ℕ) (params : Option (List ℕ)) → text ≡ digits ++ behind_number params → Lacks 32 digits → Cuts 32 text digits params
 cut_text text digits None e lacks = (e ∙ append-nil digits, lacks)
 cut_text text digits (Some params) e lacks = (e, lacks)
 
--- one call stands in a procedure's text
+-- a procedure's text gives one call at most
 pub one_procedure : (text : List ℕ) (c d : Call) → IsProcedure text c → IsProcedure text d → c ≡ d
 one_procedure text c d p q =
     let cut : Cuts 32 text q.rpc_text q.params = cut_text text q.rpc_text q.params q.text_is (digits_lack_spaces q.rpc_text q.number.names.digits) in
@@ -23,7 +24,7 @@ one_procedure text c d p q =
     let lists : unwrap_or q.params [] ≡ unwrap_or p.params [] = ap (λ o. unwrap_or o []) parts.1 in
     one_call p.rpc (unwrap_or p.params []) c d p.calls (subst (λ (n : ℕ). IsCall n (unwrap_or p.params []) d) rpcs (subst (λ (ps : List ℕ). IsCall q.rpc ps d) lists q.calls))
 
--- one item for each line, and one list for all
+-- where each line has the form of one item at most, lines stand for one list of items at most
 pub one_list : {Item : Type 0} (form : Form Item) → ((line : List ℕ) (a b : Item) → form line a → form line b → a ≡ b)
     → (lines : List (List ℕ)) (xs ys : List Item) → AreItems form lines xs → AreItems form lines ys → xs ≡ ys
 one_list form one [] [] [] h k = refl

@@ -34,24 +34,27 @@ none_of : (a b : Bool) → (a || b) ≡ false → (a ≡ false) × (b ≡ false)
 none_of true b e = cc
 none_of false b e = (refl, e)
 
--- so it is found
+-- where these places say nothing of a target, the first place behind them that does is found for the target
 found_near : (nears others : List Near) (near : Near) → is_said near.target nears ≡ false → near_of near.target (nears ++ near ∷ others) ≡ Some near
 found_near [] others near unsaid = ap (λ b. cond b (Some near) (near_of near.target others)) (eq-eqb near.target near.target refl)
 found_near (n ∷ nears) others near unsaid =
     let apart = none_of (n.target == near.target) (is_said near.target nears) unsaid in
     ap (λ b. cond b (Some n) (near_of near.target (nears ++ near ∷ others))) apart.0 ∙ found_near nears others near apart.1
 
+-- lines, and others behind them, give the places of the first, and behind them those of the others
 nears_both : (xs ys : List TaskLine) → nears_of (xs ++ ys) ≡ nears_of xs ++ nears_of ys
 nears_both [] ys = refl
 nears_both (x ∷ xs) ys = ap (λ ns. near_at x ++ ns) (nears_both xs ys) ∙ sym (append_assoc (near_at x) (nears_of xs) (nears_of ys))
 
+-- lists that are one have one first task
 first_is : (t u : Task) (ts us : List Task) → ◌≡◌ {A = List Task} (t ∷ ts) (u ∷ us) → t ≡ u
 first_is t u ts us e = cc
 
+-- lists that are one have the same tasks behind the first
 others_are : (t u : Task) (ts us : List Task) → ◌≡◌ {A = List Task} (t ∷ ts) (u ∷ us) → ts ≡ us
 others_are t u ts us e = cc
 
--- each task stands where it is said
+-- each task has the place that is said of its target
 placed_so : (nears : List Near) (tasks earlier others : List Task) (task : Task) → map (placed nears) tasks ≡ earlier ++ task ∷ others → task.near ≡ near_of task.command.target nears
 placed_so nears [] [] others task e = cc
 placed_so nears [] (t ∷ ts) others task e = cc
@@ -61,6 +64,7 @@ placed_so nears (t ∷ tasks) [] others task e =
 placed_so nears (t ∷ tasks) (u ∷ earlier) others task e =
     placed_so nears tasks earlier others task (others_are (placed nears t) u (map (placed nears) tasks) (earlier ++ task ∷ others) e)
 
+-- the law: a place holds for all commands of its target
 pub places_hold : PlacesHoldForAll
 places_hold text deadline chained tasks names nears is front later near at earlier others task among same =
     let follow : MayFollow [] [] (front ++ says.Standing near ∷ later) = subst (λ said. MayFollow [] [] said) at is.lines.follow in
@@ -82,6 +86,7 @@ near_unless_elsewhere near answer d isnt has =
 abbrev halfway : List Near → ℕ → List Task → List Task
 halfway nears i tasks = map (placed nears) (take i tasks) ++ drop i tasks
 
+-- one more task is given its place
 placed_at : (nears : List Near) (tasks : List Task) (i : ℕ) (d : Task) → i < length tasks
     → slice_set (halfway nears i tasks) i (placed nears (get_or (halfway nears i tasks) i d)) ≡ halfway nears (suc i) tasks
 placed_at nears [] zero d below = absurd (omega (arith, below))
@@ -89,18 +94,20 @@ placed_at nears [] (suc i) d below = absurd (omega (arith, below))
 placed_at nears (x ∷ tasks) zero d below = refl
 placed_at nears (x ∷ tasks) (suc i) d below = let low : i < length tasks = omega (arith, below) in ap (λ ts. placed nears x ∷ ts) (placed_at nears tasks i d low)
 
+-- one more turn of the loop over tasks gives one more its place
 pub placed_next : (nears : List Near) (tasks now : List Task) (i : ℕ) (d new : Task) → now ≡ halfway nears i tasks → i < length tasks → new ≡ placed nears (get_or now i d)
     → slice_set now i new ≡ map (placed nears) (take (i + 1) tasks) ++ drop (i + 1) tasks
 placed_next nears tasks now i d new is below e =
     let one : suc i ≡ i + 1 = omega arith in
     ap (slice_set now i) e ∙ ap (λ ts. slice_set ts i (placed nears (get_or ts i d))) is ∙ placed_at nears tasks i d below ∙ ap (λ n. halfway nears n tasks) one
 
--- one that is elsewhere has a direction, which isn't near
+-- an answer that is elsewhere has a direction, which isn't near its target's place
 pub elsewhere_is : (place : Option Near) (answer : Answer) → is_elsewhere place answer ≡ true
     → (near : Near) × (d : Direction) × (place ≡ Some near) × (direction_of answer ≡ Some d) × (IsNear d near.place near.tolerance → ⊥)
 unfolding is_elsewhere
 elsewhere_is None answer away = cc
 elsewhere_is (Some near) answer away = by_direction (direction_of answer) refl where
+  -- by its direction: an answer without one is not elsewhere, so there is one, and it isn't near
   by_direction : (o : Option Direction) → direction_of answer ≡ o
       → (n : Near) × (d : Direction) × (Some near ≡ Some n) × (direction_of answer ≡ Some d) × (IsNear d n.place n.tolerance → ⊥)
   by_direction None has = let bad : false ≡ true = ap (is_away near) (sym has) ∙ away in cc

@@ -8,6 +8,7 @@ use Rattle.gc_texts.specs.Cuts.{Cuts, Lacks}
 use Rattle.gc_texts.specs.Procedures.{IsNumber, IsProcedure, IsMore, behind_number}
 use Rattle.gc_texts.proofs.Cutting.{cut_found, cut_none, digits_lack_spaces}
 
+-- the first space of a procedure's text stands behind its digits
 cut_params : (text front digits : List ℕ) (rest params : Option (List ℕ)) → Cuts 32 text front rest → Lacks 32 digits → text ≡ digits ++ behind_number params → (front ≡ digits) × (rest ≡ params)
 cut_params text front digits rest None cut lacks e =
     let whole : text ≡ digits = e ∙ append-nil digits in
@@ -19,7 +20,7 @@ cut_params text front digits rest (Some params) cut lacks e = cut_found 32 text 
 pub procedure_parts : (text front : List ℕ) (rest : Option (List ℕ)) (call : Call) → Cuts 32 text front rest → (p : IsProcedure text call) → (front ≡ p.rpc_text) × (rest ≡ p.params)
 procedure_parts text front rest call cut p = cut_params text front p.rpc_text rest p.params cut (digits_lack_spaces p.rpc_text p.number.names.digits) p.text_is
 
--- no number stands first
+-- a text whose front is no number is no procedure's
 pub no_procedure : (text front : List ℕ) (rest : Option (List ℕ)) → Cuts 32 text front rest → ((n : ℕ) → IsNumber front n 65535 → ⊥) → (call : Call) → IsProcedure text call → ⊥
 no_procedure text front rest cut none call p =
     let parts = procedure_parts text front rest call cut p in
@@ -30,17 +31,17 @@ not_more None e more = cc
 not_more (Some []) e more = absurd (omega (arith, more))
 not_more (Some (b ∷ bs)) e more = cc
 
--- a space stands behind the number, and nothing behind the space
+-- a text with a space behind its front, and nothing behind the space, is no procedure's
 pub no_parameters : (text front : List ℕ) → Cuts 32 text front (Some []) → (call : Call) → IsProcedure text call → ⊥
 no_parameters text front cut call p =
     let parts = procedure_parts text front (Some []) call cut p in
     not_more p.params (sym parts.1) p.some
 
--- one number is written by digits
+-- digits write one number at most
 pub one_number : (digits : List ℕ) (m n max : ℕ) → IsNumber digits m max → IsNumber digits n max → m ≡ n
 one_number digits m n max h k = h.names.value ∙ sym k.names.value
 
--- the call is that of the number and the parameters
+-- the call of a procedure's text is that of its number and parameters, and there is none where these are no call's
 pub procedure_is : (text front params : List ℕ) (rest : Option (List ℕ)) (rpc : ℕ) (r : Option Call) → Cuts 32 text front rest → IsMore rest
     → params ≡ unwrap_or rest [] → IsNumber front rpc 65535 → MatchOption r ((call : Call) → IsCall rpc params call → ⊥)
     (λ call. IsCall rpc params call) → MatchOption r ((call : Call) → IsProcedure text call → ⊥) (λ call. IsProcedure text call)
@@ -65,16 +66,17 @@ procedure_is text front params rest rpc (Some call) cut more same number calls =
     cut_text text front None cut = cut.0 ∙ sym (append-nil front)
     cut_text text front (Some rest) cut = cut.0
 
--- a cut whose rest is known
+-- a cut with one rest is a cut with a rest that is the same
 pub with_rest : (mark : ℕ) (text front : List ℕ) (o rest : Option (List ℕ)) → Cuts mark text front o → o ≡ rest → Cuts mark text front rest
 with_rest mark text front o rest cut e = let P : Option (List ℕ) → Type 0 = λ r. Cuts mark text front r in subst P e cut
 
--- the parameters behind a space: there is one byte at least, and the call is that of the number and these
+-- where at least one byte of parameters stands behind a space, the text's call is that of its number and these parameters
 pub with_parameters : (text front params : List ℕ) (o : Option (List ℕ)) (rpc : ℕ) (r : Option Call) → Cuts 32 text front o → o ≡ Some params
     → 0 < length params → IsNumber front rpc 65535 → MatchOption r ((call : Call) → IsCall rpc params call → ⊥)
     (λ call. IsCall rpc params call) → MatchOption r ((call : Call) → IsProcedure text call → ⊥) (λ call. IsProcedure text call)
 with_parameters text front params o rpc r cut e more number called = procedure_is text front params (Some params) rpc r (with_rest 32 text front o (Some params) cut e) more refl number called
 
+-- a text with nothing behind its space is no procedure's
 pub without_parameters : (text front params : List ℕ) (o : Option (List ℕ)) → Cuts 32 text front o → o ≡ Some params → length params ≡ 0 → (call : Call) → IsProcedure text call → ⊥
 without_parameters text front [] o cut e none call p = no_parameters text front (with_rest 32 text front o (Some []) cut e) call p
 without_parameters text front (b ∷ bs) o cut e none call p = absurd (omega (arith, none))

@@ -6,14 +6,14 @@ use Rattle.gc_client.specs.Rule
 use Rattle.gc_client.specs.Settlements.{settlement_seen}
 use Rattle.gc_texts.specs.Settlements.{settlement_line, lines_from, settlement_lines}
 
--- a list around one place
+-- a list is what stands before a place, the item there, and what stands behind it
 pub at_place : {A : Type 0} (xs : List A) (i : ℕ) (x : A) → i < length xs → x ≡ get_or xs i x → (take (i + 1) xs ≡ take i xs ++ x ∷ []) × (xs ≡ take i xs ++ x ∷ drop (i + 1) xs)
 at_place xs i x below is = (
   take_more xs i x below ∙ ap (λ y. take i xs ++ y ∷ []) (sym is),
   sym (take-append-drop i xs) ∙ ap (λ ys. take i xs ++ ys) (drop_more xs i x below ∙ ap (λ y. y ∷ drop (i + 1) xs) (sym is)),
 )
 
--- one line more behind those before it
+-- the lines of settlements, and of one more, are those of the settlements, and that of the last at its place
 pub lines_one : (from : ℕ) (before : List Rule.Settlement) (s : Rule.Settlement) → lines_from from (before ++ s ∷ []) ≡ lines_from from before ++ settlement_line (from + length before) s
 lines_one from [] s = append-nil (settlement_line from s) ∙ ap (λ place. settlement_line place s) (omega arith)
 lines_one from (x ∷ before) s =
@@ -22,10 +22,12 @@ lines_one from (x ∷ before) s =
     ap (λ l. settlement_line from x ++ l) (lines_one (from + 1) before s ∙ ap (λ p. later ++ settlement_line p s) place)
     ∙ sym (append_assoc (settlement_line from x) later (settlement_line (from + length (x ∷ before)) s))
 
+-- settlements, and one more, are seen as these, and that one behind them
 pub map_one : (before : List Settlement) (s : Settlement) → map settlement_seen (before ++ s ∷ []) ≡ map settlement_seen before ++ settlement_seen s ∷ []
 map_one [] s = refl
 map_one (x ∷ before) s = ap (λ l. settlement_seen x ∷ l) (map_one before s)
 
+-- where the lines of the first i settlements were appended, and then that of the next, the lines of the first i + 1 were
 pub lines_more :
     (ss : List Settlement) (i : ℕ) (s : Settlement) (old mid new : List ℕ) → i < length ss → s ≡ get_or ss i s →
     mid ≡ old ++ settlement_lines (map settlement_seen (take i ss)) → new ≡ mid ++ settlement_line i (settlement_seen s) →

@@ -16,7 +16,7 @@ use Rattle.gc_texts.proofs.Cutting.{cut_found, one_front, digits_lack_spaces}
 use Rattle.gc_texts.proofs.CommandForms.{one_command}
 use Rattle.gc_texts.proofs.Procedures.{one_number}
 
--- the digits behind `deadline `
+-- the digits of a deadline's line are what stands behind `deadline `
 pub deadline_digits : (line rest : List ℕ) (deadline : ℕ) → line ≡ codes "deadline " ++ rest → (is : IsDeadline line deadline) → is.digits ≡ rest
 deadline_digits line rest deadline e is = append_cancel_left (codes "deadline ") is.digits rest (sym is.line_is ∙ e)
 
@@ -27,20 +27,23 @@ no_zero line rest n e number zero deadline is =
     omega (arith, same, zero, is.some)
 
 module _ (line rest : List ℕ) (name : Name) (e : line ≡ codes "name " ++ rest) (is : IsNaming line name) where
+  -- what stands behind `name ` is the target, a space and the name
   the_rest : rest ≡ is.target_text ++ 32 ∷ name.text.items
   the_rest = append_cancel_left (codes "name ") rest (is.target_text ++ 32 ∷ name.text.items) (sym e ∙ is.line_is)
 
+  -- the first space behind `name ` stands behind the target
   the_cut : (target : List ℕ) (text : Option (List ℕ)) → Cuts 32 rest target text → (target ≡ is.target_text) × (text ≡ Some name.text.items)
   the_cut target text cut = cut_found 32 rest target text is.target_text name.text.items cut the_rest (digits_lack_spaces is.target_text is.target_is.names.digits)
 
-  -- a space is there
+  -- the line of a name has a space behind its target
   pub no_space : (target : List ℕ) → Cuts 32 rest target None → ⊥
   no_space target cut = let parts = the_cut target None cut in let bad : None ≡ Some name.text.items = parts.1 in cc
 
-  -- and a target and a name stand before and behind it
+  -- what stands before that space is a target
   pub has_target : (target : List ℕ) (text : Option (List ℕ)) → Cuts 32 rest target text → ((n : ℕ) → IsNumber target n 4294967295 → ⊥) → ⊥
   has_target target text cut none = none name.target (subst (λ (ds : List ℕ). IsNumber ds name.target 4294967295) (sym (the_cut target text cut).0) is.target_is)
 
+  -- what stands behind that space is a name
   pub has_name : (target text : List ℕ) → Cuts 32 rest target (Some text) → is_name text ≡ false → ⊥
   has_name target text cut isnt =
       let some : Some text ≡ Some name.text.items = (the_cut target (Some text) cut).1 in
@@ -48,7 +51,7 @@ module _ (line rest : List ℕ) (name : Name) (e : line ≡ codes "name " ++ res
       let both : true ≡ false = sym is.text_is ∙ ap is_name (sym same) ∙ isnt in
       cc
 
--- what kind of line it is, and what its first byte tells of that: `name` and `near` begin alike
+-- what kind of line it is; the first byte shows that, but that `name` and `near` begin alike
 abbrev kind : TaskLine → ℕ
 kind (says.Command command) = 0
 kind (says.Deadline deadline) = 1
@@ -63,6 +66,7 @@ first_kind b = if b == 100 then 1 else if b == 99 then 2 else if b == 117 then 3
 abbrev kind_in : List ℕ → ℕ
 kind_in line = first_kind (get_or line 0 0)
 
+-- a line that begins with a digit is of the kind of a command (0)
 digit_kind : (b : ℕ) → b ≤ 57 → first_kind b ≡ 0
 digit_kind b low =
     ap (λ t. cond t 1 (if b == 99 then 2 else if b == 117 then 3 else if b == 110 then 4 else 0)) (ne_eqb b 100 (λ e. omega (arith, e, low)))
@@ -70,10 +74,12 @@ digit_kind b low =
     ∙ ap (λ t. cond t 3 (if b == 110 then 4 else 0)) (ne_eqb b 117 (λ e. omega (arith, e, low)))
     ∙ ap (λ t. cond t 4 0) (ne_eqb b 110 (λ e. omega (arith, e, low)))
 
+-- a line that begins with digits and a space is of the kind of a command (0)
 digits_kind : (ds rest : List ℕ) → AreDigits ds → first_kind (get_or (ds ++ 32 ∷ rest) 0 0) ≡ 0
 digits_kind [] rest digits = refl
 digits_kind (d ∷ ds) rest digits = digit_kind d digits.0.1
 
+-- a line has the kind that its first bytes show
 kind_is : (line : List ℕ) (said : TaskLine) → IsTaskLine line said → kind_in line ≡ kind said
 kind_is line (says.Command command) is = ap kind_in is.line_is ∙ digits_kind is.target_text is.procedure is.target_is.names.digits
 kind_is line (says.Deadline deadline) is = ap kind_in is.line_is
@@ -82,13 +88,16 @@ kind_is line says.Unchained is = ap kind_in is
 kind_is line (says.Naming name) is = ap kind_in is.line_is
 kind_is line (says.Standing near) is = ap kind_in is.line_is
 
+-- a line gives one deadline at most
 one_deadline : (line : List ℕ) (m n : ℕ) → IsDeadline line m → IsDeadline line n → m ≡ n
 one_deadline line m n x y =
     one_number y.digits m n 86400000 (subst (λ (ds : List ℕ). IsNumber ds m 86400000) (deadline_digits line y.digits m y.line_is x) x.number) y.number
 
+-- two names with one target and one text are one
 same_name : (m n : Name) → m.target ≡ n.target → m.text.items ≡ n.text.items → m ≡ n
 same_name m n e f = ap (λ t. record { target = t; text = m.text }) e ∙ ap (λ xs. record { target = n.target; text = record { items = xs } }) f
 
+-- a line gives one name at most
 one_naming : (line : List ℕ) (m n : Name) → IsNaming line m → IsNaming line n → m ≡ n
 one_naming line m n x y =
     let parts = one_front 32 x.target_text y.target_text m.text.items n.text.items
@@ -96,6 +105,7 @@ one_naming line m n x y =
     (digits_lack_spaces x.target_text x.target_is.names.digits) (digits_lack_spaces y.target_text y.target_is.names.digits) in
     same_name m n (one_number y.target_text m.target n.target 4294967295 (subst (λ (t : List ℕ). IsNumber t m.target 4294967295) parts.0 x.target_is) y.target_is) parts.1
 
+-- two places with one target, one direction and one tolerance are one
 same_near : (m n : Near) → m.target ≡ n.target → m.place.hz ≡ n.place.hz → m.place.v ≡ n.place.v → m.tolerance ≡ n.tolerance → m ≡ n
 same_near m n e f g h =
     ap (λ t. record { target = t; place = m.place; tolerance = m.tolerance }) e
@@ -103,17 +113,19 @@ same_near m n e f g h =
     ∙ ap (λ z. record { target = n.target; place = record { hz = n.place.hz; v = z }; tolerance = m.tolerance }) g
     ∙ ap (λ z. record { target = n.target; place = n.place; tolerance = z }) h
 
+-- four words say one place at most
 one_near : (target hz v tolerance : List ℕ) (m n : Near) → AreWords target hz v tolerance m → AreWords target hz v tolerance n → m ≡ n
 one_near target hz v tolerance m n x y =
     same_near m n (one_number target m.target n.target 4294967295 x.target_is y.target_is)
     (spells_unique hz m.place.hz n.place.hz x.hz_is y.hz_is) (spells_unique v m.place.v n.place.v x.v_is y.v_is) (spells_unique tolerance m.tolerance n.tolerance x.tolerance_is y.tolerance_is)
 
+-- a line gives one place at most
 one_standing : (line : List ℕ) (m n : Near) → IsStanding line m → IsStanding line n → m ≡ n
 one_standing line m n x y =
     one_near (before 32 y.rest) (before 32 (behind 32 y.rest)) (before 32 (behind 32 (behind 32 y.rest))) (behind 32 (behind 32 (behind 32 y.rest))) m n
     (subst (λ (r : List ℕ). IsNearText r m) (append_cancel_left (codes "near ") x.rest y.rest (sym x.line_is ∙ y.line_is)) x.near_is) y.near_is
 
--- what is read behind `near `
+-- where a line begins with `near `, it says where a target stands exactly as the text behind that does
 pub stands_so : (line rest : List ℕ) (r : Option Near) → line ≡ codes "near " ++ rest → MatchOption r ((near : Near) → IsNearText rest near → ⊥) (λ near. IsNearText rest near)
     → MatchOption r ((near : Near) → IsStanding line near → ⊥) (λ near. IsStanding line near)
 stands_so line rest None e none = λ near is. none near (subst (λ (r : List ℕ). IsNearText r near) (append_cancel_left (codes "near ") is.rest rest (sym is.line_is ∙ e)) is.near_is)
@@ -125,6 +137,7 @@ never_both line name near x y =
     let second : ◌≡◌ {A = ℕ} 97 101 = ap (λ bs. get_or bs 1 0) (sym x.line_is ∙ y.line_is) in
     omega (arith, second)
 
+-- two readings of a line that are of one kind are the same
 same_said : (line : List ℕ) (a b : TaskLine) → IsTaskLine line a → IsTaskLine line b → kind a ≡ kind b → a ≡ b
 same_said line (says.Command c) (says.Command d) x y h = ap says.Command (one_command line c d x y)
 same_said line (says.Deadline m) (says.Deadline n) x y h = ap says.Deadline (one_deadline line m n x y)
@@ -136,6 +149,6 @@ same_said line (says.Naming m) (says.Standing n) x y h = absurd (never_both line
 same_said line (says.Standing m) (says.Naming n) x y h = absurd (never_both line n m y x)
 same_said line a b x y h = absurd (omega (arith, h))
 
--- a line says one thing
+-- a line says one thing at most
 pub one_said : (line : List ℕ) (a b : TaskLine) → IsTaskLine line a → IsTaskLine line b → a ≡ b
 one_said line a b x y = same_said line a b x y (sym (kind_is line a x) ∙ kind_is line b y)

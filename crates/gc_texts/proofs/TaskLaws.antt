@@ -17,7 +17,7 @@ use Rattle.gc_texts.specs.declared.tasks.Task.{Task}
 use Rattle.gc_texts.proofs.OneReading.{one_list}
 use Rattle.gc_texts.proofs.TaskForms.{one_said}
 
--- a text gives one list of tasks, one of names, and one of places
+-- the law: a text gives one list of tasks at most, one of names, and one of places
 pub one_task_list : OneTaskList
 one_task_list text deadline chained xs ys ms ns ps qs h k =
     let same : h.said ≡ k.said = one_list IsTaskLine one_said (filter is_kept (text_lines text)) h.said k.said h.lines.forms k.lines.forms in
@@ -31,6 +31,7 @@ one_task_list text deadline chained xs ys ms ns ps qs h k =
 abbrev asks : List Command → List TaskLine
 asks commands = map says.Command commands
 
+-- lines of commands have the forms of a station's text
 asked_forms : (lines : List (List ℕ)) (commands : List Command) → AreItems IsCommand lines commands → AreItems IsTaskLine lines (asks commands)
 asked_forms [] [] are = tt
 asked_forms [] (c ∷ cs) are = absurd are
@@ -42,10 +43,12 @@ asked_follow : (names : List Name) (nears : List Near) (commands : List Command)
 asked_follow names nears [] = tt
 asked_follow names nears (c ∷ cs) = (refl, asked_follow (names ++ []) (nears ++ []) cs)
 
+-- commands give no names
 asked_names : (commands : List Command) → [] ≡ names_of (asks commands)
 asked_names [] = refl
 asked_names (c ∷ cs) = asked_names cs
 
+-- commands give no places
 asked_nears : (commands : List Command) → [] ≡ nears_of (asks commands)
 asked_nears [] = refl
 asked_nears (c ∷ cs) = asked_nears cs
@@ -60,11 +63,12 @@ unplaced mode (says.Unchained ∷ later) = unplaced (behind mode says.Unchained)
 unplaced mode (says.Naming n ∷ later) = unplaced mode later
 unplaced mode (says.Standing n ∷ later) = unplaced mode later
 
+-- the tasks of commands have these commands
 asked_tasks : (mode : Mode) (commands : List Command) → map (λ task. task.command) (tasks_of mode (asks commands)) ≡ commands
 asked_tasks mode [] = refl
 asked_tasks mode (c ∷ cs) = ap (λ l. c ∷ l) (asked_tasks (behind mode (says.Command c)) cs)
 
--- each command text is a station's text
+-- the law: each command text is a station's text
 pub commands_are_tasks : CommandsAreTasks
 commands_are_tasks text commands deadline chained are = (
   tasks_of (opening deadline chained) (asks commands),
@@ -81,10 +85,12 @@ commands_are_tasks text commands deadline chained are = (
 abbrev plain : ℕ → Command → Task
 plain deadline command = record { command = command; deadline = deadline; chained = false; near = None }
 
+-- where commands aren't chained, each gives a task with the deadline, by itself
 plain_tasks : (deadline : ℕ) (row : Option ℕ) (commands : List Command) → map (plain deadline) commands ≡ tasks_of (record { deadline = deadline; chained = false; row = row }) (asks commands)
 plain_tasks deadline row [] = refl
 plain_tasks deadline row (c ∷ cs) = ap (λ l. plain deadline c ∷ l) (plain_tasks deadline (Some c.target) cs)
 
+-- the law: where commands aren't chained, a command text gives each of them with the deadline, by itself
 pub commands_are_plain : CommandsArePlain
 commands_are_plain text commands deadline are =
     record {
@@ -99,14 +105,17 @@ both_true : (a b : Bool) → (a && b) ≡ true → b ≡ true
 both_true true b e = e
 both_true false b e = cc
 
+-- a row that a command for a target continues is the row of that target
 row_is : (row : Option ℕ) (target : ℕ) → goes_on row target ≡ true → row ≡ Some target
 row_is None target e = cc
 row_is (Some before) target e = ap Some (eqb-true before target e)
 
+-- a mode's row, where it has one, is that of the task before
 row_before : (row before : Option ℕ) (target : ℕ) → (row ≡ None) ⊎ (row ≡ before) → row ≡ Some target → before ≡ Some target
 row_before row before target (inl none) e = let bad : None ≡ Some target = sym none ∙ e in cc
 row_before row before target (inr same) e = sym same ∙ e
 
+-- where the mode's row is none or that of the task before, the tasks of lines are chained within rows
 rows : (mode : Mode) (before : Option ℕ) (said : List TaskLine) → (mode.row ≡ None) ⊎ (mode.row ≡ before) → AreRows before (tasks_of mode said)
 rows mode before [] h = tt
 rows mode before (says.Command c ∷ later) h = (
@@ -119,12 +128,12 @@ rows mode before (says.Unchained ∷ later) h = rows (behind mode says.Unchained
 rows mode before (says.Naming n ∷ later) h = rows mode before later h
 rows mode before (says.Standing n ∷ later) h = rows mode before later h
 
--- wherever targets stand
+-- giving tasks their places leaves the rows as they are
 placed_rows : (nears : List Near) (before : Option ℕ) (tasks : List Task) → AreRows before tasks → AreRows before (map (placed nears) tasks)
 placed_rows nears before [] are = tt
 placed_rows nears before (task ∷ later) are = (are.0, placed_rows nears (Some task.command.target) later are.1)
 
--- a chain stays within its row
+-- the law: a chain stays within its row
 pub chains_are_rows : ChainsAreRows
 chains_are_rows text deadline chained tasks names nears is =
     rw is.tasks_are (placed_rows nears None (tasks_of (opening deadline chained) is.said) (rows (opening deadline chained) None is.said (inl refl)))

@@ -18,24 +18,29 @@ abbrev pub behind_all : Mode → List TaskLine → Mode
 behind_all mode [] = mode
 behind_all mode (line ∷ later) = behind_all (behind mode line) later
 
+-- the tasks of lines, and of one more, are those of the lines, and that of the last in the mode behind them
 tasks_more : (mode : Mode) (lines : List TaskLine) (next : TaskLine) → tasks_of mode (lines ++ next ∷ []) ≡ tasks_of mode lines ++ task_at (behind_all mode lines) next
 tasks_more mode [] next = append-nil (task_at mode next)
 tasks_more mode (line ∷ lines) next =
     ap (λ ts. task_at mode line ++ ts) (tasks_more (behind mode line) lines next)
     ∙ sym (append_assoc (task_at mode line) (tasks_of (behind mode line) lines) (task_at (behind_all (behind mode line) lines) next))
 
+-- the names of lines, and of one more, are those of the lines, and that of the last
 names_more : (lines : List TaskLine) (next : TaskLine) → names_of (lines ++ next ∷ []) ≡ names_of lines ++ name_at next
 names_more [] next = append-nil (name_at next)
 names_more (line ∷ lines) next = ap (λ ns. name_at line ++ ns) (names_more lines next) ∙ sym (append_assoc (name_at line) (names_of lines) (name_at next))
 
+-- the places of lines, and of one more, are those of the lines, and that of the last
 nears_more : (lines : List TaskLine) (next : TaskLine) → nears_of (lines ++ next ∷ []) ≡ nears_of lines ++ near_at next
 nears_more [] next = append-nil (near_at next)
 nears_more (line ∷ lines) next = ap (λ ns. near_at line ++ ns) (nears_more lines next) ∙ sym (append_assoc (near_at line) (nears_of lines) (near_at next))
 
+-- what holds behind lines, and one more, is what the last makes of what holds behind the lines
 behind_more : (mode : Mode) (lines : List TaskLine) (next : TaskLine) → behind_all mode (lines ++ next ∷ []) ≡ behind (behind_all mode lines) next
 behind_more mode [] next = refl
 behind_more mode (line ∷ lines) next = behind_more (behind mode line) lines next
 
+-- where lines may follow, and one more may stand behind them, they may follow with that one
 follow_more : (names : List Name) (nears : List Near) (lines : List TaskLine) (next : TaskLine) → MayFollow names nears lines
     → may_stand (names ++ names_of lines) (nears ++ nears_of lines) next ≡ true → MayFollow names nears (lines ++ next ∷ [])
 follow_more names nears [] next follow stands = (ap (λ ns. may_stand ns nears next) (sym (append-nil names)) ∙ ap (λ ps. may_stand (names ++ []) ps next) (sym (append-nil nears)) ∙ stands, tt)
@@ -118,15 +123,15 @@ module _
         faulty = λ said is. said_so said ∙ none said (subst (λ (l : List ℕ). IsTaskLine l said) (sym is_plain) is);
       }
 
-  -- it has no form
+  -- a line that has no form is the first faulty one
   pub task_fails : skipped ≡ false → ((said : TaskLine) → IsTaskLine plain said → ⊥) → IsFirstFaultyTask text (number + 1)
   task_fails isnt none = faulty isnt (λ said is. absurd (none said is))
 
-  -- it may not stand there
+  -- so is a line that may not stand there
   pub task_refused : (said : TaskLine) (stands : Bool) → skipped ≡ false → IsTaskLine plain said → stands ≡ may_stand names nears said → stands ≡ false → IsFirstFaultyTask text (number + 1)
   task_refused said stands isnt is asked no_more = faulty isnt (λ other form. ap (may_stand names nears) (one_said plain other said form is) ∙ sym asked ∙ no_more)
 
-  -- it stands, and there is no memory
+  -- a line that may stand is one behind which memory may be refused
   pub task_wants : (said : TaskLine) (stands : Bool) → skipped ≡ false → IsTaskLine plain said → stands ≡ may_stand names nears said → stands ≡ true → IsBehindATask text
   task_wants said stands isnt is asked did =
       record {

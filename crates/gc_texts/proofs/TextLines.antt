@@ -15,37 +15,40 @@ abbrev pub much_left : Option (List ℕ) → ℕ
 much_left None = 0
 much_left (Some text) = length text + 1
 
--- one byte that isn't the LF
+-- a byte that isn't the LF goes into the piece
 piece-on : (before bs : List ℕ) (b : ℕ) → b ≢ 10 → text_pieces before (b ∷ bs) ≡ text_pieces (before ++ b ∷ []) bs
 piece-on before bs b other = ap (λ t. cond t (before ∷ text_pieces [] bs) (text_pieces (before ++ b ∷ []) bs)) (ne_eqb b 10 other)
 
+-- a text without an LF is one piece
 pieces-lacking : (before bs : List ℕ) → Lacks 10 bs → text_pieces before bs ≡ (before ++ bs) ∷ []
 pieces-lacking before [] lacks = ap (λ x. x ∷ []) (sym (append-nil before))
 pieces-lacking before (b ∷ bs) lacks =
     piece-on before bs b lacks.0 ∙ pieces-lacking (before ++ b ∷ []) bs lacks.1 ∙ ap (λ x. x ∷ []) (append_assoc before (b ∷ []) bs)
 
+-- a text with an LF is the piece before its first LF, and the pieces behind that
 pieces-cut : (before front rest : List ℕ) → Lacks 10 front → text_pieces before (front ++ 10 ∷ rest) ≡ (before ++ front) ∷ text_pieces [] rest
 pieces-cut before [] rest lacks = ap (λ x. x ∷ text_pieces [] rest) (sym (append-nil before))
 pieces-cut before (b ∷ front) rest lacks =
     piece-on before (front ++ 10 ∷ rest) b lacks.0 ∙ pieces-cut (before ++ b ∷ []) front rest lacks.1 ∙ ap (λ x. x ∷ text_pieces [] rest) (append_assoc before (b ∷ []) front)
 
+-- one more byte makes at most one more piece
 few_more :
     (before bs : List ℕ) (b : ℕ) (t : Bool) → length (text_pieces [] bs) ≤ length bs + 1 → length (text_pieces (before ++ b ∷ []) bs) ≤ length bs + 1 →
     length (cond t (before ∷ text_pieces [] bs) (text_pieces (before ++ b ∷ []) bs)) ≤ length (b ∷ bs) + 1
 few_more before bs b true new on = omega (arith, new)
 few_more before bs b false new on = omega (arith, on)
 
--- no more pieces than bytes, and one more
+-- there is at most one piece more than there are bytes
 pieces-few : (before bs : List ℕ) → length (text_pieces before bs) ≤ length bs + 1
 pieces-few before [] = omega arith
 pieces-few before (b ∷ bs) = few_more before bs b (b == 10) (pieces-few [] bs) (pieces-few (before ++ b ∷ []) bs)
 
--- the first line, and those of the rest
+-- the lines of a text are what stands before its first LF, without a CR at the end, and the rest's lines
 pub lines-cut : (text front : List ℕ) (rest : Option (List ℕ)) → Cuts 10 text front rest → text_lines text ≡ without_cr front ∷ lines_left rest
 lines-cut text front None cut = ap (map without_cr) (ap (text_pieces []) cut.0 ∙ pieces-lacking [] front cut.1)
 lines-cut text front (Some rest) cut = ap (map without_cr) (ap (text_pieces []) cut.0 ∙ pieces-cut [] front rest cut.1)
 
--- items, one behind the other
+-- lines with their items, and others with theirs, are all of these lines with all of these items
 pub AreItems-append : {Item : Type 0} (form : Form Item) (xs ys : List (List ℕ)) (es fs : List Item) → AreItems form xs es → AreItems form ys fs → AreItems form (xs ++ ys) (es ++ fs)
 AreItems-append form [] ys [] fs h k = k
 AreItems-append form [] ys (e ∷ es) fs h k = absurd h
@@ -66,12 +69,14 @@ reads_few form text left number items within r =
     let pieces : length (text_lines text) ≡ length (text_pieces [] text) = length-map (text_pieces [] text) without_cr in
     omega (arith, all, pieces, pieces-few [] text, within, r.count)
 
+-- by whether one more line is kept, the kept lines of two lists are still those of both
 filter_one :
     (x : List ℕ) (xs ys all : List (List ℕ)) (t : Bool) → all ≡ xs ++ ys →
     cond t (x ∷ all) all ≡ cond t (x ∷ xs) xs ++ ys
 filter_one x xs ys all true e = ap (λ rest. x ∷ rest) e
 filter_one x xs ys all false e = e
 
+-- the lines of two lists that are kept are those of the first, and behind them those of the second
 filter-append : (xs ys : List (List ℕ)) → filter is_kept (xs ++ ys) ≡ filter is_kept xs ++ filter is_kept ys
 filter-append [] ys = refl
 filter-append (x ∷ xs) ys = filter_one x (filter is_kept xs) (filter is_kept ys) (filter is_kept (xs ++ ys)) (is_kept x) (filter-append xs ys)
@@ -80,7 +85,7 @@ filter-append (x ∷ xs) ys = filter_one x (filter is_kept xs) (filter is_kept y
 abbrev pub LineItems : {Item : Type 0} → Form Item → List ℕ → List Item → Type 0
 LineItems form line items = AreItems form (filter is_kept (line ∷ [])) items
 
--- one line more is read
+-- where the next line gives these items, they are read behind those before
 pub reads_on : {Item : Type 0} (form : Form Item) (text now line : List ℕ) (rest : Option (List ℕ)) (number : ℕ) (items more : List Item)
     → Reads form text (Some now) number items → Cuts 10 now line rest → LineItems form (without_cr line) more
     → Reads form text rest (number + 1) (items ++ more)
@@ -102,7 +107,7 @@ skipped_line form line skipped = subst (λ ls. AreItems form ls []) (sym (ap (λ
 pub kept_line : {Item : Type 0} (form : Form Item) (line : List ℕ) (item : Item) → is_skipped line ≡ false → form line item → LineItems form line (item ∷ [])
 kept_line form line item kept is = subst (λ ls. AreItems form ls (item ∷ [])) (sym (ap (λ t. cond (not t) (line ∷ []) []) kept)) (is, tt)
 
--- the next line has the form of no item
+-- where the next line isn't skipped and has the form of no item, it is the first faulty one
 pub first_faulty : {Item : Type 0} (form : Form Item) (text now line : List ℕ) (rest : Option (List ℕ)) (number : ℕ) (items : List Item)
     → Reads form text (Some now) number items → Cuts 10 now line rest → is_skipped (without_cr line) ≡ false → ((e : Item) → form (without_cr line) e → ⊥)
     → FirstFaulty form text (number + 1)
@@ -119,7 +124,7 @@ first_faulty form text now line rest number items r cut kept none =
       before = r.items_are;
     }
 
--- the next line has the form of an item
+-- where the next line isn't skipped and has the form of an item, a line has that form, and none before it is faulty
 pub next_item : {Item : Type 0} (form : Form Item) (text now line : List ℕ) (rest : Option (List ℕ)) (number : ℕ) (items : List Item)
     → Reads form text (Some now) number items → Cuts 10 now line rest → is_skipped (without_cr line) ≡ false → (e : Item) → form (without_cr line) e
     → BehindAnItem form text

@@ -21,7 +21,7 @@ abbrev pub SaysNoDeadline : TaskLine → Type 0
 SaysNoDeadline (says.Deadline deadline) = ⊥
 SaysNoDeadline _ = Unit {0}
 
--- the deadline behind these lines: that of the last one that says one, and where none does, this
+-- the deadline behind these lines: that of the last one that says a deadline, or `given` where none does
 abbrev pub IsDeadlineBehind : ℕ → List TaskLine → ℕ → Type 0
 IsDeadlineBehind given lines deadline =
     (AllByRecursion SaysNoDeadline lines × (deadline ≡ given))
@@ -33,11 +33,12 @@ SaysNoMode says.Chained = ⊥
 SaysNoMode says.Unchained = ⊥
 SaysNoMode _ = Unit {0}
 
+-- the line of a mode: `chained` or `unchained`
 abbrev pub mode_line : Bool → TaskLine
 mode_line true = says.Chained
 mode_line false = says.Unchained
 
--- whether commands are chained behind these lines: as the last one of a mode says, and where there is none, as this does
+-- whether commands are chained behind these lines: as the last line of a mode says, or as `given` says where there is none
 abbrev pub IsModeBehind : Bool → List TaskLine → Bool → Type 0
 IsModeBehind given lines chained =
     (AllByRecursion SaysNoMode lines × (chained ≡ given))
@@ -55,15 +56,15 @@ abbrev pub EndsWithTarget : List TaskLine → ℕ → Type 0
 EndsWithTarget lines target =
     (before : List TaskLine) × (command : Command) × (between : List TaskLine) × (lines ≡ before ++ says.Command command ∷ between) × AllByRecursion KeepsChains between × (command.target ≡ target)
 
--- how a command goes out that stands behind these lines: with the deadline there, and chained exactly where commands are chained there
--- and the command before it is for the same target, with no line of a mode between the two
+-- the task of a command that stands behind these lines: it asks that command, with the deadline there, and is chained exactly where commands
+-- are chained there and the command before is for the same target, with no line of a mode between the two
 pub record GoesOut (deadline : ℕ) (chained : Bool) (front : List TaskLine) (command : Command) (task : Task) : Type 0 where
   pub asks : task.command ≡ command
   pub deadline_is : IsDeadlineBehind deadline front task.deadline
   pub only : task.chained ≡ true → IsModeBehind chained front true × EndsWithTarget front command.target
   pub found : IsModeBehind chained front true → EndsWithTarget front command.target → task.chained ≡ true
 
--- each command of a text goes out so, and stands where it is said of its target
+-- each command of a text goes out as the lines in front of it say, and its task has the place that the text gives its target, if any
 abbrev pub CommandsGoOutSo : Type 0
 CommandsGoOutSo =
     (text : List ℕ) (deadline : ℕ) (chained : Bool) (tasks : List Task) (names : List Name) (nears : List Near) (is : IsTasks text deadline chained tasks names nears)

@@ -6,7 +6,7 @@ abbrev pub Lacks : ℕ → List ℕ → Type 0
 Lacks mark [] = Unit {0}
 Lacks mark (b ∷ bs) = (b ≢ mark) × Lacks mark bs
 
--- the text up to the first mark, and what follows it
+-- `front` is what stands before the first mark, and the last argument what stands behind it; without a mark, all of the text and `None`
 abbrev pub Cuts : ℕ → List ℕ → List ℕ → Option (List ℕ) → Type 0
 Cuts mark text front None = (text ≡ front) × Lacks mark front
 Cuts mark text front (Some rest) = (text ≡ front ++ mark ∷ rest) × Lacks mark front

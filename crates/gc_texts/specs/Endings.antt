@@ -5,15 +5,21 @@ use Rattle.gc_values.specs.declared.fault.ValueFault.{ValueFault}
 use Rattle.gc_texts.specs.declared.ending.Ending.{Ending}
 use Rattle.gc_texts.specs.declared.ending.Ending.TheVariants as ending
 
--- answered in time by this line, and where both its codes are 0 with this answer; by one whose codes are 0 and whose values don't
--- read; by one that was measured elsewhere than its target stands; late; lost; or never sent: skipped, or of a cycle that was missed
+-- how a command of a station's cycle ended
 pub data End : Type 0 where
+  -- its reply came in time, with this line; where both codes are 0, its values read as this answer
   Answered : (answer : Option Answer) (line : List ℕ) → End
+  -- its reply came in time, with this line, whose codes are 0, and whose values have this fault
   Unreadable : (line : List ℕ) (fault : ValueFault) → End
+  -- its reply came in time, with this line, and was measured elsewhere than its target stands
   Elsewhere : (line : List ℕ) → End
+  -- a reply to it came after it was given up
   Late : End
+  -- no reply came, or none will be taken
   Lost : End
+  -- it wasn't sent, because the command before it in its chain wasn't answered well
   Skipped : End
+  -- it wasn't sent, because its cycle couldn't begin before the next was due
   Missed : End
 
 -- an ending by its bytes
@@ -36,12 +42,12 @@ word_of Lost = codes "lost"
 word_of Skipped = codes "skipped"
 word_of Missed = codes "missed"
 
--- why the values of its reply don't read, where they don't
+-- why the values of the command's reply don't read, where they don't
 abbrev pub fault_of : End → Option ValueFault
 fault_of (Unreadable line fault) = Some fault
 fault_of _ = None
 
--- the line of its reply, where one came in time
+-- the line of the command's reply, where one came in time
 abbrev pub line_of : End → Option (List ℕ)
 line_of (Answered answer line) = Some line
 line_of (Unreadable line fault) = Some line

@@ -1,4 +1,4 @@
--- The faults of the engines, and what the program tells of an end: numbers, texts and statuses are this project's own.
+-- The faults of the engines, and how the program reports an end: numbers, texts and statuses are this project's own.
 use Rattle.std.specs.Prelude.{◌≡◌, ℕ, List, [], ◌++◌, Option, Result, Ok, Err, codes}
 use Rattle.std.specs.Fmt.{decimal}
 use Rattle.std.specs.Io.KnownBytes.{Appends}
@@ -33,7 +33,7 @@ run_fault_number RecordsUnopened = 64
 run_fault_number RecordsHeld = 65
 run_fault_number RecordsForeign = 66
 
--- what is told of a fault behind its number: how far a write came, or which line it is
+-- what is printed behind a fault's number: how far a write came, or which line is faulty
 abbrev pub fault_detail : RunFault → List ℕ
 fault_detail (Write replies bytes) = how_far replies bytes
 fault_detail (Schedule line) = codes " line " ++ decimal line
@@ -47,7 +47,7 @@ run_fault_text fault = numbered (run_fault_number fault) ++ fault_detail fault
 abbrev pub fault_line : List ℕ → List ℕ
 fault_line text = codes "geocom: " ++ text ++ codes "\n"
 
--- what the program tells of an end, by its status and on its messages: status 0 and nothing, or status 1 and the fault's line
+-- how the program reports an end, by its status and on its messages: status 0 and nothing, or status 1 and the fault's line
 abbrev pub Tells : {X E : Type 0} → (E → List ℕ) → Result X E → ℕ → Option (List ℕ) → Option (List ℕ) → Type 0
 Tells text (Ok _) status old new = (status ≡ 0) × (new ≡ old)
 Tells text (Err fault) status old new = (status ≡ 1) × Appends old new (fault_line (text fault))

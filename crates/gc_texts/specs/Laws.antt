@@ -13,11 +13,11 @@ use Rattle.gc_texts.specs.declared.near.Near.{Near}
 use Rattle.gc_texts.specs.declared.tasks.Task.{Task}
 use Rattle.gc_texts.specs.declared.log_line.LogMark.{LogMark}
 
--- a text has one list of commands
+-- a text gives one list of commands at most
 abbrev pub OneCommandList : Type 0
 OneCommandList = (text : List ℕ) (xs ys : List Command) → IsCommands text xs → IsCommands text ys → xs ≡ ys
 
--- a station's text gives one list of tasks, one of names, and one of places
+-- a station's text gives one list of tasks at most, one of names, and one of places
 abbrev pub OneTaskList : Type 0
 OneTaskList =
     (text : List ℕ) (deadline : ℕ) (chained : Bool) (xs ys : List Task) (ms ns : List Name) (ps qs : List Near) →
@@ -29,13 +29,13 @@ CommandsAreTasks =
     (text : List ℕ) (commands : List Command) (deadline : ℕ) (chained : Bool) → IsCommands text commands →
     (tasks : List Task) × IsTasks text deadline chained tasks [] [] × (map (λ task. task.command) tasks ≡ commands)
 
--- where commands aren't chained, each has its deadline and goes out by itself
+-- a command text gives, as a station's text whose commands aren't chained, its commands with the deadline of the caller, each by itself
 abbrev pub CommandsArePlain : Type 0
 CommandsArePlain =
     (text : List ℕ) (commands : List Command) (deadline : ℕ) → IsCommands text commands →
     IsTasks text deadline false (map (λ command. record { command = command; deadline = deadline; chained = false; near = None }) commands) [] []
 
--- each chained task stands behind one for the same target; what stands before them is for this one, where there is one
+-- each chained task stands behind one for the same target; the task in front of these, where there is one, is for the target `before`
 abbrev pub AreRows : Option ℕ → List Task → Type 0
 AreRows before [] = Unit {0}
 AreRows before (task ∷ later) = (task.chained ≡ true → before ≡ Some task.command.target) × AreRows (Some task.command.target) later
@@ -44,7 +44,7 @@ AreRows before (task ∷ later) = (task.chained ≡ true → before ≡ Some tas
 abbrev pub ChainsAreRows : Type 0
 ChainsAreRows = (text : List ℕ) (deadline : ℕ) (chained : Bool) (tasks : List Task) (names : List Name) (nears : List Near) → IsTasks text deadline chained tasks names nears → AreRows None tasks
 
--- what a trouble says of a procedure's parameters is how many the catalogue has
+-- the number of parameters that a trouble gives for a procedure is the catalogue's
 abbrev pub WantedIsTheCatalogues : Type 0
 WantedIsTheCatalogues = (call : Call) → wanted (call_fields call).number ≡ length (call_fields call).values
 

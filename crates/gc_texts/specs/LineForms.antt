@@ -8,12 +8,12 @@ use Rattle.gc_texts.specs.declared.text.TheConstants.{TEXT_LIMIT}
 abbrev pub Form : Type 0 → Type 1
 Form Item = List ℕ → Item → Type 0
 
--- the pieces of a text, cut at each LF; what stands before is the beginning of the first
+-- the pieces of a text, cut at each LF; `before` is the beginning of the first
 abbrev pub text_pieces : List ℕ → List ℕ → List (List ℕ)
 text_pieces before [] = before ∷ []
 text_pieces before (b ∷ bs) = if b == 10 then before ∷ text_pieces [] bs else text_pieces (before ++ b ∷ []) bs
 
--- without one CR at the end
+-- a line without one CR at its end, if it has one
 abbrev pub without_cr : List ℕ → List ℕ
 without_cr [] = []
 without_cr (b ∷ []) = if b == 13 then [] else b ∷ []
@@ -27,12 +27,12 @@ text_lines text = map without_cr (text_pieces [] text)
 abbrev pub line_at : List ℕ → ℕ → List ℕ
 line_at text n = get_or (text_lines text) (n - 1) []
 
--- an empty line, or one that begins with `#`
+-- whether a line is skipped: it is empty, or begins with `#`
 abbrev pub is_skipped : List ℕ → Bool
 is_skipped [] = true
 is_skipped (b ∷ bs) = b == 35
 
--- whether a line stands for an item
+-- whether a line isn't skipped, and so has to stand for an item
 abbrev pub is_kept : List ℕ → Bool
 is_kept line = not (is_skipped line)
 
@@ -71,7 +71,7 @@ pub record BehindAnItem {Item : Type 0} (form : Form Item) (text : List ℕ) : T
   pub items : List Item
   pub before : AreItems form (filter is_kept front) items
 
--- why a text stands for no items, or none were read: it is too long, else its first faulty line, or a want of memory
+-- why a text stands for no items, or none were read: it is too long, else its first line that is faulty, or memory was refused
 abbrev pub TextFault : {Item : Type 0} → Form Item → List ℕ → RunFault → Type 0
 TextFault form text InputTooLong = TEXT_LIMIT < length text
 TextFault form text (Schedule n) = (length text ≤ TEXT_LIMIT) × FirstFaulty form text n

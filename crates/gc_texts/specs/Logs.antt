@@ -6,7 +6,7 @@ use Rattle.gc_texts.specs.Stamps.{stamp_text}
 use Rattle.gc_texts.specs.declared.log_line.LogMark.{LogMark}
 use Rattle.gc_texts.specs.declared.log_line.LogMark.TheVariants.{Went, WentPart, Came, CamePart, Link}
 
--- the mark of a log line
+-- the mark of a log line, as it is written
 abbrev pub mark_text : LogMark → List ℕ
 mark_text Went = codes ">"
 mark_text WentPart = codes ">|"
@@ -14,7 +14,7 @@ mark_text Came = codes "<"
 mark_text CamePart = codes "<|"
 mark_text Link = codes "-"
 
--- printable ASCII but the backslash, which stands as it is
+-- whether a byte stands as it is: printable ASCII but the backslash
 abbrev pub is_as_it_is : ℕ → Bool
 is_as_it_is b = nat_lt 31 b && nat_lt b 127 && not (b == 92)
 
@@ -38,11 +38,11 @@ escaped bytes = flat_map escape bytes
 abbrev pub log_text : List ℕ → LogMark → List ℕ → List ℕ
 log_text moment mark bytes = moment ++ 32 ∷ (mark_text mark ++ 32 ∷ escaped bytes)
 
--- a log line, of the moment so many milliseconds after the beginning of 1970
+-- a log line with its line feed, of the moment `utc` milliseconds after the beginning of 1970
 abbrev pub log_line : ℕ → LogMark → List ℕ → List ℕ
 log_line utc mark bytes = log_text (stamp_text utc) mark bytes ++ codes "\n"
 
--- what a text says as a log line: its moment, in printable characters, is what stands before its first space
+-- a text is the log line of this moment, mark and bytes; the moment, in printable characters, is what stands before its first space
 pub record IsLogLine (text moment : List ℕ) (mark : LogMark) (bytes : List ℕ) : Type 0 where
   pub is : text ≡ log_text moment mark bytes
   pub one_word : Lacks 32 moment

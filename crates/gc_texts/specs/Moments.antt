@@ -6,7 +6,7 @@ use Rattle.gc_texts.specs.Stamps.{next_day, date_of, two_digits, three_digits, d
 abbrev pub millis_of : ℕ → ℕ → ℕ → ℕ → ℕ → ℕ
 millis_of days hours minutes seconds more = days * 86400000 + hours * 3600000 + minutes * 60000 + seconds * 1000 + more
 
--- a digit
+-- the character of a digit
 abbrev pub digit : ℕ → ℕ
 digit n = 48 + n
 

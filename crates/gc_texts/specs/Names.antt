@@ -3,16 +3,16 @@ use Rattle.std.specs.Prelude.{ℕ, ◌==◌, ◌&&◌, ◌||◌, Bool, false, no
 use Rattle.std.specs.List.{list_any}
 use Rattle.gc_texts.specs.declared.name.Name.{Name}
 
--- a byte that stands in no name: all but printable ASCII, a comma, and a double quote
+-- whether a byte may stand in no name: it isn't printable ASCII, or is a comma or a double quote
 abbrev pub is_foreign : ℕ → Bool
 is_foreign b = nat_lt b 32 || nat_lt 126 b || (b == 44) || (b == 34)
 
--- a text that a spreadsheet takes for a formula: it begins with `=`, `+`, `-` or `@`
+-- whether a spreadsheet takes a text for a formula: it begins with `=`, `+`, `-` or `@`
 abbrev pub is_formula : List ℕ → Bool
 is_formula [] = false
 is_formula (b ∷ bs) = (b == 61) || (b == 43) || (b == 45) || (b == 64)
 
--- a name: 1 to 64 bytes, none of which stands in no name, and no formula
+-- whether a text is a name: 1 to 64 bytes, each of which may stand in a name, and no formula
 abbrev pub is_name : List ℕ → Bool
 is_name text = nat_lt 0 (length text) && nat_lt (length text) 65 && not (is_formula text) && not (list_any is_foreign text)
 

@@ -20,8 +20,8 @@ use Rattle.gc_texts.specs.declared.near.Near.{Near}
 abbrev pub IsDouble : List ℕ → Decimal → Type 0
 IsDouble text d = Spells text d.digits d.scale
 
--- these words say a target, where it stands, and how far from there a measurement may be: HZ is from 0 to a turn, and V and TOLERANCE
--- are from 0 to half a turn
+-- these words say a target, the direction in which it stands, and how far from that each angle of a measurement may be, in radians: `hz` is
+-- from 0 to a turn, and `v` and `tolerance` are from 0 to half a turn
 pub record AreWords (target hz v tolerance : List ℕ) (near : Near) : Type 0 where
   pub target_is : IsNumber target near.target 4294967295
   pub hz_is : IsDouble hz near.place.hz
@@ -34,16 +34,16 @@ pub record AreWords (target hz v tolerance : List ℕ) (near : Near) : Type 0 wh
 abbrev pub IsNearText : List ℕ → Near → Type 0
 IsNearText text near = AreWords (before 32 text) (before 32 (behind 32 text)) (before 32 (behind 32 (behind 32 text))) (behind 32 (behind 32 (behind 32 text))) near
 
--- whether it is said among these where a target stands
+-- whether these say where a target stands
 abbrev pub is_said : ℕ → List Near → Bool
 is_said target nears = list_any (λ near. near.target == target) nears
 
--- where a target stands, if it is said among these
+-- where a target stands, if these say it
 abbrev pub near_of : ℕ → List Near → Option Near
 near_of target [] = None
 near_of target (near ∷ nears) = if near.target == target then Some near else near_of target nears
 
--- the direction that an answer has
+-- the direction that an answer has, if it has one
 abbrev pub direction_of : Answer → Option Direction
 direction_of (Angles hz v) = Some (record { hz = hz; v = v })
 direction_of (Measured hz v distance) = Some (record { hz = hz; v = v })

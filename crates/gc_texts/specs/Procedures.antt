@@ -9,7 +9,7 @@ pub record IsNumber (text : List ℕ) (n max : ℕ) : Type 0 where
   pub names : NamesNumber text n
   pub within : n ≤ max
 
--- the parameters behind a procedure's number: none, or a space and at least one byte
+-- what stands behind a procedure's number: nothing, or a space and the parameters
 abbrev pub behind_number : Option (List ℕ) → List ℕ
 behind_number None = []
 behind_number (Some params) = 32 ∷ params

@@ -25,8 +25,8 @@ lines_from place (s ∷ later) = settlement_line place s ++ lines_from (place + 
 abbrev pub settlement_lines : List Settlement → List ℕ
 settlement_lines settlements = lines_from 0 settlements
 
--- the lines of settlements, the first at this place, went to a sink whole, or the sink failed and took a part of them: those of the
--- earlier ones, and of the next one less than its line
+-- a sink took a part of the lines of these settlements, the first of them at this place: the whole lines of the earlier ones, and less than
+-- the line of the next one
 pub record ToldPart (place : ℕ) (settled : List Settlement) (old new : Option (List ℕ)) : Type 0 where
   pub earlier : List Settlement
   pub next : Settlement

@@ -18,7 +18,8 @@ use Rattle.gc_texts.specs.declared.text.TheConstants.{TEXT_LIMIT}
 abbrev pub opening : ℕ → Bool → Mode
 opening deadline chained = record { deadline = deadline; chained = chained; row = None }
 
--- what holds behind a line: a command's row is its target's, a line of the mode breaks the row, and a line of a target changes nothing
+-- what holds behind a line: a command's row is its target's; a deadline changes the deadline; a line of a mode changes whether commands are
+-- chained, and ends the row; and the name or the place of a target changes nothing
 abbrev pub behind : Mode → TaskLine → Mode
 behind mode (says.Command command) = record { deadline = mode.deadline; chained = mode.chained; row = Some command.target }
 behind mode (says.Deadline deadline) = record { deadline = deadline; chained = mode.chained; row = mode.row }
@@ -32,13 +33,13 @@ abbrev pub goes_on : Option ℕ → ℕ → Bool
 goes_on (Some before) target = before == target
 goes_on None target = false
 
--- the task of a line, where it is a command: chained where the mode is, and it goes on the row
+-- the task of a line that is a command, and nothing of another line: chained where the mode is and the command continues the row
 abbrev pub task_at : Mode → TaskLine → List Task
 task_at mode (says.Command command) =
     record { command = command; deadline = mode.deadline; chained = mode.chained && goes_on mode.row command.target; near = None } ∷ []
 task_at mode _ = []
 
--- the tasks of lines
+-- the tasks of these lines, the first of which stands in this mode
 abbrev pub tasks_of : Mode → List TaskLine → List Task
 tasks_of mode [] = []
 tasks_of mode (line ∷ later) = task_at mode line ++ tasks_of (behind mode line) later
@@ -48,7 +49,7 @@ abbrev pub name_at : TaskLine → List Name
 name_at (says.Naming name) = name ∷ []
 name_at _ = []
 
--- the names of lines
+-- the names that these lines give
 abbrev pub names_of : List TaskLine → List Name
 names_of [] = []
 names_of (line ∷ later) = name_at line ++ names_of later
@@ -58,17 +59,17 @@ abbrev pub near_at : TaskLine → List Near
 near_at (says.Standing near) = near ∷ []
 near_at _ = []
 
--- the same of lines
+-- where targets stand, as these lines say
 abbrev pub nears_of : List TaskLine → List Near
 nears_of [] = []
 nears_of (line ∷ later) = near_at line ++ nears_of later
 
--- a task with where its target stands, if that is said among these
+-- a task with where its target stands, if these say it
 abbrev pub placed : List Near → Task → Task
 placed nears task = record task { near = near_of task.command.target nears }
 
--- whether a line may stand behind those that gave these names and places: where it gives one, they are fewer than 64, and its target
--- has none
+-- whether a line may stand behind lines that gave these names and places: a name only where there are fewer than 64 names and its target has
+-- none, and a place likewise
 abbrev pub may_stand : List Name → List Near → TaskLine → Bool
 may_stand names nears (says.Naming name) = nat_lt (length names) 64 && not (is_named name.target names)
 may_stand names nears (says.Standing near) = nat_lt (length nears) 64 && not (is_said near.target nears)
@@ -118,7 +119,7 @@ pub record IsBehindATask (text : List ℕ) : Type 0 where
   pub form : IsTaskLine line said
   pub stands : may_stand (names_of before) (nears_of before) said ≡ true
 
--- why a station's text gives no tasks, or none were read: it is too long, else its first faulty line, or a want of memory
+-- why a station's text gives no tasks, or none were read: it is too long, else its first line that is faulty, or memory was refused
 abbrev pub TaskFault : List ℕ → RunFault → Type 0
 TaskFault text InputTooLong = TEXT_LIMIT < length text
 TaskFault text (Schedule n) = (length text ≤ TEXT_LIMIT) × IsFirstFaultyTask text n

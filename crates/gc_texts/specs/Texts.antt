@@ -4,7 +4,8 @@ use Rattle.gc_texts.specs.declared.text.TheConstants.{TEXT_LIMIT}
 use Rattle.gc_texts.specs.declared.fault.RunFault.{RunFault}
 use Rattle.gc_texts.specs.declared.fault.RunFault.TheVariants.{Read, Memory, InputTooLong}
 
--- why the reading of a text ended after these bytes
+-- the reading of a text ended with this fault after these bytes: `InputTooLong` after one byte more than a text may have, `Read` and
+-- `Memory` after no more than it may have
 abbrev pub IsReadFault : List ℕ → RunFault → Type 0
 IsReadFault given Read = length given ≤ TEXT_LIMIT
 IsReadFault given InputTooLong = length given ≡ TEXT_LIMIT + 1

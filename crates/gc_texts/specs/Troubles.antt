@@ -39,27 +39,29 @@ IsCallTrouble rpc params (trouble.Wants n count) = IsListTrouble rpc params (tro
 IsCallTrouble rpc params trouble.Parameters = IsListTrouble rpc params trouble.Parameters
 IsCallTrouble rpc params _ = ⊥
 
--- no number up to this maximum is at the front
+-- the text is no number up to this maximum
 abbrev pub NoNumber : List ℕ → ℕ → Type 0
 NoNumber text max = (n : ℕ) → IsNumber text n max → ⊥
 
--- the fields of a line: its first word, its second word, and the rest of the line
+-- the first word of a line
 abbrev pub first_word : List ℕ → List ℕ
 first_word line = before 32 line
 
+-- the second word of a line
 abbrev pub second_word : List ℕ → List ℕ
 second_word line = before 32 (behind 32 line)
 
+-- what stands behind the first two words of a line
 abbrev pub words_behind : List ℕ → List ℕ
 words_behind line = behind 32 (behind 32 line)
 
--- the second word is a procedure's number, and the number and what stands behind it have the trouble
+-- the second word of a line is a procedure's number, and that number and the parameters behind it have this trouble
 pub record IsAsked (line : List ℕ) (t : Trouble) : Type 0 where
   pub rpc : ℕ
   pub number : IsNumber (second_word line) rpc 65535
   pub is : IsCallTrouble rpc (words_behind line) t
 
--- which field of a line is at fault; none where there is one word, or where number and parameters are a call's
+-- which field of a line is at fault; `NoForm` where there is one word, or where number and parameters are a call's
 abbrev pub IsTrouble : List ℕ → Trouble → Type 0
 IsTrouble line trouble.Deadline = first_word line ≡ codes "deadline"
 IsTrouble line trouble.Name = (first_word line ≡ codes "name") × ((n : ℕ) × IsNumber (second_word line) n 4294967295)

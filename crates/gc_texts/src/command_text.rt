@@ -10,7 +10,8 @@ use crate::text::read_text;
 use gc_lines::Source;
 use std::alloc::Global;
 
-/// Reads the whole command text of a source. The faults are those of `read_commands`, and `Read` where a read failed.
+/// Reads the whole command text of a source, and returns its commands in order. The faults are those of `read_text` and of
+/// `read_commands`.
 pub fn read_command_text<S: Source>(alloc: Global, source: &mut S) -> Result<Vec<Command>, RunFault>
     ensures found { IfOk result (λ commands. Gave (input_of S.Source source.old) (input_of S.Source source.new) (λ given.
         GivesCommands given (input_of S.Source source.old) (input_of S.Source source.new) commands.items)) }

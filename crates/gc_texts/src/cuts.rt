@@ -6,7 +6,7 @@ ghost use Rattle.gc_texts.specs.Cuts.{Cuts, before, behind};
 
 use memchr::memchr;
 
-/// What stands before the first mark, and what stands behind it.
+/// What stands before the first mark, and what stands behind it. Without a mark: all of the text, and `None`.
 pub fn cut_at(mark: u8, text: &[u8]) -> (&[u8], Option<&[u8]>)
     ensures { Cuts mark text.now result.0.now (option_copied result.1) }
 {

@@ -28,7 +28,7 @@ pub enum Ending<'a> {
 }
 
 impl<'a> Ending<'a> {
-    /// The outcome, as each line, row and object has it. A new one has its word here.
+    /// The word of the ending, as each line, row and object has it.
     pub fn word(self) -> &'static [u8]
         ensures is { result.now ≡ word_of (ending_seen self.entry) }
         ensures short { length result.now ≤ 16 }
@@ -44,7 +44,7 @@ impl<'a> Ending<'a> {
         }
     }
 
-    /// Why the values of its reply don't read, where they don't.
+    /// Why the values of the command's reply don't read, where they don't.
     pub fn fault(self) -> Option<ValueFault>
         ensures { result ≡ fault_of (ending_seen self.entry) }
     {

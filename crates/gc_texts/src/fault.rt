@@ -35,10 +35,10 @@ pub enum RunFault {
     /// The text has no command.
     #[error("fault {}", self.number())]
     NoCommand,
-    /// A line of the text, counted from 1, has no form.
+    /// This line of the text, counted from 1, is the first faulty one.
     #[error("fault {} line {line}", self.number())]
     Schedule { line: u32 },
-    /// No memory was found.
+    /// Memory was refused.
     #[error("fault {}", self.number())]
     Memory,
     /// The text has more than 65,536 bytes.
@@ -56,10 +56,10 @@ pub enum RunFault {
     /// The log could not be opened.
     #[error("fault {}", self.number())]
     Log,
-    /// What has the path of a device is no terminal.
+    /// The path of the device leads to something that is no terminal.
     #[error("fault {}", self.number())]
     NoTerminal,
-    /// Another program holds the device.
+    /// Another program, or another opening of this one, holds the device.
     #[error("fault {}", self.number())]
     Held,
     /// This program may not read and write the device.
@@ -68,7 +68,7 @@ pub enum RunFault {
     /// The file of records can't be opened for reading and appending, or is no regular file.
     #[error("fault {}", self.number())]
     RecordsUnopened,
-    /// Another program holds the file of records.
+    /// Another program, or another opening of this one, holds the file of records.
     #[error("fault {}", self.number())]
     RecordsHeld,
     /// The file of records holds something else.
@@ -107,7 +107,7 @@ impl RunFault {
     }
 
     /// Writes the line of the fault: the program's name, and the text that `Display` prints.
-    // Of what the derive prints no clause can speak, since it states no output.
+    // No clause can speak of what the derive prints, because the derive states no output.
     pub fn tell<E: Write>(self, messages: &mut E) -> io::Result<()>
         ensures { OnOk result (Appends (E.contents messages.old) (E.contents messages.new) (fault_line (run_fault_text self))) }
     {

@@ -48,9 +48,9 @@ pub fn faults_have_their_numbers()
     ensures { FaultsHaveTheirNumbers }
 {}
 
-/// Each command of a station's text has the deadline of the last line in front of it that says one. It is chained exactly where
-/// the last line of a mode says so, or the one who asked, and the command before it is for the same target, with no line of a mode
-/// between the two: lines of deadlines, names and places leave a chain whole.
+/// Each command of a station's text has the deadline of the last line in front of it that says one, or else the caller's. It is
+/// chained exactly where the last line of a mode in front of it, or else the caller, says so, and the command before it is for the
+/// same target, with no line of a mode between the two.
 pub fn commands_go_out_as_their_lines_say()
     ensures { CommandsGoOutSo }
 {}

@@ -29,7 +29,7 @@ pub use line_forms::{LineForm, line_at, read_items};
 pub use log_line::{LogBytes, LogMark, append_escaped, escaped, write_log_line};
 pub use log_reading::{LogLine, read_log_line};
 pub use name::Name;
-pub use near::{Near, is_elsewhere};
+pub use near::{Near, is_elsewhere, read_double};
 pub use procedure::{TARGET_MAX, number_of, read_procedure};
 pub use settled::{append_settlements, write_settlements};
 pub use stamp::{STAMP_ROOM, Stamp, stamp_text};

@@ -11,7 +11,7 @@ use crate::fault::RunFault;
 use crate::text::TEXT_LIMIT;
 use std::alloc::Global;
 
-/// What the lines of a text stand for.
+/// The form of a text's lines: which of them stand for an item, and for which.
 pub trait LineForm {
     ghost use Rattle.std.specs.Prelude.{ℕ, List, MatchOption};
 
@@ -21,12 +21,12 @@ pub trait LineForm {
     /// Which lines have the form of an item.
     ghost form: { List ℕ → Self.Item → Type 0 };
 
-    /// Reads a line; none where it has the form of no item.
+    /// Reads a line. `None`: it has the form of no item.
     fn read(line: &[u8]) -> Option<Self::Item>
         ensures { MatchOption result ((item : Self.Item) → form line.now item → ⊥) (λ item. form line.now item) };
 }
 
-// Drops one CR at the end.
+// The line without one CR at its end, if it has one.
 pub(crate) fn without_cr(line: &[u8]) -> &[u8]
     ensures { result.now ≡ without_cr line.now }
 {
@@ -36,7 +36,7 @@ pub(crate) fn without_cr(line: &[u8]) -> &[u8]
     }
 }
 
-/// Line number n of a text, counted from 1, as the faults of a text count them; empty where the text has fewer.
+/// The line of a text with this number, counted from 1, as the faults of a text count them; empty where the text has fewer.
 pub fn line_at(text: &[u8], number: u32) -> &[u8]
     ensures { result.now ≡ line_at text.now number }
 {
@@ -64,7 +64,7 @@ pub(crate) fn is_skipped(line: &[u8]) -> bool
 ///
 /// Refused are a text of more than 65,536 bytes (`InputTooLong`, before any line is looked at), and the first line that
 /// has the form of no item (`Schedule`, with its number counted from 1). `Memory` comes only where a growth was refused,
-/// behind a line that is an item.
+/// at a line that is an item.
 pub fn read_items<F: LineForm>(alloc: Global, text: &[u8]) -> Result<Vec<F::Item>, RunFault>
     ensures found { IfOk result (λ items. IsText F.form text.now items.items) }
     ensures too_long { (result ≡ Err RunFault.InputTooLong) ↔ (TEXT_LIMIT < length text.now) }
@@ -76,7 +76,20 @@ pub fn read_items<F: LineForm>(alloc: Global, text: &[u8]) -> Result<Vec<F::Item
     read_lines::<F>(alloc, text)
 }
 
-// Reads the lines of a text.
+// For how many more items a list of `count` items makes room, where the bytes `left` of the text aren't read: for one. In front
+// of the first item it is one for each eight bytes, because a line rarely has fewer, and so the list rarely grows again.
+fn room_for(count: usize, left: &[u8]) -> usize
+    ensures { 1 ≤ result }
+{
+    if count == 0 {
+        (left.len() / 8).saturating_add(1)
+    } else {
+        1
+    }
+}
+
+// Reads the lines of a text: its items, in order. The faults are `Schedule` and `Memory`, as `read_items` has them.
+#[inline(never)]
 fn read_lines<F: LineForm>(alloc: Global, text: &[u8]) -> Result<Vec<F::Item>, RunFault>
     requires { length text.now ≤ TEXT_LIMIT }
     ensures found { IfOk result (λ items. IsText F.form text.now items.items) }
@@ -95,7 +108,7 @@ fn read_lines<F: LineForm>(alloc: Global, text: &[u8]) -> Result<Vec<F::Item>, R
         }
         match F::read(line) {
             Some(item) => {
-                if items.reserve(1).is_err() {
+                if items.reserve(room_for(items.len(), text)).is_err() {
                     return Err(RunFault::Memory);
                 }
                 items.push_reserved(item);

@@ -10,7 +10,7 @@ use crate::stamp::stamp_text;
 use arrayvec::ArrayVec;
 use gc_lines::{Sink, append, write_whole};
 
-/// What one line of a log tells: at most as many bytes as the longest line has with its CR LF.
+/// The bytes that one line of a log records: at most as many as the longest line has with its CR LF.
 pub type LogBytes = ArrayVec<u8, 514>;
 
 // The bytes of the longest log line: a moment, a mark of two bytes, each byte as four, two spaces and a line feed.
@@ -21,8 +21,8 @@ const LOG_ROOM: usize = 40 + 1 + 2 + 1 + 4 * 514 + 1;
 pub enum LogMark {
     /// `>`: a line that went, without its CR LF.
     Went,
-    /// `>|`: these bytes went, and no CR LF is left out: a line feed without a CR, what a close cut, or a part of a line of
-    /// more than 512 bytes.
+    /// `>|`: these bytes went, and no CR LF behind them is left out: they end in a line feed without a CR, a close cut them off, or
+    /// they are a part of a line of more than 512 bytes.
     WentPart,
     /// `<`: a line that came, without its CR LF.
     Came,
@@ -66,7 +66,7 @@ pub fn write_log_line<K: Sink>(
     write_whole(sink, &log_line(utc, mark, bytes))
 }
 
-// The line of a log.
+// A line of a log, with its line feed.
 fn log_line(utc: u64, mark: LogMark, bytes: &LogBytes) -> ArrayVec<u8, LOG_ROOM>
     ensures { result.items ≡ log_line utc mark bytes.now.items }
 {
@@ -122,7 +122,7 @@ pub(crate) fn is_as_it_is(b: u8) -> bool
     31 < b && b < 127 && b != b'\\'
 }
 
-// A digit of base 16.
+// A digit of base 16, in lower case.
 pub(crate) fn hex_digit(n: u8) -> u8
     requires { n < 16 }
     ensures { result ≡ hex_digit n }

@@ -18,8 +18,8 @@ pub struct LogLine<'a> {
     pub bytes: LogBytes,
 }
 
-/// Reads a line of a log, without its line feed. `None`: it is no such line, since it isn't a word of printable ASCII, a
-/// mark and the bytes of at most 514, each in the one way in which it is written.
+/// Reads a line of a log, without its line feed: a word of printable ASCII, a mark, and at most 514 bytes, each in the one way in
+/// which it is written. `None`: it is no such line.
 pub fn read_log_line(line: &[u8]) -> Option<LogLine<'_>>
     ensures { MatchOption result
         ((moment : List ℕ) (mark : LogMark) (bytes : List ℕ) → length bytes ≤ 514 → IsLogLine line.now moment mark bytes → ⊥)
@@ -56,7 +56,7 @@ fn is_printable(text: &[u8]) -> bool
     text.iter().all(|b| 32 <= *b && *b <= 126)
 }
 
-// Reads a mark.
+// Reads a mark. `None`: the text is none.
 fn read_mark(text: &[u8]) -> Option<LogMark>
     ensures { MatchOption result ((mark : LogMark) → text.now ≡ mark_text mark → ⊥) (λ mark. text.now ≡ mark_text mark) }
 {
@@ -70,7 +70,7 @@ fn read_mark(text: &[u8]) -> Option<LogMark>
     }
 }
 
-// Reads bytes, each as it is or as `\x` and two digits, of which there are at most 514.
+// Reads at most 514 bytes, each as it is or as `\x` and two digits. `None`: the text has another form, or more bytes.
 fn read_bytes(text: &[u8]) -> Option<LogBytes>
     ensures { MatchOption result
         ((bytes : List ℕ) → length bytes ≤ 514 → All (λ b. b < 256) bytes → text.now ≡ escaped bytes → ⊥)
@@ -91,7 +91,7 @@ fn read_bytes(text: &[u8]) -> Option<LogBytes>
     Some(bytes)
 }
 
-// Reads the first byte of a text, and says what stands behind it.
+// Reads the first byte of a text, and returns it with what stands behind it. `None`: no byte is written so.
 fn read_byte(text: &[u8]) -> Option<(u8, &[u8])>
     ensures { MatchOption result
         ((b : ℕ) (more : List ℕ) → b < 256 → text.now ≡ escape b ++ more → ⊥)
@@ -109,7 +109,8 @@ fn read_byte(text: &[u8]) -> Option<(u8, &[u8])>
     read_digits(digits)
 }
 
-// Reads the two digits of a byte that doesn't stand as it is, and says what stands behind them.
+// Reads the two digits behind `\x`, and returns their byte with what stands behind them. `None`: they are no such digits, or the
+// byte is one that stands as it is.
 fn read_digits(text: &[u8]) -> Option<(u8, &[u8])>
     ensures { MatchOption result
         ((b : ℕ) (more : List ℕ) → b < 256 → 92 ∷ 120 ∷ text.now ≡ escape b ++ more → ⊥)
@@ -131,7 +132,7 @@ fn read_digits(text: &[u8]) -> Option<(u8, &[u8])>
     Some((b, more))
 }
 
-// Reads a digit of base 16, in lower case.
+// Reads a digit of base 16, in lower case. `None`: the byte is none.
 fn read_digit(digit: u8) -> Option<u8>
     ensures { MatchOption result ((n : ℕ) → n < 16 → digit ≡ hex_digit n → ⊥) (λ n. (n < 16) × (digit ≡ hex_digit n)) }
 {

@@ -44,7 +44,7 @@ pub(crate) fn is_name(text: &[u8]) -> bool
     !text.is_empty() && text.len() <= NAME_ROOM && !is_formula(text) && !is_foreign(text)
 }
 
-/// The name of these bytes for a target.
+/// A target's name, with these bytes as its text.
 pub(crate) fn name_of_bytes(target: u32, bytes: &[u8]) -> Name
     requires { length bytes.now ≤ 64 }
     ensures target { result.target ≡ target }

@@ -21,8 +21,8 @@ pub struct Near {
     pub tolerance: Decimal,
 }
 
-// A number with a point or without one.
-fn read_double(text: &[u8]) -> Option<Decimal>
+/// Reads a number with a point or without one. `None`: the text is none, or has too many digits.
+pub fn read_double(text: &[u8]) -> Option<Decimal>
     ensures { MatchOption result ((d : Decimal) → IsDouble text.now d → ⊥) (λ d. IsDouble text.now d) }
 {
     match Decimal::read(text) {
@@ -31,7 +31,7 @@ fn read_double(text: &[u8]) -> Option<Decimal>
     }
 }
 
-// Reads the words that say where a target stands; none where one has no form, or a number lies outside its range.
+// Reads the words that say where a target stands. `None`: one has no form, or a number lies outside its range.
 fn read_words(target: &[u8], hz: &[u8], v: &[u8], tolerance: &[u8]) -> Option<Near>
     ensures { MatchOption result ((near : Near) → AreWords target.now hz.now v.now tolerance.now near → ⊥) (λ near. AreWords target.now hz.now v.now tolerance.now near) }
 {
@@ -59,7 +59,7 @@ fn read_words(target: &[u8], hz: &[u8], v: &[u8], tolerance: &[u8]) -> Option<Ne
     })
 }
 
-/// Reads `T HZ V TOLERANCE`; none where it has no such form, or a number lies outside its range.
+/// Reads `T HZ V TOLERANCE`. `None`: the text has no such form, or a number lies outside its range.
 pub(crate) fn read_near(text: &[u8]) -> Option<Near>
     ensures { MatchOption result ((near : Near) → IsNearText text.now near → ⊥) (λ near. IsNearText text.now near) }
 {
@@ -73,14 +73,14 @@ pub(crate) fn read_near(text: &[u8]) -> Option<Near>
     )
 }
 
-/// Whether it is said among these where a target stands.
+/// Whether `nears` say where a target stands.
 pub(crate) fn is_said(target: u32, nears: &[Near]) -> bool
     ensures { result ≡ is_said target nears.now }
 {
     nears.iter().any(|near| near.target == target)
 }
 
-/// Where a target stands, if it is said among these.
+/// Where a target stands, if `nears` say it.
 pub(crate) fn near_of(target: u32, nears: &[Near]) -> Option<Near>
     ensures { result ≡ near_of target nears.now }
 {
@@ -92,7 +92,7 @@ pub(crate) fn near_of(target: u32, nears: &[Near]) -> Option<Near>
     None
 }
 
-/// The direction that an answer has.
+/// The direction that an answer has, if it has one.
 fn direction_of(answer: &Answer) -> Option<Direction>
     ensures { result ≡ direction_of answer.now }
 {
@@ -114,7 +114,8 @@ pub(crate) fn asks_direction(call: &Call) -> bool
     )
 }
 
-/// Whether an answer was measured elsewhere than its target stands, where that was said. One without a direction never was.
+/// Whether an answer was measured elsewhere than its target stands, by its direction. It is `false` where nothing says where the
+/// target stands, and for an answer without a direction.
 #[tactic(auto, unfolding(crate::specs::Nears::is_elsewhere))]
 pub fn is_elsewhere(near: Option<Near>, answer: &Answer) -> bool
     ensures { result ≡ is_elsewhere near answer.now }

@@ -13,7 +13,7 @@ use gc_values::read_whole;
 /// The greatest target.
 pub const TARGET_MAX: u64 = 4294967295;
 
-/// The number that digits write, without a sign, where it is at most `max`.
+/// The number that digits write, without a sign. `None`: they write none, or one above `max`.
 pub fn number_of(digits: &[u8], max: u64) -> Option<u64>
     ensures { MatchOption result ((n : ℕ) → IsNumber digits.now n max → ⊥) (λ n. IsNumber digits.now n max) }
 {
@@ -23,7 +23,8 @@ pub fn number_of(digits: &[u8], max: u64) -> Option<u64>
     }
 }
 
-/// The call of a procedure's number and its parameters: `RPC`, or `RPC PARAMS` with one byte of parameters at least.
+/// Reads the call of a procedure's number and its parameters: `RPC`, or `RPC PARAMS` with one byte of parameters at least.
+/// `None`: the text has no such form, no procedure has the number, or the parameters don't read as its own.
 pub fn read_procedure(text: &[u8]) -> Option<Call>
     ensures { MatchOption result ((call : Call) → IsProcedure text.now call → ⊥) (λ call. IsProcedure text.now call) }
 {
@@ -40,7 +41,7 @@ pub fn read_procedure(text: &[u8]) -> Option<Call>
     read_call(rpc as u16, params)
 }
 
-// The call of a number and parameters, if they are one.
+// The call of a procedure's number and parameters. `None`: no procedure has the number, or the parameters don't read as its own.
 fn read_call(rpc: u16, params: &[u8]) -> Option<Call>
     ensures { MatchOption result ((call : Call) → IsCall rpc params.now call → ⊥) (λ call. IsCall rpc params.now call) }
 {

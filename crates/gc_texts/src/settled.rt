@@ -1,4 +1,4 @@
-//! The lines of settlements, one for each, which takes no memory.
+//! The lines of settlements, one for each. A line is made without taking memory.
 
 ghost use Rattle.std.specs.Prelude.{◌≡◌, ℕ, ◌+◌, ◌^◌, ◌≤◌, ◌++◌, length, map, OnOk};
 ghost use Rattle.gc_client.specs.Settlements.{settlement_seen};
@@ -11,7 +11,7 @@ use gc_lines::{Sink, append, write_whole};
 use itoa::Buffer;
 use std::alloc::AllocError;
 
-/// Appends the lines of settlements, the first of them at place 0. Where memory is wanting a part of them was appended.
+/// Appends the lines of settlements, the first of them at place 0. Where memory was refused, a part of them was appended.
 pub fn append_settlements(text: &mut Vec<u8>, settlements: &[Settlement]) -> Result<(), AllocError>
     ensures { OnOk result (text.new.items ≡ text.old.items ++ settlement_lines (map settlement_seen settlements.now)) }
 {
@@ -22,7 +22,7 @@ pub fn append_settlements(text: &mut Vec<u8>, settlements: &[Settlement]) -> Res
     Ok(())
 }
 
-// Appends the line of the settlement at a place. It is made in the line that is handed in, whatever stood there.
+// Appends the line of the settlement at a place, which is made in `line`, whatever stood there. It fails where memory was refused.
 fn append_settlement(
     text: &mut Vec<u8>,
     line: &mut ArrayVec<u8, LINE_ROOM>,

@@ -1,4 +1,4 @@
-//! One line of a station's text, read: the only place that knows its words.
+//! The reading of one line of a station's text.
 
 ghost use Rattle.std.specs.Prelude.{◌≡◌, ◌↔◌, ◌++◌, ℕ, List, IsTrue, MatchOption};
 ghost use Rattle.gc_texts.specs.TaskLines.{IsDeadline, IsNaming, IsStanding, IsTaskLine};
@@ -32,7 +32,7 @@ pub(crate) enum TaskLine {
     Standing(Near),
 }
 
-// What stands behind a word, where the line begins with it.
+// What stands behind a word at the front of a line. `None`: the line doesn't begin with the word.
 fn behind<'a>(word: &[u8], line: &'a [u8]) -> Option<&'a [u8]>
     ensures { MatchOption result ((rest : List ℕ) → line.now ≡ word.now ++ rest → ⊥) (λ rest. line.now ≡ word.now ++ rest.now) }
 {
@@ -46,7 +46,7 @@ pub(crate) fn is_word(word: &[u8], line: &[u8]) -> bool
     line == word
 }
 
-// `deadline MS`, from 1 to a day.
+// Reads `deadline MS`: from 1 millisecond to a day. `None`: the line has no such form, or the number lies outside.
 fn read_deadline(line: &[u8]) -> Option<u64>
     ensures { MatchOption result ((deadline : ℕ) → IsDeadline line.now deadline → ⊥) (λ deadline. IsDeadline line.now deadline) }
 {
@@ -62,7 +62,7 @@ fn read_deadline(line: &[u8]) -> Option<u64>
     Some(deadline)
 }
 
-// `name T TEXT`: a target and its name.
+// Reads `name T TEXT`: a target and its name. `None`: the line has no such form.
 fn read_naming(line: &[u8]) -> Option<Name>
     ensures { MatchOption result ((name : Name) → IsNaming line.now name → ⊥) (λ name. IsNaming line.now name) }
 {
@@ -80,7 +80,7 @@ fn read_naming(line: &[u8]) -> Option<Name>
     Some(name_of_bytes(target as u32, text))
 }
 
-// `near T HZ V TOLERANCE`: where a target stands.
+// Reads `near T HZ V TOLERANCE`: where a target stands. `None`: the line has no such form, or a number lies outside its range.
 fn read_standing(line: &[u8]) -> Option<Near>
     ensures { MatchOption result ((near : Near) → IsStanding line.now near → ⊥) (λ near. IsStanding line.now near) }
 {
@@ -90,7 +90,7 @@ fn read_standing(line: &[u8]) -> Option<Near>
     }
 }
 
-// Reads one line of a station's text; none where it has no form.
+// Reads one line of a station's text. `None`: it has no form.
 pub(crate) fn read_task_line(line: &[u8]) -> Option<TaskLine>
     ensures { MatchOption result ((said : TaskLine) → IsTaskLine line.now said → ⊥) (λ said. IsTaskLine line.now said) }
 {

@@ -67,7 +67,7 @@ const NAMES_MAX: usize = 64;
 // The most targets of which it is said where they stand.
 const NEARS_MAX: usize = 64;
 
-// What holds where a command stands.
+// What the lines in front of a command make hold for it.
 #[derive(Clone, Copy)]
 struct Mode {
     // The deadline, in milliseconds.
@@ -78,7 +78,8 @@ struct Mode {
     row: Option<u32>,
 }
 
-// The deadline, the mode and the row that hold behind a line.
+// What holds behind a line, where `mode` holds in front of it: a command begins or continues a row, a deadline changes the
+// deadline, and a line of a mode changes whether commands are chained, and ends the row.
 fn behind(mode: Mode, said: &TaskLine) -> Mode
     ensures { result ≡ behind mode said.now }
 {
@@ -115,8 +116,8 @@ fn goes_on(row: Option<u32>, target: u32) -> bool
     }
 }
 
-// Whether a line may follow lines that gave these names and places: if it names a target, or says where it stands, that target has
-// no name, or no place, yet, and there are fewer than 64 of them.
+// Whether a line may stand behind lines that gave these names and places: a name only where there are fewer than 64 names and its
+// target has none yet, and a place likewise.
 fn may_stand(names: &Vec<Name>, nears: &Vec<Near>, said: &TaskLine) -> bool
     ensures { result ≡ may_stand names.now.items nears.now.items said.now }
 {
@@ -129,7 +130,7 @@ fn may_stand(names: &Vec<Name>, nears: &Vec<Near>, said: &TaskLine) -> bool
     }
 }
 
-// Appends the task, the name or the place that a line gives, if it gives one.
+// Appends the task, the name or the place that a line gives, if it gives one. It fails where memory was refused.
 fn keep(
     tasks: &mut Vec<Task>,
     names: &mut Vec<Name>,
@@ -168,7 +169,7 @@ fn keep(
     }
 }
 
-// Gives each task where its target stands.
+// Sets in each task where its target stands, if `nears` say it.
 fn place_tasks(tasks: &mut Vec<Task>, nears: &[Near])
     ensures { tasks.new.items ≡ map (placed nears.now) tasks.old.items }
 {
@@ -177,12 +178,12 @@ fn place_tasks(tasks: &mut Vec<Task>, nears: &[Near])
     }
 }
 
-/// Reads a station's text: its commands with how each goes out, the names of targets, and where they stand. Until a line says otherwise the
-/// commands have this deadline, in milliseconds, and are chained or not.
+/// Reads a station's text: its commands with how each goes out, the names of targets, and where they stand. Until a line says
+/// otherwise the commands have `deadline`, in milliseconds, and are chained where `chained` says so.
 ///
-/// Refused are a text of more than 65,536 bytes (`InputTooLong`, before any line is looked at), and the first line that has no
-/// form, names a target or says where it stands a second time, or is one more than 64 of either (`Schedule`, with its number counted from 1). `Memory` comes
-/// only where a growth was refused, behind a line that stands.
+/// Refused are a text of more than 65,536 bytes (`InputTooLong`, before any line is looked at), and the first faulty line
+/// (`Schedule`, with its number counted from 1): one that has no form, or gives a target a second name or a second place, or gives a
+/// 65th name or a 65th place. `Memory` comes only where memory ran out at a line that isn't faulty, behind none that is.
 pub fn read_tasks(
     alloc: Global,
     text: &[u8],
@@ -206,7 +207,8 @@ pub fn read_tasks(
     read_task_lines(alloc, text, opening)
 }
 
-// Reads the lines of a station's text.
+// Reads the lines of a station's text. `opening` holds in front of the first. The faults are `Schedule` and `Memory`, as
+// `read_tasks` has them.
 fn read_task_lines(alloc: Global, text: &[u8], opening: Mode) -> Result<Tasks, RunFault>
     requires short { length text.now ≤ TEXT_LIMIT }
     requires opening { opening.row ≡ None }

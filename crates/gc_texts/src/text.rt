@@ -13,12 +13,12 @@ use std::alloc::Global;
 /// The greatest length of a schedule's or a command list's text, in bytes.
 pub const TEXT_LIMIT: usize = 65536;
 
-/// A text has at most 65,536 bytes. It does nothing: its contract is the law.
+/// A text has at most 65,536 bytes. The function does nothing: its contract is the law.
 pub fn limits_texts()
     ensures { TEXT_LIMIT ≡ 65536 }
 {}
 
-/// Reads a text until the input ends. It reads 65,537 bytes at most, which are too many.
+/// Reads a text until the input ends, or 65,537 bytes, which are too many.
 ///
 /// `Read` comes where the source failed, `InputTooLong` where it gave more than 65,536 bytes, and `Memory` only where a
 /// growth was refused: behind a read that gave bytes.

@@ -17,9 +17,9 @@ use std::io::{self, Write};
 pub enum Trouble {
     /// No procedure has this number.
     NoProcedure(u16),
-    /// The procedure with this number has another number of parameters than the line: the second value.
+    /// The procedure with this number has as many parameters as the second value says, and the line another number of them.
     Wants(u16, u8),
-    /// The parameters, one of which hasn't the form or the range of its kind.
+    /// A parameter hasn't the form or the range of its kind.
     Parameters,
     /// The procedure's number is none from 0 to 65535.
     Number,
@@ -44,7 +44,7 @@ impl Trouble {
         self.tell_field(messages)
     }
 
-    // Writes the field at fault, to the end of its line.
+    // Writes which field is at fault, and a line feed.
     fn tell_field<E: Write>(self, messages: &mut E) -> io::Result<()>
         ensures { OnOk result (Appends (E.contents messages.old) (E.contents messages.new) (trouble_text self ++ codes "\n")) }
     {
@@ -77,7 +77,7 @@ fn wanted(rpc: u16) -> u8
     }
 }
 
-// What is at fault of a procedure's number and its parameters.
+// The trouble of a procedure's number and its parameters; `NoForm` where they are a call's.
 fn call_trouble(rpc: u16, params: &[u8]) -> Trouble
     ensures { IsCallTrouble rpc params.now result }
 {
@@ -93,7 +93,7 @@ fn call_trouble(rpc: u16, params: &[u8]) -> Trouble
     }
 }
 
-// What is at fault of a procedure's parameters, which have this fault.
+// The trouble of a procedure's parameters that have this fault.
 fn list_trouble(rpc: u16, fault: ValueFault) -> Trouble
     ensures { result ≡ list_trouble rpc fault }
 {
@@ -103,8 +103,8 @@ fn list_trouble(rpc: u16, fault: ValueFault) -> Trouble
     }
 }
 
-/// Which field of a line is at fault, where the line is a faulty one of a station's text. `NoForm` comes also where the
-/// line isn't faulty by itself and gives no name.
+/// Which field of a line is at fault, where the line is a faulty one of a station's text. `NoForm` comes also for a command and
+/// for a line of a mode that aren't faulty.
 pub fn trouble_of(line: &[u8]) -> Trouble
     ensures { IsTrouble line.now result }
 {

@@ -4,6 +4,7 @@ use Rattle.hex.specs.Hex.{hex_digit_value, lower_digits, encode_with, encode_low
 use Rattle.hex.proofs.HexLemmas.{IsDigits-lower_digits}
 use Rattle.gc_values.specs.Byte.{IsByte, byte_text}
 
+-- equal digits have one value
 one_digit : (a b x y : ℕ) → a ≡ b → hex_digit_value a ≡ Some x → hex_digit_value b ≡ Some y → x ≡ y
 one_digit a b x y e p q = let f = ap hex_digit_value e in let s : ◌≡◌ {A = Option ℕ} (Some x) (Some y) = sym p ∙ f ∙ q in cc
 
@@ -17,7 +18,7 @@ one_byte text m n x y =
     let low = one_digit x.b y.b x.low y.low second x.low_is y.low_is in
     x.value ∙ ap (λ h. h * 16 + x.low) high ∙ ap (λ l. y.high * 16 + l) low ∙ sym y.value
 
--- what is written is read
+-- a byte's written text reads as the byte
 pub byte_reads : (n : ℕ) → n < 256 → IsByte (byte_text n) n
 byte_reads n small = record {
   a = slice_index lower_digits (n / 16);
@@ -30,6 +31,7 @@ byte_reads n small = record {
   value = omega arith;
 }
 
+-- encoding one byte gives its two digits
 pub encode_lower-one : (n : ℕ) → encode_lower (n ∷ []) ≡ slice_index lower_digits (n / 16) ∷ slice_index lower_digits (n % 16) ∷ []
 unfolding encode_with
 encode_lower-one n = refl

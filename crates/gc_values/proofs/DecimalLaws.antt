@@ -11,44 +11,46 @@ use Rattle.gc_values.proofs.ReadLemmas.{in_range_only, spells_once}
 use Rattle.gc_values.proofs.Rounded.{exact_rounds, rounds_to_one}
 use Rattle.gc_values.proofs.WrittenSpells.{written_spells}
 
--- what is written spells the decimal
+-- a decimal's written text spells the decimal
 pub written_spells_decimal : (d : Decimal) → Spells (written d.digits d.scale) d.digits d.scale
 written_spells_decimal d = written_spells d.digits d.scale d.is_canonical d.has_few_places
 
--- a text spells one decimal
+-- a text spells at most one decimal
 pub spells_unique : (text : List ℕ) (d e : Decimal) → Spells text d.digits d.scale → Spells text e.digits e.scale → d ≡ e
 spells_unique text d e x y = let same = spells_once text d.digits d.scale e.digits e.scale x y in same_decimal d e same.0 same.1
 
--- a text that spells a decimal has no fault
+-- a text that spells a decimal isn't out of range
 pub spells-no_range : (text : List ℕ) (d : Decimal) → Spells text d.digits d.scale → SpellsBeyond text → ⊥
 spells-no_range text d x beyond = in_range_only text d.digits d.scale x d.is_in_range beyond
 
+-- a text that spells a decimal has a number's form
 pub spells-no_spelling : (text : List ℕ) (d : Decimal) → Spells text d.digits d.scale → SpellsNothing text → ⊥
 spells-no_spelling text d x nothing = nothing x.0 x.1
 
--- a text has one fault
+-- a text has at most one fault
 pub one_fault : (text : List ℕ) → SpellsBeyond text → SpellsNothing text → ⊥
 one_fault text beyond nothing = nothing beyond.2.0 beyond.2.1
 
--- texts that are equal were written from equal decimals
+-- decimals with equal written texts are equal
 pub written_unique : (d e : Decimal) → written d.digits d.scale ≡ written e.digits e.scale → d ≡ e
 written_unique d e same =
     spells_unique (written d.digits d.scale) d e (written_spells_decimal d) (subst (λ text. Spells text e.digits e.scale) (sym same) (written_spells_decimal e))
 
--- a fraction rounds to one decimal
+-- a fraction rounds to at most one decimal
 pub rounding_unique : (q : Fraction) (p : ℕ) (d e : Decimal) → IsRounded q p d.digits d.scale → IsRounded q p e.digits e.scale → d ≡ e
 rounding_unique q p d e x y = let same = rounds_to_one q p d.digits d.scale e.digits e.scale x y in same_decimal d e same.0 same.1
 
--- a value has one decimal
+-- decimals of equal values are equal
 pub value_unique : (d e : Decimal) → SameValue d.digits d.scale e.digits e.scale → d ≡ e
 value_unique d e same =
     rounding_unique (fraction e) 24 d e (exact_rounds (fraction e) 24 d.digits d.scale d.is_canonical d.has_few_places same)
     (exact_rounds (fraction e) 24 e.digits e.scale e.is_canonical e.has_few_places refl)
 
+-- `==` holds of a decimal and itself
 decimal_eq_itself : (a : Decimal) → decimal_eq a a ≡ true
 decimal_eq_itself a = ap (λ t. t && (a.scale == a.scale)) ((signed_Decides a.digits a.digits).1 refl) ∙ (unsigned_Decides a.scale a.scale).1 refl
 
--- `==` tells equal decimals
+-- `==` holds exactly of equal decimals
 pub decimal_eq_is : (a b : Decimal) → IsTrue (decimal_eq a b) ↔ (a ≡ b)
 decimal_eq_is a b = (
   λ h. same_decimal a b ((signed_Decides a.digits b.digits).0 (first_so (int_eq a.digits b.digits) (a.scale == b.scale) h))

@@ -14,7 +14,7 @@ use Rattle.gc_values.proofs.Powers.{ten_pow_pos}
 use Rattle.gc_values.proofs.Rounded.{zeros_off, rounded_from}
 use Rattle.gc_values.proofs.Unique.{SameParts, same_parts, sign_once, digits_no_sign}
 
--- a point and the digits behind it
+-- each text that begins with no digit is cut into a fraction, or none, and a rest
 fraction_cut : (text : List ℕ) → StartsNoDigit text → (run : List ℕ) × (rest : List ℕ) × CutsFraction text run rest
 fraction_cut [] none = ([], [], record { fraction = None; text_is = refl; run_is = refl; digits = tt; no_point = λ _. tt; longest = tt })
 fraction_cut (b ∷ bs) none = elim (cases_eq b 46) [
@@ -34,6 +34,7 @@ fraction_cut (b ∷ bs) none = elim (cases_eq b 46) [
       )
 ]
 
+-- a text is one to three digits, or isn't
 short_or_not : (text : List ℕ) → Decided (IsShort text)
 short_or_not [] = inr (λ s. let some = s.some in omega (arith, some))
 short_or_not (b ∷ bs) = elim (cases_lt 3 (length (b ∷ bs))) [
@@ -44,10 +45,11 @@ short_or_not (b ∷ bs) = elim (cases_lt 3 (length (b ∷ bs))) [
   ]
 ]
 
--- an exponent's text, and that it is one or none
+-- the exponent, or none, that a text is
 abbrev ExponentOf : List ℕ → Type 0
 ExponentOf text = (e : Option Exponent) × IsExponent e × (text ≡ exponent_text e)
 
+-- behind an exponent's mark and sign stand its digits
 same_digits : (capital : Bool) (bs : List ℕ) (negative : Bool) (rest : List ℕ) → CutsSign bs negative rest → (e : Exponent) → IsShort e.digits
     → mark capital ∷ bs ≡ exponent_text (Some e) → rest ≡ e.digits
 same_digits capital bs negative rest cut e short is =
@@ -55,6 +57,7 @@ same_digits capital bs negative rest cut e short is =
     let bare : StartsNoSign e.digits = subst StartsNoSign (append-nil e.digits) (digits_no_sign e.digits [] short.digits_are short.some) in
     (sign_once cut.sign e.sign rest e.digits cut.first bare (sym cut.text_is ∙ behind)).1
 
+-- a text that begins with a mark is an exponent, or isn't
 marked : (capital : Bool) (bs : List ℕ) → Decided (ExponentOf (mark capital ∷ bs))
 marked capital bs =
     let cut = sign_cut bs in
@@ -66,6 +69,7 @@ marked capital bs =
       none other (None, form, is) = absurd (cc)
       none other (Some e, form, is) = let cut = sign_cut bs in other (subst IsShort (sym (same_digits capital bs cut.0 cut.1 cut.2 e form is)) form)
 
+-- a text that begins with no mark is no exponent
 no_mark : (b : ℕ) (bs : List ℕ) → (b ≡ 101 → ⊥) → (b ≡ 69 → ⊥) → ExponentOf (b ∷ bs) → ⊥
 no_mark b bs small large (None, form, is) = absurd (cc)
 no_mark b bs small large (Some e, form, is) = by_capital e.capital refl where
@@ -73,6 +77,7 @@ no_mark b bs small large (Some e, form, is) = by_capital e.capital refl where
   by_capital true same = let first : b ≡ mark e.capital = cc in large (first ∙ ap mark same)
   by_capital false same = let first : b ≡ mark e.capital = cc in small (first ∙ ap mark same)
 
+-- a text is an exponent or empty, or isn't
 exponent_or_not : (text : List ℕ) → Decided (ExponentOf text)
 exponent_or_not [] = inl (None, tt, refl)
 exponent_or_not (b ∷ bs) = elim (cases_eq b 101) [
@@ -83,11 +88,11 @@ exponent_or_not (b ∷ bs) = elim (cases_eq b 101) [
   ]
 ]
 
--- a number's text, in its parts
+-- the parts of a number whose text this is
 abbrev NumeralOf : List ℕ → Type 0
 NumeralOf text = (p : Parts) × IsNumeral p × (text ≡ spelling p)
 
--- what was cut off from the left
+-- a text cut from the left: sign, digits, fraction and rest
 record Cut (text : List ℕ) : Type 0 where
   negative : Bool
   behind_sign : List ℕ
@@ -99,6 +104,7 @@ record Cut (text : List ℕ) : Type 0 where
   digits : CutsDigits behind_sign whole behind_whole
   point : CutsFraction behind_whole fraction rest
 
+-- each text is cut into a sign, digits, a fraction and a rest, as `Cut` has them
 cut_of : (text : List ℕ) → Cut text
 cut_of text =
     let s = sign_cut text in
@@ -106,9 +112,11 @@ cut_of text =
     let f = fraction_cut d.1 d.2.longest in
     record { negative = s.0; behind_sign = s.1; whole = d.0; behind_whole = d.1; fraction = f.0; rest = f.1; sign = s.2; digits = d.2; point = f.2 }
 
+-- the parts of a numeral are those that were cut off
 cut_same : (text : List ℕ) (c : Cut text) (n : NumeralOf text) → SameParts c.negative c.whole c.fraction c.rest n.0
 cut_same text c n = same_parts text c.negative c.behind_sign c.whole c.behind_whole c.fraction c.rest c.sign c.digits c.point n.0 n.1 n.2
 
+-- with a digit, and an exponent or nothing as the rest, the parts that were cut off are a numeral
 numeral_made : (text : List ℕ) (c : Cut text) → 0 < length c.whole + length c.fraction → ExponentOf c.rest → NumeralOf text
 numeral_made text c some x = (
   record { sign = c.sign.sign; whole = c.whole; fraction = c.point.fraction; exponent = x.0 },
@@ -123,6 +131,7 @@ numeral_made text c some x = (
       ∙ ap (λ xs. c.whole ++ xs) (c.point.text_is ∙ ap (λ xs. fraction_text c.point.fraction ++ xs) x.2)),
 )
 
+-- a text is a numeral, or isn't
 numeral_or_not : (text : List ℕ) → Decided (NumeralOf text)
 numeral_or_not text =
     let c = cut_of text in
@@ -135,10 +144,11 @@ numeral_or_not text =
       ]
     ]
 
--- each fraction of a numeral is rounded
+-- the digits and the scale of what the text spells
 abbrev RoundedOf : List ℕ → Type 0
 RoundedOf text = (m : ℤ) × (s : ℕ) × Spells text m s
 
+-- each numeral's fraction is rounded
 rounded_of : (text : List ℕ) → NumeralOf text → RoundedOf text
 rounded_of text n =
     let p = n.0 in
@@ -149,6 +159,7 @@ rounded_of text n =
     let z = zeros_off (half_up (a * 10 ^ 24) (10 ^ k)) 24 in
     (signed neg z.0, z.1, (value p, (p, n.1, n.2, refl), rounded_from neg a k 24 (half_up (a * 10 ^ 24) (10 ^ k)) z.0 z.1 near z.2))
 
+-- each text spells a decimal, or no number, or one out of range
 pub each_decimal : (text : List ℕ) → ((d : Decimal) × Spells text d.digits d.scale) ⊎ (SpellsNothing text ⊎ SpellsBeyond text)
 each_decimal text = elim (numeral_or_not text) [
   | inr none ↦ inr (inl (λ q named. none (named.0, named.1, named.2)))

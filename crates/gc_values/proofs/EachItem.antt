@@ -21,14 +21,15 @@ use Rattle.gc_values.proofs.EachWhole.{Decided, whole_between}
 use Rattle.gc_values.proofs.ParamLists.{has_pieces, odd_or}
 use Rattle.gc_values.proofs.TextLemmas.{one_quoted}
 
--- an item is a value of the kind, or why it is none
+-- an item is read as a value of the kind, or has a fault for the kind
 abbrev pub IsReadOrFaulty : Kind → List ℕ → Type 0
 IsReadOrFaulty k item = ((v : Value) × (kind_of v ≡ k) × IsItem item v) ⊎ ((e : ValueFault) × IsItemFault k item e)
 
+-- the byte that an item is
 abbrev ByteOf : List ℕ → Type 0
 ByteOf item = (n : ℕ) × IsByte item n
 
--- two digits, or none
+-- two bytes between single quotes are a byte parameter, or aren't
 byte_or_not : (a b : ℕ) → Decided (ByteOf (39 ∷ a ∷ b ∷ 39 ∷ []))
 byte_or_not a b = by_high (hex_digit_value a) refl where
   by_low : (high : ℕ) → hex_digit_value a ≡ Some high → (low : Option ℕ) → hex_digit_value b ≡ low → Decided (ByteOf (39 ∷ a ∷ b ∷ 39 ∷ []))
@@ -39,9 +40,11 @@ byte_or_not a b = by_high (hex_digit_value a) refl where
   by_high (Some high) h = by_low high h (hex_digit_value b) refl
   by_high None h = inr (λ x. let same : a ≡ x.1.a = let e = x.1.text_is in cc in let is = x.1.high_is in let none = ap hex_digit_value same in absurd (cc))
 
+-- four bytes that aren't between single quotes are no byte parameter
 no_quoted_byte : (p a b q : ℕ) → (p ≡ 39 → q ≡ 39 → ⊥) → ByteOf (p ∷ a ∷ b ∷ q ∷ []) → ⊥
 no_quoted_byte p a b q none x = let e = x.1.text_is in none (let first : p ≡ 39 = cc in first) (let last : q ≡ 39 = cc in last)
 
+-- an item is a byte parameter, or isn't
 each_byte : (item : List ℕ) → Decided (ByteOf item)
 each_byte [] = inr (λ x. let e = x.1.text_is in absurd (cc))
 each_byte (p ∷ []) = inr (λ x. let e = x.1.text_is in absurd (cc))
@@ -56,19 +59,22 @@ each_byte (p ∷ a ∷ b ∷ q ∷ []) = elim (cases_eq p 39) [
   ]
 ]
 
--- what stands before a quote at the end
+-- the bytes before a double quote at the end of a text
 abbrev EndsInQuote : List ℕ → Type 0
 EndsInQuote text = (bytes : List ℕ) × (text ≡ bytes ++ 34 ∷ [])
 
+-- a byte other than a double quote doesn't end in one
 no_end : (b : ℕ) → b ≢ 34 → EndsInQuote (b ∷ []) → ⊥
 no_end b other ([], is) = other (let same : b ≡ 34 = cc in same)
 no_end b other (x ∷ [], is) = absurd (cc)
 no_end b other (x ∷ y ∷ xs, is) = absurd (cc)
 
+-- what ends in a double quote does so without its first byte
 end_behind : (b c : ℕ) (rest : List ℕ) → EndsInQuote (b ∷ c ∷ rest) → EndsInQuote (c ∷ rest)
 end_behind b c rest ([], is) = absurd (cc)
 end_behind b c rest (x ∷ xs, is) = (xs, let same : c ∷ rest ≡ xs ++ 34 ∷ [] = cc in same)
 
+-- a text ends in a double quote, or doesn't
 end_or_not : (text : List ℕ) → Decided (EndsInQuote text)
 end_or_not [] = inr none where
   none : EndsInQuote [] → ⊥
@@ -83,6 +89,7 @@ end_or_not (b ∷ c ∷ rest) = elim (end_or_not (c ∷ rest)) [
   | inr none ↦ inr (λ h. none (end_behind b c rest h))
 ]
 
+-- a byte may stand in a string, or may not
 string_byte_or_not : (b : ℕ) → Decided (IsStringByte b)
 string_byte_or_not b = elim (cases_eq b 34) [
   | inl quote ↦ inr (λ h. h.0 quote)
@@ -95,6 +102,7 @@ string_byte_or_not b = elim (cases_eq b 34) [
   ]
 ]
 
+-- bytes may all stand in a string, or not
 string_bytes_or_not : (bytes : List ℕ) → Decided (AreStringBytes bytes)
 string_bytes_or_not [] = inl tt
 string_bytes_or_not (b ∷ bs) = elim (string_byte_or_not b) [
@@ -102,9 +110,11 @@ string_bytes_or_not (b ∷ bs) = elim (string_byte_or_not b) [
   | inl plain ↦ elim (string_bytes_or_not bs) [ inl more ↦ inl (plain, more) | inr none ↦ inr (λ h. none h.1) ]
 ]
 
+-- the bytes of the string that an item is
 abbrev StringOf : List ℕ → Type 0
 StringOf item = (bytes : List ℕ) × IsString item bytes
 
+-- an item is a string, or isn't
 string_or_not : (item : List ℕ) → Decided (StringOf item)
 string_or_not [] = inr (λ s. let e = s.1.item_is in absurd (cc))
 string_or_not (b ∷ rest) = elim (cases_eq b 34) [
@@ -127,9 +137,11 @@ truth (pos (suc zero)) within = (true, refl)
 truth (pos (suc (suc n))) within = let high = within.1 in absurd (omega (arith, ints, high))
 truth (negsuc n) within = let low = within.0 in absurd (omega (arith, ints, low))
 
+-- an item that names 0 or 1 is a Boolean
 boolean_of : (item : List ℕ) → ((z : ℤ) × NamesWhole item z × IsBetween 0 1 z) → (b : Bool) × NamesBoolean item b
 boolean_of item found = let t = truth found.0 found.2 in (t.0, subst (NamesWhole item) t.1 found.1)
 
+-- each item is read as a value of each kind, or has a fault for it
 pub each_item : (k : Kind) (item : List ℕ) → IsReadOrFaulty k item
 each_item kind.Double item = elim (each_decimal item) [
   | inl found ↦ inl (value.Double found.0, refl, found.1)
@@ -163,7 +175,7 @@ each_item kind.Text item = elim (string_or_not item) [
   ]
 ]
 
--- items as many as kinds
+-- items as many as kinds are read as values of these kinds, or have a first fault
 items_read : (ks : List Kind) (items : List (List ℕ)) → length items ≡ length ks
     → ((vs : List Value) × (kinds_of vs ≡ ks) × AreItems items vs) ⊎ ((e : ValueFault) × FirstFault ks items e)
 items_read [] [] same = inl ([], refl, tt)
@@ -177,6 +189,7 @@ items_read (k ∷ ks) (item ∷ items) same = elim (each_item k item) [
   ]
 ]
 
+-- each split list is read as values of the kinds, or has a fault
 params_read : (ks : List Kind) (params : List ℕ) (items : List (List ℕ)) → IsParams params items → IsListRead ks params
 params_read ks params items split = elim (cases_lt 16 (length items)) [
   | inl many ↦ inr (fault.TooMany, faulty_items items split (too_many refl many))
@@ -189,6 +202,7 @@ params_read ks params items split = elim (cases_lt 16 (length items)) [
   ]
 ]
 
+-- bytes are spaces alone, or aren't
 spaces_or_not : (bytes : List ℕ) → Decided (AreSpaces bytes)
 spaces_or_not [] = inl (0, refl)
 spaces_or_not (b ∷ bs) = elim (cases_eq b 32) [
@@ -206,6 +220,7 @@ spaces_or_not (b ∷ bs) = elim (cases_eq b 32) [
   rest b bs none (zero, is) = absurd (cc)
   rest b bs none (suc n, is) = none (n, let same : bs ≡ replicate n 32 = cc in same)
 
+-- each list of parameters is read as values of the kinds, or has a fault
 pub each_list : (ks : List Kind) (params : List ℕ) → IsListRead ks params
 each_list ks params = elim (cases_eq (quotes params % 2) 0) [
   | inr odd ↦ inr (fault.OpenQuote, open_quote refl (odd_or (quotes params) odd))

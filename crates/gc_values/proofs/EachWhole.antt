@@ -9,10 +9,11 @@ use Rattle.gc_values.specs.Spelling.{Absent, Plus, Minus}
 use Rattle.gc_values.specs.Whole.{NamesNumber, NamesWhole, NamesNoWhole, NamesWholeBeyond, IsBetween}
 use Rattle.gc_values.proofs.WholeLemmas.{cut_names, names_cut}
 
--- it holds, or it doesn't
+-- something holds, or it doesn't
 abbrev pub Decided : Type 0 → Type 0
 Decided P = P ⊎ (P → ⊥)
 
+-- a byte is a digit, or isn't
 pub digit_or_not : (b : ℕ) → Decided (IsDigit b)
 digit_or_not b = elim (cases_lt b 48) [
   | inl below ↦ inr (λ d. let low = d.0 in omega (arith, below, low))
@@ -22,6 +23,7 @@ digit_or_not b = elim (cases_lt b 48) [
   ]
 ]
 
+-- a text is digits alone, or isn't
 pub digits_or_not : (text : List ℕ) → Decided (AreDigits text)
 digits_or_not [] = inl tt
 digits_or_not (b ∷ bs) = elim (digit_or_not b) [
@@ -29,7 +31,7 @@ digits_or_not (b ∷ bs) = elim (digit_or_not b) [
   | inl digit ↦ elim (digits_or_not bs) [ inl more ↦ inl (digit, more) | inr none ↦ inr (λ d. none d.1) ]
 ]
 
--- the longest run of digits
+-- each text is cut into its longest run of digits and a rest
 pub digits_cut : (text : List ℕ) → (run : List ℕ) × (rest : List ℕ) × CutsDigits text run rest
 digits_cut [] = ([], [], record { text_is = refl; digits = tt; longest = tt })
 digits_cut (b ∷ bs) = elim (digit_or_not b) [
@@ -39,7 +41,7 @@ digits_cut (b ∷ bs) = elim (digit_or_not b) [
       (b ∷ more.0, more.1, record { text_is = ap (λ xs. b ∷ xs) more.2.text_is; digits = (digit, more.2.digits); longest = more.2.longest })
 ]
 
--- a sign, where one stands first
+-- each text is cut into a sign, where one stands first, and a rest
 pub sign_cut : (text : List ℕ) → (negative : Bool) × (rest : List ℕ) × CutsSign text negative rest
 sign_cut [] = (false, [], record { sign = Absent; text_is = refl; negative_is = refl; first = λ _. tt })
 sign_cut (b ∷ bs) = elim (cases_eq b 43) [
@@ -50,6 +52,7 @@ sign_cut (b ∷ bs) = elim (cases_eq b 43) [
   ]
 ]
 
+-- a text writes a number, or none
 number_or_not : (text : List ℕ) → ((n : ℕ) × NamesNumber text n) ⊎ ((n : ℕ) → NamesNumber text n → ⊥)
 number_or_not [] = inr (λ n h. let some = h.some in absurd (omega (arith, some)))
 number_or_not (b ∷ bs) = elim (digits_or_not (b ∷ bs)) [
@@ -57,6 +60,7 @@ number_or_not (b ∷ bs) = elim (digits_or_not (b ∷ bs)) [
   | inr other ↦ inr (λ n h. other h.digits)
 ]
 
+-- a text writes a whole number, or none
 pub whole_or_not : (text : List ℕ) → ((z : ℤ) × NamesWhole text z) ⊎ NamesNoWhole text
 whole_or_not text =
     let cut = sign_cut text in
@@ -65,6 +69,7 @@ whole_or_not text =
       | inr none ↦ inr (λ z w. let r = names_cut text cut.1 cut.0 z cut.2 w in none r.0 r.1)
     ]
 
+-- a number is from -below to above, or isn't
 between_or_not : (below above : ℕ) (z : ℤ) → Decided (IsBetween below above z)
 between_or_not below above (pos n) = elim (cases_lt above n) [
   | inl far ↦ inr (λ b. let h = b.1 in omega (arith, ints, far, h))
@@ -75,7 +80,7 @@ between_or_not below above (negsuc n) = elim (cases_lt below (suc n)) [
   | inr near ↦ inl (omega (arith, ints, near), omega (arith, ints))
 ]
 
--- a whole number between the two, or none, or another one
+-- a text writes a whole number from -below to above, or no whole number, or another one
 pub whole_between : (below above : ℕ) (text : List ℕ) → ((z : ℤ) × NamesWhole text z × IsBetween below above z) ⊎ (NamesNoWhole text ⊎ NamesWholeBeyond below above text)
 whole_between below above text = elim (whole_or_not text) [
   | inr none ↦ inr (inl none)

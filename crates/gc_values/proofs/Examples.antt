@@ -4,11 +4,12 @@ use Rattle.gc_values.specs.Decimals.{decimal, rounded, is_within, zero}
 use Rattle.gc_values.specs.Written.{written}
 use Rattle.gc_values.proofs.DecimalLemmas.{same_decimal}
 
--- 1.99975 at 3 places is 2.0, and at 4 places 1.9998
+-- 1.99975 at 3 places is 2.0
 three_places : rounded (decimal (pos 199975) 5 refl) 3 ≡ decimal (pos 2) 0 refl
 unfolding rounded
 three_places = same_decimal _ _ refl refl
 
+-- 1.99975 at 4 places is 1.9998
 four_places : rounded (decimal (pos 199975) 5 refl) 4 ≡ decimal (pos 19998) 4 refl
 unfolding rounded
 four_places = same_decimal _ _ refl refl
@@ -18,11 +19,12 @@ half : rounded (decimal (pos 5) 1 refl) 0 ≡ decimal (pos 1) 0 refl
 unfolding rounded
 half = same_decimal _ _ refl refl
 
--- -0.05 at 1 place is -0.1, and -0.04 is 0.0
+-- -0.05 at 1 place is -0.1
 below_tie : rounded (decimal (negsuc 4) 2 refl) 1 ≡ decimal (negsuc 0) 1 refl
 unfolding rounded
 below_tie = same_decimal _ _ refl refl
 
+-- -0.04 at 1 place is 0.0
 below_nothing : rounded (decimal (negsuc 3) 2 refl) 1 ≡ zero
 unfolding rounded
 below_nothing = same_decimal _ _ refl refl
@@ -32,21 +34,24 @@ to_the_bound : rounded (decimal (pos 99999999999999) 1 refl) 0 ≡ decimal (pos 
 unfolding rounded
 to_the_bound = same_decimal _ _ refl refl
 
--- 0.5 and 0.0 are within 0.5, and 0.5 and 0.5 aren't within -0.1
+-- 0.5 and 0.0 are within 0.5
 within_half : is_within (decimal (pos 5) 1 refl) zero (decimal (pos 5) 1 refl) ≡ true
 unfolding is_within
 within_half = refl
 
+-- 0.5 and 0.5 aren't within -0.1
 within_nothing : is_within (decimal (pos 5) 1 refl) (decimal (pos 5) 1 refl) (decimal (negsuc 0) 1 refl) ≡ false
 unfolding is_within
 within_nothing = refl
 
--- 0.0, 125.0 and -3.25 as they are written
+-- how 0.0 is written
 zero_written : written (pos 0) 0 ≡ 48 ∷ 46 ∷ 48 ∷ []
 zero_written = refl
 
+-- how 125.0 is written
 whole_written : written (pos 125) 0 ≡ 49 ∷ 50 ∷ 53 ∷ 46 ∷ 48 ∷ []
 whole_written = refl
 
+-- how -3.25 is written
 below_written : written (negsuc 324) 2 ≡ 45 ∷ 51 ∷ 46 ∷ 50 ∷ 53 ∷ []
 below_written = refl

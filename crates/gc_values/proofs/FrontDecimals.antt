@@ -14,6 +14,7 @@ use Rattle.gc_values.proofs.ReadLemmas.{reads_value}
 use Rattle.gc_values.proofs.TextShape.{AreBare-append, bare_above, bare_digits, bare_param}
 use Rattle.gc_values.proofs.UnitsLemmas.{capped_short}
 
+-- where i digits were counted, and a digit follows that may be counted, i + 1 digits were
 pub counts_more : (front : ℕ) (text : List ℕ) (most value more i : ℕ) → CountsDigits front text most value i → i < length text → i < most
     → IsDigit (get_or text i 0) → more ≡ value * 10 + (get_or text i 0 - 48) → CountsDigits front text most more (i + 1)
 counts_more front text most value more i c inside few digit e = record {
@@ -23,7 +24,7 @@ counts_more front text most value more i c inside few digit e = record {
   value_is = followed_more front value more text i inside c.value_is e;
 }
 
--- there is room for one digit more
+-- while a digit may be counted, there is room for it in 64 bits
 pub counts_small : (front : ℕ) (text : List ℕ) (most value i : ℕ) → CountsDigits front text most value i → i < most → (front + 1) * 10 ^ most ≤ 10 ^ 18 → value * 10 + 10 ≤ 10 ^ 18
 counts_small front text most value i c inside room =
     let small : number (take i text) < 10 ^ length (take i text) = number-lt (take i text) c.digits in
@@ -32,7 +33,7 @@ counts_small front text most value i c inside room =
     let all : (front + 1) * 10 ^ (i + 1) ≤ (front + 1) * 10 ^ most = mul-le-mul_left {m = 10 ^ (i + 1)} {n = 10 ^ most} (front + 1) (ten_pow_le (i + 1) most (omega arith)) in
     omega (arith, c.value_is, small, ap (λ k. 10 ^ k) size, ap (λ p. (front + 1) * p) power, all, room)
 
--- the digits behind the point find room
+-- i digits before the point leave room for 18 - i behind it
 pub counts_room : (text : List ℕ) (most value i : ℕ) → CountsDigits 0 text most value i → i ≤ 18 → (value + 1) * 10 ^ (18 - i) ≤ 10 ^ 18
 counts_room text most value i c few =
     let small : number (take i text) < 10 ^ length (take i text) = number-lt (take i text) c.digits in
@@ -41,6 +42,7 @@ counts_room text most value i c few =
     let power : 10 ^ i * 10 ^ (18 - i) ≡ 10 ^ 18 = sym (pow-add 10 i (18 - i)) ∙ ap (λ k. 10 ^ k) (let sum : i + (18 - i) ≡ 18 = omega arith in sum) in
     omega (arith, most, power)
 
+-- digits, a point and digits, and then the end or a comma, are cut off as an item
 front_cut : (text w f tail : List ℕ) (rest : Option (List ℕ)) → text ≡ w ++ 46 ∷ (f ++ tail) → AreDigits w → AreDigits f → Stands tail [] rest → CutsPlain text (w ++ 46 ∷ f) rest
 front_cut text w f tail rest e is_w is_f stands = record {
   text_is = stood rest stands;
@@ -52,6 +54,7 @@ front_cut text w f tail rest e is_w is_f stands = record {
     stood None h = e ∙ ap (λ t. w ++ 46 ∷ (f ++ t)) h ∙ ap (λ t. w ++ 46 ∷ t) (append-nil f)
     stood (Some behind) h = e ∙ ap (λ t. w ++ 46 ∷ (f ++ t)) h ∙ sym (append_assoc w (46 ∷ f) (44 ∷ behind))
 
+-- few digits, a point and digits spell the decimal that their number and places make
 front_spells : (w f : List ℕ) (units : ℕ) (m : ℤ) (s : ℕ) → AreDigits w → AreDigits f → 0 < length w → length w ≤ 13 → length w + length f ≤ 18
     → units ≡ number (w ++ f) → MadeOf false units (length f) m s → Spells (w ++ 46 ∷ f) m s
 front_spells w f units m s is_w is_f some short few e made =
@@ -73,7 +76,7 @@ front_spells w f units m s is_w is_f some short few e made =
     (capped_short (w ++ f) (length f) 0 0 (10 ^ 37 + 1) units digits (omega (arith, size)) (omega (arith, size)) refl refl (lit≤ tt) e)
     (omega (arith, e, below, most, pow-add 10 13 (length f))) made
 
--- digits, a point and digits at the front
+-- where digits, a point and digits were counted, and the end or a comma stands behind them, a decimal was cut off
 pub front_found : (text behind tail : List ℕ) (at places whole value : ℕ) (rest : Option (List ℕ)) (d : Decimal) → CountsDigits 0 text 13 whole at → 0 < at
     → at < length text → get_or text at 0 ≡ 46 → behind ≡ drop (at + 1) text
     → CountsDigits whole behind (18 - at) value places → tail ≡ drop places behind → Stands tail [] rest → MadeOf false value places d.digits d.scale → CutsDecimal text d rest
@@ -96,7 +99,7 @@ front_found text behind tail at places whole value rest d a some inside point be
           (omega (arith, long_w, long_f)) number_is (subst (λ k. MadeOf false value k d.digits d.scale) (sym long_f) made);
     }
 
--- the number that was counted from the front is in range
+-- the number that was counted before and behind the point is in range
 pub front_range : (text behind : List ℕ) (at places whole value : ℕ) → CountsDigits 0 text 13 whole at → CountsDigits whole behind (18 - at) value places → value ≤ 10 ^ 13 * 10 ^ places
 front_range text behind at places whole value a b =
     let small_a : number (take at text) < 10 ^ length (take at text) = number-lt (take at text) a.digits in
@@ -108,7 +111,7 @@ front_range text behind at places whole value a b =
     let all : (whole + 1) * 10 ^ places ≤ 10 ^ 13 * 10 ^ places = mul-le-mul_right {m = whole + 1} {n = 10 ^ 13} (10 ^ places) (omega (arith, a.value_is, small_a, ap (λ k. 10 ^ k) long_w, most)) in
     omega (arith, b.value_is, small_b, ap (λ k. 10 ^ k) long_f, all)
 
--- digits at the front
+-- where digits were counted, and the end or a comma stands behind them, a whole number was cut off
 pub number_found : (text tail : List ℕ) (count n : ℕ) (rest : Option (List ℕ)) → CountsDigits 0 text 18 n count → 0 < count → tail ≡ drop count text → Stands tail [] rest → CutsNumber text n rest
 number_found text tail count n rest c some tail_is stands =
     let ds : List ℕ = take count text in

@@ -21,7 +21,7 @@ use Rattle.gc_values.proofs.WholeLemmas.{one_whole}
 use Rattle.gc_values.proofs.WholeText.{signed_reads, boolean_between, boolean_reads}
 use Rattle.gc_values.proofs.WrittenSpells.{written_spells}
 
--- what is written is read
+-- a value's written text reads as the value
 pub written_is_read : (v : Value) → IsValue v → IsItem (text v) v
 written_is_read (value.Double d) h = written_spells d.digits d.scale d.is_canonical d.has_few_places
 written_is_read (value.Long z) h = (signed_reads z, h)
@@ -30,16 +30,18 @@ written_is_read (value.Byte n) h = byte_reads n h
 written_is_read (value.Bool b) h = boolean_reads b
 written_is_read (value.Text bytes) h = record { string = record { item_is = refl; plain = h.plain }; few = h.few }
 
+-- an item that equals a value's written text is read as the value
 pub written_reads : (v : Value) (item : List ℕ) → item ≡ text v → IsValue v → IsItem item v
 written_reads v item e h = subst (λ t. IsItem t v) (sym e) (written_is_read v h)
 
+-- Booleans of one number are one
 one_boolean : (a b : Bool) → pos (number_of a) ≡ pos (number_of b) → a ≡ b
 one_boolean true true e = refl
 one_boolean false false e = refl
 one_boolean true false e = let h : ◌≡◌ {A = ℕ} 1 0 = cc in absurd (omega (arith, h))
 one_boolean false true e = let h : ◌≡◌ {A = ℕ} 0 1 = cc in absurd (omega (arith, h))
 
--- an item is one value of a kind
+-- an item is at most one value of a kind
 pub one_value : (v w : Value) (item : List ℕ) → kind_of v ≡ kind_of w → IsItem item v → IsItem item w → v ≡ w
 one_value (value.Double d) (value.Double d') item e x y = let s = spells_once item d.digits d.scale d'.digits d'.scale x y in ap (λ z. value.Double z) (same_decimal d d' s.0 s.1)
 one_value (value.Long n) (value.Long m) item e x y = ap (λ z. value.Long z) (one_whole item n m x.0 y.0)
@@ -49,9 +51,11 @@ one_value (value.Bool a) (value.Bool b) item e x y = ap (λ z. value.Bool z) (on
 one_value (value.Text t) (value.Text u) item e x y = ap (λ z. value.Text z) (one_string item t u x.string y.string)
 one_value v w item e x y = absurd (cc)
 
+-- a whole number that is in range isn't out of it
 not_beyond : (item : List ℕ) (z : ℤ) (below above : ℕ) → NamesWhole item z → IsBetween below above z → NamesWholeBeyond below above item → ⊥
 not_beyond item z below above w h far = far.2 (subst (λ y. IsBetween below above y) (one_whole item z far.0 w far.1) h)
 
+-- a string of at most 64 bytes isn't a longer one
 not_long : (item bytes : List ℕ) → IsTextItem item bytes → IsLongString item → ⊥
 not_long item bytes t long = let same = one_string item bytes long.0 t.string long.1 in let few = t.few in let many = long.2 in omega (arith, few, many, ap length same)
 
@@ -73,12 +77,12 @@ item_is_in_range (value.Byte n) item x f = f
 item_is_in_range (value.Bool b) item x f = not_beyond item (pos (number_of b)) 0 1 x (boolean_between b) f
 item_is_in_range (value.Text t) item x f = not_long item t x f
 
--- an item of a value has no fault
+-- an item of a value has no fault for the value's kind
 pub item_has_no_fault : (v : Value) (item : List ℕ) (e : ValueFault) → IsItem item v → IsItemFault (kind_of v) item e → ⊥
 item_has_no_fault v item e x (inl f) = item_has_form v item x f.1
 item_has_no_fault v item e x (inr f) = item_is_in_range v item x f.1
 
--- what has no form isn't beyond its range
+-- an item that hasn't the form of its kind isn't out of the kind's range
 no_form_not_beyond : (k : Kind) (item : List ℕ) → HasNoForm k item → IsBeyond k item → ⊥
 no_form_not_beyond kind.Double item none far = none far.2.0 far.2.1
 no_form_not_beyond kind.Long item none far = none far.0 far.1
@@ -87,14 +91,14 @@ no_form_not_beyond kind.Byte item none far = far
 no_form_not_beyond kind.Bool item none far = none far.0 far.1
 no_form_not_beyond kind.Text item none far = none far.0 far.1
 
--- an item has one fault
+-- an item has at most one fault for a kind
 pub one_fault : (k : Kind) (item : List ℕ) (e f : ValueFault) → IsItemFault k item e → IsItemFault k item f → e ≡ f
 one_fault k item e f (inl x) (inl y) = x.0 ∙ sym y.0
 one_fault k item e f (inl x) (inr y) = absurd (no_form_not_beyond k item x.1 y.1)
 one_fault k item e f (inr x) (inl y) = absurd (no_form_not_beyond k item y.1 x.1)
 one_fault k item e f (inr x) (inr y) = x.0 ∙ sym y.0
 
--- what the reader of doubles says of its faults is the row of doubles
+-- where a result's faults are those of a decimal's reader, each is a fault of the item for the kind `Double`
 pub double_fault : (r : Result Decimal ValueFault) (item : List ℕ) → IfErr r
     (λ e. (e ≡ fault.Range) ⊎ (e ≡ fault.Spelling)) → (r ≡ Err fault.Range → SpellsBeyond item) → (r ≡ Err fault.Spelling → SpellsNothing item)
     → IfErr r (λ e. IsItemFault kind.Double item e)
@@ -102,9 +106,11 @@ double_fault (Ok d) item h range spelling = h
 double_fault (Err e) item (inl is) range spelling = inr (is, range (ap Err is))
 double_fault (Err e) item (inr is) range spelling = inl (is, spelling (ap Err is))
 
+-- a hexadecimal digit's value is below 16
 hex_digit_value-small : (c v : ℕ) → hex_digit_value c ≡ Some v → v < 16
 hex_digit_value-small c v h = grind arith
 
+-- a byte parameter's value is below 256
 byte_fits : (item : List ℕ) (n : ℕ) → IsByte item n → n < 256
 byte_fits item n x =
     let high = hex_digit_value-small x.a x.high x.high_is in
@@ -112,7 +118,7 @@ byte_fits item n x =
     let value = x.value in
     omega arith
 
--- what an item is read as lies in its kind's range
+-- a value that an item is read as lies in its kind's range
 pub item_is_value : (v : Value) (item : List ℕ) → IsItem item v → IsValue v
 item_is_value (value.Double d) item x = tt
 item_is_value (value.Long z) item x = x.1

@@ -11,30 +11,36 @@ use Rattle.gc_values.specs.KeptDigits.{digit_or_zero, kept, carry, kept_and_roun
 use Rattle.gc_values.proofs.Powers.{ten_pow_le}
 use Rattle.gc_values.proofs.Rounding.{RoundsHalfUp, rounds_same_value, rounds_whole, rounds_down, rounds_up}
 
+-- the number of digits with others behind them is the first ones' number, moved by the others' places, and the others' number added
 pub number-append : (xs ys : List ℕ) → number (xs ++ ys) ≡ number xs * 10 ^ length ys + number ys
 number-append [] ys = omega arith
 number-append (x ∷ xs) ys =
     let place : 10 ^ length (xs ++ ys) ≡ 10 ^ length xs * 10 ^ length ys = ap (λ n. 10 ^ n) (length-append xs ys) ∙ pow-add 10 (length xs) (length ys) in
     omega (arith, number-append xs ys, ap (λ p. (x - 48) * p) place)
 
+-- the number of n digits is below 10^n
 pub number-lt : (ds : List ℕ) → AreDigits ds → number ds < 10 ^ length ds
 number-lt [] h = omega arith
 number-lt (b ∷ bs) h =
     let most : (b - 48) * 10 ^ length bs ≤ 9 * 10 ^ length bs = mul-le-mul_right {m = b - 48} {n = 9} (10 ^ length bs) (omega arith) in
     omega (arith, number-lt bs h.1, most, pow-suc 10 (length bs))
 
+-- the first 0 digits write 0
 pub kept_none : (ds : List ℕ) → kept ds 0 ≡ 0
 unfolding kept
 kept_none ds = omega arith
 
+-- where there are that many digits, the number is that of the first i
 kept_within : (ds : List ℕ) (i : ℕ) → i ≤ length ds → kept ds i ≡ number (take i ds)
 unfolding kept
 kept_within ds i h = let e : i - length ds ≡ 0 = omega arith in rw e (omega arith)
 
+-- where there are fewer digits, the number is that of all, with zeros behind it
 kept_past : (ds : List ℕ) (i : ℕ) → length ds ≤ i → kept ds i ≡ number ds * 10 ^ (i - length ds)
 unfolding kept
 kept_past ds i h = rw (take_all i ds h) refl
 
+-- one more digit makes the number ten times as large, and adds its own value
 pub kept_more : (ds : List ℕ) (i : ℕ) → kept ds (i + 1) ≡ kept ds i * 10 + digit_or_zero ds i
 kept_more ds i = elim (cases_lt i (length ds)) [
   | inl inside ↦
@@ -46,12 +52,13 @@ kept_more ds i = elim (cases_lt i (length ds)) [
       omega (arith, kept_past ds (i + 1) (omega arith), kept_past ds i past, ap (λ p. number ds * p) power, get_or_past ds i 48 past)
 ]
 
+-- digits without their first k are digits
 AreDigits-drop : (ds : List ℕ) (k : ℕ) → AreDigits ds → AreDigits (drop k ds)
 AreDigits-drop ds zero h = h
 AreDigits-drop [] (suc k) h = h
 AreDigits-drop (d ∷ ds) (suc k) h = AreDigits-drop ds k h.1
 
--- k digits, one more, and the others
+-- digits, of which those from one on are cut off, are rounded by that one
 cut_round : (xs : List ℕ) (c : ℕ) (ys : List ℕ) (m : ℕ) → AreDigits (c ∷ ys) → (c - 48 < 5 → m ≡ number xs) → (5 ≤ c - 48 → m ≡ number xs + 1) →
     RoundsHalfUp (number (xs ++ c ∷ ys) * 10 ^ length xs) (10 ^ length (xs ++ c ∷ ys)) m
 cut_round xs c ys m digits is_low is_high =
@@ -69,13 +76,15 @@ cut_round xs c ys m digits is_low is_high =
     ] in
     rounds_same_value _ (10 * u) _ _ m (omega arith) (one-le-pow (length (xs ++ c ∷ ys)) 10 (lit< tt)) (rw (size, whole) (omega arith)) here
 
+-- a digit below 5 adds nothing
 low_digit : (d : ℕ) → d < 5 → carry d ≡ 0
 low_digit d h = grind (arith, nat_tests)
 
+-- a digit from 5 on adds 1
 high_digit : (d : ℕ) → 5 ≤ d → carry d ≡ 1
 high_digit d h = grind (arith, nat_tests)
 
--- The number that k digits keep is the rounded value of the digits, moved k places.
+-- the number that k digits keep, the next one rounded in, is the rounded value of the digits, moved k places
 pub rounds_digits : (ds : List ℕ) (k : ℕ) → AreDigits ds → RoundsHalfUp (number ds * 10 ^ k) (10 ^ length ds) (kept_and_rounded ds k)
 rounds_digits ds k digits = elim (cases_lt k (length ds)) [
   | inl inside ↦
@@ -98,34 +107,40 @@ rounds_digits ds k digits = elim (cases_lt k (length ds)) [
       subst (λ a. RoundsHalfUp a (10 ^ length ds) (kept_and_rounded ds k)) whole (rounds_whole (kept_and_rounded ds k) (10 ^ length ds) (one-le-pow (length ds) 10 (lit< tt)))
 ]
 
--- each digit is one
+-- the element of digits at a place is a digit
 pub AreDigits-at : (ds : List ℕ) (i : ℕ) (d : ℕ) → AreDigits ds → i < length ds → IsDigit (get_or ds i d)
 AreDigits-at [] i d h lt = absurd (omega arith)
 AreDigits-at (b ∷ bs) zero d h lt = h.0
 AreDigits-at (b ∷ bs) (suc i) d h lt = AreDigits-at bs i d h.1 (omega arith)
 
+-- digits behind digits are digits
 pub AreDigits-append : (xs ys : List ℕ) → AreDigits xs → AreDigits ys → AreDigits (xs ++ ys)
 AreDigits-append [] ys h k = k
 AreDigits-append (x ∷ xs) ys h k = (h.0, AreDigits-append xs ys h.1 k)
 
+-- an element that is there doesn't depend on the default
 get_or_default : (xs : List ℕ) (i : ℕ) (d e : ℕ) → i < length xs → get_or xs i d ≡ get_or xs i e
 get_or_default [] i d e h = absurd (omega arith)
 get_or_default (x ∷ xs) zero d e h = refl
 get_or_default (x ∷ xs) (suc i) d e h = get_or_default xs i d e (omega arith)
 
+-- a place of the first run is that place of both in a row
 pub at_first : (xs ys : List ℕ) (i : ℕ) → i < length xs → get_or xs i 0 - 48 ≡ digit_or_zero (xs ++ ys) i
 at_first xs ys i h = ap (λ b. b - 48) (get_or_default xs i 0 48 h ∙ sym (get_or-append xs ys 48 i h))
 
+-- a place behind the first run is one of the second
 pub at_second : (xs ys : List ℕ) (i : ℕ) → length xs ≤ i → i - length xs < length ys → get_or ys (i - length xs) 0 - 48 ≡ digit_or_zero (xs ++ ys) i
 at_second xs ys i h h' = ap (λ b. b - 48) (get_or_default ys (i - length xs) 0 48 h' ∙ sym (get_or-append_right xs ys i 48 h))
 
+-- behind both runs stands 0
 pub at_neither : (xs ys : List ℕ) (i : ℕ) → length xs ≤ i → length ys ≤ i - length xs → 0 ≡ digit_or_zero (xs ++ ys) i
 at_neither xs ys i h h' = ap (λ b. b - 48) (sym (get_or_past ys (i - length xs) 48 h') ∙ sym (get_or-append_right xs ys i 48 h))
 
+-- the element of digits at a place is at least '0'
 pub is_digit : (ds : List ℕ) (i : ℕ) → AreDigits ds → i < length ds → 48 ≤ get_or ds i 0
 is_digit ds i h lt = (AreDigits-at ds i 0 h lt).0
 
--- behind the last digit zeros are written
+-- past the last digit, zeros are written and nothing is rounded in
 pub kept_behind : (ds : List ℕ) (i : ℕ) → length ds ≤ i → kept_and_rounded ds i ≡ kept ds (length ds) * 10 ^ (i - length ds)
 kept_behind ds i h =
     let none : carry (digit_or_zero ds i) ≡ 0 = low_digit (digit_or_zero ds i) (omega (arith, get_or_past ds i 48 h)) in
@@ -133,7 +148,7 @@ kept_behind ds i h =
     let past : kept ds i ≡ number ds * 10 ^ (i - length ds) = kept_past ds i h in
     omega (arith, ap (λ n. n * 10 ^ (i - length ds)) all)
 
--- a product at the cap, where the factor is at the cap already
+-- where a factor is at the cap or above, cutting it at the cap leaves the product, cut at the cap, the same
 min_mul_at : (cap n p : ℕ) → 0 < p → cap ≤ n → min cap (min cap n * p) ≡ min cap (n * p)
 min_mul_at cap n p some at =
     let left : cap * 1 ≤ cap * p = mul-le-mul_left {m = 1} {n = p} cap some in
@@ -141,6 +156,7 @@ min_mul_at cap n p some at =
     let factor : min cap n * p ≡ cap * p = ap (λ x. x * p) (let e : min cap n ≡ cap = omega arith in e) in
     omega arith
 
+-- cutting a factor at the cap leaves the product, cut at the cap, the same
 pub min_mul : (cap n p : ℕ) → 0 < p → min cap (min cap n * p) ≡ min cap (n * p)
 min_mul cap n p some = elim (cases_lt n cap) [
   | inl below ↦ ap (λ x. min cap (x * p)) (let e : min cap n ≡ n = omega arith in e)
@@ -157,33 +173,36 @@ min_pow_many cap (suc n) top z large past =
     let high : 1 * 10 ^ z ≤ suc n * 10 ^ z = mul-le-mul_right {m = 1} {n = suc n} (10 ^ z) (omega arith) in
     omega (arith, ap (λ x. suc n * x) same)
 
+-- where 10^top is at the cap or above, cutting the number of zeros at `top` leaves the product, cut at the cap, the same
 pub min_pow : (cap n top z : ℕ) → cap ≤ 10 ^ top → min cap (n * 10 ^ min z top) ≡ min cap (n * 10 ^ z)
 min_pow cap n top z large = elim (cases_lt top z) [
   | inl past ↦ min_pow_many cap n top z large past
   | inr within ↦ ap (λ e. min cap (n * 10 ^ e)) (let e : min z top ≡ z = omega arith in e)
 ]
 
+-- the first i digits and a further digit are digits
 AreDigits-take_suc : (ds : List ℕ) (i : ℕ) → AreDigits (take i ds) → i < length ds → IsDigit (get_or ds i 0) → AreDigits (take (suc i) ds)
 AreDigits-take_suc [] i h lt d = tt
 AreDigits-take_suc (b ∷ bs) zero h lt d = (d, tt)
 AreDigits-take_suc (b ∷ bs) (suc i) h lt d = (h.0, AreDigits-take_suc bs i h.1 (omega arith) d)
 
--- one digit more
+-- the first i digits and a further digit are digits, where their count is written i + 1
 pub AreDigits-take_more : (ds : List ℕ) (i : ℕ) → AreDigits (take i ds) → i < length ds → IsDigit (get_or ds i 0) → AreDigits (take (i + 1) ds)
 AreDigits-take_more ds i h lt d = rw add-one (AreDigits-take_suc ds i h lt d)
 
--- one digit more of a number
+-- a further digit makes the number ten times as large, and adds its own value
 pub number-take_more : (ds : List ℕ) (i : ℕ) → i < length ds → number (take (i + 1) ds) ≡ number (take i ds) * 10 + (get_or ds i 0 - 48)
 number-take_more ds i inside =
     let pushed : take (i + 1) ds ≡ take i ds ++ (get_or ds i 0 ∷ []) = rw add-one (take-suc ds i 0 inside) in
     omega (arith, ap number pushed, number-append (take i ds) (get_or ds i 0 ∷ []))
 
+-- the first i digits are digits
 AreDigits-take : (ds : List ℕ) (i : ℕ) → AreDigits ds → AreDigits (take i ds)
 AreDigits-take ds zero h = tt
 AreDigits-take [] (suc i) h = tt
 AreDigits-take (d ∷ ds) (suc i) h = (h.0, AreDigits-take ds i h.1)
 
--- a front and the digits behind it, one at a time
+-- one more digit behind a front makes the number ten times as large, and adds its own value
 pub followed_more : (front value more : ℕ) (ds : List ℕ) (i : ℕ) → i < length ds → value ≡ front * 10 ^ i + number (take i ds)
     → more ≡ value * 10 + (get_or ds i 0 - 48) → more ≡ front * 10 ^ (i + 1) + number (take (i + 1) ds)
 followed_more front value more ds i inside e f =
@@ -199,7 +218,7 @@ followed_small front value ds i digits inside e room =
     let all : (front + 1) * 10 ^ i ≤ (front + 1) * 10 ^ length ds = mul-le-mul_left {m = 10 ^ i} {n = 10 ^ length ds} (front + 1) most in
     omega (arith, e, small, ap (λ k. 10 ^ k) size, all, room)
 
--- few digits in two runs
+-- at most 18 digits in two runs leave room for the second behind the first
 pub room_behind : (ws fs : List ℕ) → AreDigits ws → length ws + length fs ≤ 18 → (number ws + 1) * 10 ^ length fs ≤ 10 ^ 18
 room_behind ws fs digits few =
     let most : (number ws + 1) * 10 ^ length fs ≤ 10 ^ length ws * 10 ^ length fs =

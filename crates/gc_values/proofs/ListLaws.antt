@@ -12,6 +12,7 @@ use Rattle.gc_values.proofs.ItemLaws.{item_has_no_fault, item_is_value, one_faul
 use Rattle.gc_values.proofs.ParamLists as splitting
 use Rattle.gc_values.proofs.TextShape.{joined_splits}
 
+-- items are at most one list of values of given kinds
 pub one_list : (vs ws : List Value) (items : List (List ℕ)) → kinds_of vs ≡ kinds_of ws → AreItems items vs → AreItems items ws → vs ≡ ws
 one_list [] [] items e x y = refl
 one_list [] (w ∷ ws) items e x y = absurd (cc)
@@ -22,18 +23,21 @@ one_list (v ∷ vs) (w ∷ ws) (item ∷ items) e x y =
     let rest : kinds_of vs ≡ kinds_of ws = cc in
     cc (one_value v w item first x.0 y.0, one_list vs ws items rest x.1 y.1)
 
+-- items that are read as values have no fault for the values' kinds
 pub no_first_fault : (vs : List Value) (items : List (List ℕ)) (e : ValueFault) → AreItems items vs → FirstFault (kinds_of vs) items e → ⊥
 no_first_fault [] items e x f = f
 no_first_fault (v ∷ vs) [] e x f = f
 no_first_fault (v ∷ vs) (item ∷ items) e x (inl f) = item_has_no_fault v item e x.0 f
 no_first_fault (v ∷ vs) (item ∷ items) e x (inr f) = no_first_fault vs items e x.1 f.3
 
+-- items that are read as values are as many as the kinds
 pub same_count : (vs : List Value) (items : List (List ℕ)) → AreItems items vs → length items ≡ length (kinds_of vs)
 same_count [] [] x = refl
 same_count [] (item ∷ items) x = absurd x
 same_count (v ∷ vs) [] x = absurd x
 same_count (v ∷ vs) (item ∷ items) x = ap (λ n. suc n) (same_count vs items x.1)
 
+-- items have at most one first fault
 pub one_first_fault : (ks : List Kind) (items : List (List ℕ)) (e f : ValueFault) → FirstFault ks items e → FirstFault ks items f → e ≡ f
 one_first_fault [] items e f x y = absurd x
 one_first_fault (k ∷ ks) [] e f x y = absurd x
@@ -42,6 +46,7 @@ one_first_fault (k ∷ ks) (item ∷ items) e f (inl x) (inr y) = absurd (item_h
 one_first_fault (k ∷ ks) (item ∷ items) e f (inr x) (inl y) = absurd (item_has_no_fault x.0 item f x.2 (subst (λ q. IsItemFault q item f) (sym x.1) y))
 one_first_fault (k ∷ ks) (item ∷ items) e f (inr x) (inr y) = one_first_fault ks items e f x.3 y.3
 
+-- items have at most one fault for kinds
 one_items_fault : (ks : List Kind) (items : List (List ℕ)) (e f : ValueFault) → IsItemsFault ks items e → IsItemsFault ks items f → e ≡ f
 one_items_fault ks items e f (too_many a n) (too_many b m) = a ∙ sym b
 one_items_fault ks items e f (too_many a n) (wrong_count b m d) = absurd (omega arith)
@@ -53,51 +58,58 @@ one_items_fault ks items e f (faulty_item n s x) (too_many b m) = absurd (omega 
 one_items_fault ks items e f (faulty_item n s x) (wrong_count b m d) = absurd (d s)
 one_items_fault ks items e f (faulty_item n s x) (faulty_item m t y) = one_first_fault ks items e f x y
 
+-- no number is odd and even
 odd_even : (n : ℕ) → n % 2 ≡ 1 → n % 2 ≡ 0 → ⊥
 odd_even n a b = omega arith
 
+-- a list has at most one fault for kinds
 pub one_list_fault : (ks : List Kind) (params : List ℕ) (e f : ValueFault) → IsListFault ks params e → IsListFault ks params f → e ≡ f
 one_list_fault ks params e f (open_quote a o) (open_quote b p) = a ∙ sym b
 one_list_fault ks params e f (open_quote a o) (faulty_items items s y) = absurd (odd_even (quotes params) o (splitting.params_even params items s))
 one_list_fault ks params e f (faulty_items items s x) (open_quote b p) = absurd (odd_even (quotes params) p (splitting.params_even params items s))
 one_list_fault ks params e f (faulty_items items s x) (faulty_items others t y) = one_items_fault ks items e f x (subst (λ i. IsItemsFault ks i f) (splitting.one_list params others items t s) y)
 
+-- a list is at most one list of values of given kinds
 pub one_values : (vs ws : List Value) (params : List ℕ) → kinds_of vs ≡ kinds_of ws → AreParams params vs → AreParams params ws → vs ≡ ws
 one_values vs ws params e x y = one_list vs ws x.items e x.read (subst (λ i. AreItems i ws) (splitting.one_list params y.items x.items y.split x.split) y.read)
 
+-- there are as many kinds as values
 pub length_kinds : (vs : List Value) → length (kinds_of vs) ≡ length vs
 length_kinds [] = refl
 length_kinds (v ∷ vs) = ap (λ n. suc n) (length_kinds vs)
 
+-- items that are read as at most six values have no fault
 no_items_fault : (vs : List Value) (items : List (List ℕ)) (e : ValueFault) → length vs ≤ 6 → AreItems items vs → IsItemsFault (kinds_of vs) items e → ⊥
 no_items_fault vs items e few x (too_many b m) = omega (arith, same_count vs items x, length_kinds vs)
 no_items_fault vs items e few x (wrong_count b m d) = d (same_count vs items x)
 no_items_fault vs items e few x (faulty_item m s y) = no_first_fault vs items e x y
 
--- values that parameters are have no fault
+-- a list that is read as at most six values has no fault
 pub no_list_fault : (vs : List Value) (params : List ℕ) (e : ValueFault) → length vs ≤ 6 → AreParams params vs → IsListFault (kinds_of vs) params e → ⊥
 no_list_fault vs params e few x (open_quote a o) = odd_even (quotes params) o (splitting.params_even params x.items x.split)
 no_list_fault vs params e few x (faulty_items items s y) = no_items_fault vs items e few (subst (λ i. AreItems i vs) (splitting.one_list params x.items items x.split s) x.read) y
 
+-- the texts of values are read as the values
 texts_read : (vs : List Value) → AreValues vs → AreItems (map text vs) vs
 texts_read [] h = tt
 texts_read (v ∷ vs) h = (written_is_read v h.0, texts_read vs h.1)
 
--- the texts that are written are read as the values
+-- the joined texts of values are read as the values
 pub written_reads : (vs : List Value) → AreValues vs → AreParams (joined (map text vs)) vs
 written_reads vs h = record { items = map text vs; split = joined_splits vs h; read = texts_read vs h }
 
+-- values that items are read as lie in their ranges
 items_fit : (vs : List Value) (items : List (List ℕ)) → AreItems items vs → AreValues vs
 items_fit [] [] x = tt
 items_fit [] (item ∷ items) x = absurd x
 items_fit (v ∷ vs) [] x = absurd x
 items_fit (v ∷ vs) (item ∷ items) x = (item_is_value v item x.0, items_fit vs items x.1)
 
--- what is read lies in its range
+-- values that a list is read as lie in their ranges
 pub params_fit : (vs : List Value) (params : List ℕ) → AreParams params vs → AreValues vs
 params_fit vs params x = items_fit vs x.items x.read
 
--- what splitting refuses
+-- a refusal of splitting is a fault of the list
 pub split_fault : {X : Type 0} (r : Result X ValueFault) (ks : List Kind) (params : List ℕ) (e : ValueFault) → r ≡ Err e → ((e ≡ OpenQuote) ⊎ (e ≡ TooMany))
     → (r ≡ Err OpenQuote → quotes params % 2 ≡ 1) → (r ≡ Err TooMany → (items : List (List ℕ)) × IsParams params items × (16 < length items))
     → IsListFault ks params e

@@ -3,7 +3,7 @@ use Rattle.std.proofs.Common.{◌≡◌, zero, suc, ◌*◌, ◌^◌, ◌≤◌,
 use mir.Syntax.{w128}
 use Rattle.std.proofs.lemmas.Int.{ints, to_z-of_z, fits_signed_from_abs, unsigned_abs-mul}
 use Rattle.gc_values.specs.Decimals.{units}
-use Rattle.gc_values.specs.Directions.{turn, v_of, hz_of, is_apart, is_apart_turned, is_apart_on_circle, is_near, NearIsWithinTheTolerance}
+use Rattle.gc_values.specs.Directions.{turn, v_of, hz_of, is_close, is_close_turned, is_close_on_circle, is_near, NearIsWithinTheTolerance}
 use Rattle.gc_values.specs.declared.decimal.Decimal.{Decimal}
 use Rattle.gc_values.specs.declared.direction.Direction.{Direction}
 
@@ -11,16 +11,19 @@ use Rattle.gc_values.specs.declared.direction.Direction.{Direction}
 abbrev held : ℤ → ℤ
 held x = to_z w128 (of_z w128 x)
 
+-- 128 bits hold a number of at most 4 * 10^37
 held_is : (x : ℤ) → unsigned_abs x ≤ 4 * 10 ^ 37 → held x ≡ x
 held_is x small = to_z-of_z w128 x (fits_signed_from_abs w128 x (omega arith))
 
+-- at most two turns are at most 10^37 units
 turns_small : (turns : ℤ) → unsigned_abs turns ≤ 2 → unsigned_abs (turns *ℤ turn) ≤ 10 ^ 37
 turns_small turns few = omega (arith, unsigned_abs-mul turns turn, few)
 
+-- a number and turns are at most 4 * 10^37
 sum_small : (x y : ℤ) → unsigned_abs x ≤ 2 * 10 ^ 37 → unsigned_abs y ≤ 10 ^ 37 → unsigned_abs (x +ℤ y) ≤ 4 * 10 ^ 37
 sum_small x y h k = omega (arith, ints)
 
--- the number that was turned
+-- 128 bits hold a number that was turned
 turned_held : (turns x : ℤ) → unsigned_abs turns ≤ 2 → unsigned_abs x ≤ 2 * 10 ^ 37 → held (held x +ℤ held (held turns *ℤ turn)) ≡ x +ℤ turns *ℤ turn
 turned_held turns x few small =
     ap (λ t. held (held x +ℤ held (t *ℤ turn))) (held_is turns (omega (arith, few)))
@@ -28,72 +31,82 @@ turned_held turns x few small =
     ∙ ap (λ t. held (t +ℤ turns *ℤ turn)) (held_is x (omega (arith, small)))
     ∙ held_is (x +ℤ turns *ℤ turn) (sum_small x (turns *ℤ turn) small (turns_small turns few))
 
-pub apart_turned : (most turns x y : ℤ) → FitsSigned w128 most → unsigned_abs turns ≤ 2 → unsigned_abs x ≤ 2 * 10 ^ 37 → unsigned_abs y ≤ 10 ^ 37
-    → is_apart (held most) (held (held x +ℤ held (held turns *ℤ turn))) (held y) ≡ is_apart_turned most turns x y
-apart_turned most turns x y fits few small low =
-    ap (λ m. is_apart m (held (held x +ℤ held (held turns *ℤ turn))) (held y)) (to_z-of_z w128 most fits)
-    ∙ ap (λ z. is_apart most z (held y)) (turned_held turns x few small)
-    ∙ ap (λ z. is_apart most (x +ℤ turns *ℤ turn) z) (held_is y (omega (arith, low)))
+-- the test that the code makes in 128 bits is `is_close_turned`
+pub close_turned : (most turns x y : ℤ) → FitsSigned w128 most → unsigned_abs turns ≤ 2 → unsigned_abs x ≤ 2 * 10 ^ 37 → unsigned_abs y ≤ 10 ^ 37
+    → is_close (held most) (held (held x +ℤ held (held turns *ℤ turn))) (held y) ≡ is_close_turned most turns x y
+close_turned most turns x y fits few small low =
+    ap (λ m. is_close m (held (held x +ℤ held (held turns *ℤ turn))) (held y)) (to_z-of_z w128 most fits)
+    ∙ ap (λ z. is_close most z (held y)) (turned_held turns x few small)
+    ∙ ap (λ z. is_close most (x +ℤ turns *ℤ turn) z) (held_is y (omega (arith, low)))
 
--- both angles
-pub near_is : (d place : Direction) (tolerance : Decimal) (v hz : Bool) → v ≡ is_apart (units tolerance) (v_of d) (units place.v)
-    → hz ≡ is_apart_on_circle (units tolerance) (hz_of d) (units place.hz) → (v && hz) ≡ is_near d place tolerance
+-- where v and hz are the tests of the two angles, both together are `is_near`
+pub near_is : (d place : Direction) (tolerance : Decimal) (v hz : Bool) → v ≡ is_close (units tolerance) (v_of d) (units place.v)
+    → hz ≡ is_close_on_circle (units tolerance) (hz_of d) (units place.hz) → (v && hz) ≡ is_near d place tolerance
 unfolding is_near
-near_is d place tolerance v hz e f = ap (λ b. b && hz) e ∙ ap (λ b. is_apart (units tolerance) (v_of d) (units place.v) && b) f
+near_is d place tolerance v hz e f = ap (λ b. b && hz) e ∙ ap (λ b. is_close (units tolerance) (v_of d) (units place.v) && b) f
 
+-- a test that is true holds
 test_passes : (b : Bool) → b ≡ true → T b
 test_passes true h = tt
 test_passes false h = cc
 
+-- a test that holds is true
 passes_test : (b : Bool) → T b → b ≡ true
 passes_test true h = refl
 passes_test false h = absurd h
 
+-- numbers that pass the test of an order are in order
 le_of : (x y : ℤ) → int_le x y ≡ true → x ≤ℤ y
 le_of x y h = record { le = test_passes (int_le x y) h }
 
+-- numbers in order pass the test
 of_le : (x y : ℤ) → x ≤ℤ y → int_le x y ≡ true
 of_le x y h = passes_test (int_le x y) h.le
 
+-- where both of two tests hold, each does
 both_true : (a b : Bool) → (a && b) ≡ true → (a ≡ true) × (b ≡ true)
 both_true true b e = (refl, e)
 both_true false b e = cc
 
+-- where one of two tests holds, the first or the second does
 one_true : (a b : Bool) → (a || b) ≡ true → (a ≡ true) ⊎ (b ≡ true)
 one_true true b e = inl refl
 one_true false b e = inr e
 
--- the turns among the five
-some_turns : (most x y : ℤ) → is_apart_on_circle most x y ≡ true → (k : ℤ) × (unsigned_abs k ≤ 2) × (is_apart_turned most k x y ≡ true)
+-- numbers that are close on the circle are close after some number of turns, at most two either way
+some_turns : (most x y : ℤ) → is_close_on_circle most x y ≡ true → (k : ℤ) × (unsigned_abs k ≤ 2) × (is_close_turned most k x y ≡ true)
 some_turns most x y e = first (one_true _ _ e) where
-  last : (is_apart_turned most (pos 1) x y ≡ true) ⊎ (is_apart_turned most (pos 2) x y ≡ true) → (k : ℤ) × (unsigned_abs k ≤ 2) × (is_apart_turned most k x y ≡ true)
+  last : (is_close_turned most (pos 1) x y ≡ true) ⊎ (is_close_turned most (pos 2) x y ≡ true) → (k : ℤ) × (unsigned_abs k ≤ 2) × (is_close_turned most k x y ≡ true)
   last (inl h) = (pos 1, omega arith, h)
   last (inr h) = (pos 2, omega arith, h)
 
-  third : (is_apart_turned most (pos 0) x y ≡ true) ⊎ ((is_apart_turned most (pos 1) x y || is_apart_turned most (pos 2) x y) ≡ true)
-      → (k : ℤ) × (unsigned_abs k ≤ 2) × (is_apart_turned most k x y ≡ true)
+  third : (is_close_turned most (pos 0) x y ≡ true) ⊎ ((is_close_turned most (pos 1) x y || is_close_turned most (pos 2) x y) ≡ true)
+      → (k : ℤ) × (unsigned_abs k ≤ 2) × (is_close_turned most k x y ≡ true)
   third (inl h) = (pos 0, omega arith, h)
   third (inr h) = last (one_true _ _ h)
 
-  second : (is_apart_turned most (negsuc 0) x y ≡ true) ⊎ ((is_apart_turned most (pos 0) x y || (is_apart_turned most (pos 1) x y || is_apart_turned most (pos 2) x y)) ≡ true)
-      → (k : ℤ) × (unsigned_abs k ≤ 2) × (is_apart_turned most k x y ≡ true)
+  second : (is_close_turned most (negsuc 0) x y ≡ true) ⊎ ((is_close_turned most (pos 0) x y || (is_close_turned most (pos 1) x y || is_close_turned most (pos 2) x y)) ≡ true)
+      → (k : ℤ) × (unsigned_abs k ≤ 2) × (is_close_turned most k x y ≡ true)
   second (inl h) = (negsuc 0, omega arith, h)
   second (inr h) = third (one_true _ _ h)
 
-  first : (is_apart_turned most (negsuc 1) x y ≡ true)
-      ⊎ ((is_apart_turned most (negsuc 0) x y || (is_apart_turned most (pos 0) x y || (is_apart_turned most (pos 1) x y || is_apart_turned most (pos 2) x y))) ≡ true)
-      → (k : ℤ) × (unsigned_abs k ≤ 2) × (is_apart_turned most k x y ≡ true)
+  first : (is_close_turned most (negsuc 1) x y ≡ true)
+      ⊎ ((is_close_turned most (negsuc 0) x y || (is_close_turned most (pos 0) x y || (is_close_turned most (pos 1) x y || is_close_turned most (pos 2) x y))) ≡ true)
+      → (k : ℤ) × (unsigned_abs k ≤ 2) × (is_close_turned most k x y ≡ true)
   first (inl h) = (negsuc 1, omega arith, h)
   first (inr h) = second (one_true _ _ h)
 
+-- one of two tests holds where the second does
 or_right : (a b : Bool) → b ≡ true → (a || b) ≡ true
 or_right true b e = refl
 or_right false b e = e
 
+-- one of two tests holds where the first does
 or_left : (a b : Bool) → a ≡ true → (a || b) ≡ true
 or_left true b e = refl
 or_left false b e = cc
 
+-- one of five tests holds where any does
 five : (a b c d e : Bool) → (a ≡ true) ⊎ ((b ≡ true) ⊎ ((c ≡ true) ⊎ ((d ≡ true) ⊎ (e ≡ true)))) → (a || (b || (c || (d || e)))) ≡ true
 five a b c d e (inl h) = or_left a (b || (c || (d || e))) h
 five a b c d e (inr (inl h)) = or_right a (b || (c || (d || e))) (or_left b (c || (d || e)) h)
@@ -101,7 +114,7 @@ five a b c d e (inr (inr (inl h))) = or_right a (b || (c || (d || e))) (or_right
 five a b c d e (inr (inr (inr (inl h)))) = or_right a (b || (c || (d || e))) (or_right b (c || (d || e)) (or_right c (d || e) (or_left d e h)))
 five a b c d e (inr (inr (inr (inr h)))) = or_right a (b || (c || (d || e))) (or_right b (c || (d || e)) (or_right c (d || e) (or_right d e h)))
 
--- a number of turns is one of five
+-- a number of at most two turns either way is one of five
 few_turns : (k : ℤ) → unsigned_abs k ≤ 2 → (k ≡ negsuc 1) ⊎ ((k ≡ negsuc 0) ⊎ ((k ≡ pos 0) ⊎ ((k ≡ pos 1) ⊎ (k ≡ pos 2))))
 few_turns (pos zero) few = inr (inr (inl refl))
 few_turns (pos (suc zero)) few = inr (inr (inr (inl refl)))
@@ -111,28 +124,29 @@ few_turns (negsuc zero) few = inr (inl refl)
 few_turns (negsuc (suc zero)) few = inl refl
 few_turns (negsuc (suc (suc n))) few = absurd (omega (arith, few))
 
-on_circle : (most x y k : ℤ) → unsigned_abs k ≤ 2 → is_apart_turned most k x y ≡ true → is_apart_on_circle most x y ≡ true
+-- numbers that are close after at most two turns either way are close on the circle
+on_circle : (most x y k : ℤ) → unsigned_abs k ≤ 2 → is_close_turned most k x y ≡ true → is_close_on_circle most x y ≡ true
 on_circle most x y k few near =
-    five (is_apart_turned most (negsuc 1) x y) (is_apart_turned most (negsuc 0) x y) (is_apart_turned most (pos 0) x y) (is_apart_turned most (pos 1) x y) (is_apart_turned most (pos 2) x y)
+    five (is_close_turned most (negsuc 1) x y) (is_close_turned most (negsuc 0) x y) (is_close_turned most (pos 0) x y) (is_close_turned most (pos 1) x y) (is_close_turned most (pos 2) x y)
     (which (few_turns k few)) where
-      so : (j : ℤ) → k ≡ j → is_apart_turned most j x y ≡ true
-      so j e = ap (λ i. is_apart_turned most i x y) (sym e) ∙ near
+      so : (j : ℤ) → k ≡ j → is_close_turned most j x y ≡ true
+      so j e = ap (λ i. is_close_turned most i x y) (sym e) ∙ near
 
       which : (k ≡ negsuc 1) ⊎ ((k ≡ negsuc 0) ⊎ ((k ≡ pos 0) ⊎ ((k ≡ pos 1) ⊎ (k ≡ pos 2))))
-          → (is_apart_turned most (negsuc 1) x y ≡ true) ⊎ ((is_apart_turned most (negsuc 0) x y ≡ true) ⊎ ((is_apart_turned most (pos 0) x y ≡ true)
-          ⊎ ((is_apart_turned most (pos 1) x y ≡ true) ⊎ (is_apart_turned most (pos 2) x y ≡ true))))
+          → (is_close_turned most (negsuc 1) x y ≡ true) ⊎ ((is_close_turned most (negsuc 0) x y ≡ true) ⊎ ((is_close_turned most (pos 0) x y ≡ true)
+          ⊎ ((is_close_turned most (pos 1) x y ≡ true) ⊎ (is_close_turned most (pos 2) x y ≡ true))))
       which (inl e) = inl (so (negsuc 1) e)
       which (inr (inl e)) = inr (inl (so (negsuc 0) e))
       which (inr (inr (inl e))) = inr (inr (inl (so (pos 0) e)))
       which (inr (inr (inr (inl e)))) = inr (inr (inr (inl (so (pos 1) e))))
       which (inr (inr (inr (inr e)))) = inr (inr (inr (inr (so (pos 2) e))))
 
--- the test is the fact
+-- `is_near` says exactly whether a direction is near a place
 pub near_is_within : NearIsWithinTheTolerance
 unfolding is_near
 near_is_within d place tolerance = (
   (λ e.
-      let parts = both_true (is_apart (units tolerance) (v_of d) (units place.v)) (is_apart_on_circle (units tolerance) (hz_of d) (units place.hz)) e in
+      let parts = both_true (is_close (units tolerance) (v_of d) (units place.v)) (is_close_on_circle (units tolerance) (hz_of d) (units place.hz)) e in
       let some = some_turns (units tolerance) (hz_of d) (units place.hz) parts.1 in
       record {
         turns = some.0;
@@ -143,6 +157,6 @@ near_is_within d place tolerance = (
   (λ is.
       let v = of_le (pos (unsigned_abs (v_of d -ℤ units place.v))) (units tolerance) is.v_near in
       let hz = of_le (pos (unsigned_abs (hz_of d +ℤ is.turns *ℤ turn -ℤ units place.hz))) (units tolerance) is.hz_near in
-      ap (λ b. b && is_apart_on_circle (units tolerance) (hz_of d) (units place.hz)) v
+      ap (λ b. b && is_close_on_circle (units tolerance) (hz_of d) (units place.hz)) v
       ∙ on_circle (units tolerance) (hz_of d) (units place.hz) is.turns is.few hz),
 )

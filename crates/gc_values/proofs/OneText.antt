@@ -23,7 +23,7 @@ use Rattle.gc_values.proofs.WholeText.{signed_reads}
 use Rattle.gc_values.proofs.WrittenLemmas.{length-last_digits, last_over}
 use Rattle.gc_values.proofs.WrittenSpells.{writes_whole, AreDigits-last_digits, number-last_digits, behind, written_spells}
 
--- the first digit and the others are found in the number
+-- a number is made of a multiple of p and a rest below p in one way
 heads : (a b p m n : ℕ) → m < p → n < p → a * p + m ≡ b * p + n → (a ≡ b) × (m ≡ n)
 heads a b p m n few less e =
     let same : a ≡ b = sym (div-mul-add a p m few) ∙ ap (λ x. x / p) e ∙ div-mul-add b p n less in
@@ -42,7 +42,7 @@ digits_once (x ∷ xs) (y ∷ ys) dx dy long e =
     let first : x ≡ y = let h = both.0 in let a = dx.0 in let b = dy.0 in omega (arith, h, a, b) in
     ap (λ d. d ∷ xs) first ∙ ap (λ ds. y ∷ ds) (digits_once xs ys dx.1 dy.1 few both.1)
 
--- digits behind a first one that is no 0
+-- a number whose first digit is no 0 is at least the power of the digits behind that
 large : (b k n r : ℕ) → 48 < b → r ≡ (b - 48) * 10 ^ k + n → 10 ^ k ≤ r
 large b k n r above e =
     let back : b - 48 ≡ (b - 49) + 1 = omega arith in
@@ -54,6 +54,7 @@ record Sized (ds : List ℕ) : Type 0 where
   pub small : number ds < 10 ^ length ds
   pub least : 1 < length ds → 10 ^ (length ds - 1) ≤ number ds
 
+-- each whole part has the size that `Sized` says
 sized : (ds : List ℕ) → IsWholePart ds → Sized ds
 sized [] w = let s = w.some in absurd (omega (arith, s))
 sized (b ∷ bs) w = record {
@@ -70,6 +71,7 @@ sized (b ∷ bs) w = record {
   ];
 }
 
+-- a shorter whole part doesn't write the same number
 shorter : (xs ys : List ℕ) → Sized xs → Sized ys → number xs ≡ number ys → length xs < length ys → ⊥
 shorter xs ys x y e less =
     let s = x.some in
@@ -88,15 +90,17 @@ whole_once xs ys x y e = elim (cases_order (length xs) (length ys)) [
   ]
 ]
 
--- what is written in front of the point is a whole part
+-- digits whose first is above 0 don't begin with '0'
 no_zero_first : (ds rest : List ℕ) → 0 < get_or ds 0 0 → map (λ d. 48 + d) ds ≡ 48 ∷ rest → ⊥
 no_zero_first [] rest some e = omega (arith, some)
 no_zero_first (d ∷ ds) rest some e = let h : 48 + d ≡ 48 = cc in omega (arith, some, h)
 
+-- behind a lone '0' stands nothing
 zero_alone : (rest : List ℕ) → 48 ∷ [] ≡ 48 ∷ rest → rest ≡ []
 zero_alone [] e = refl
 zero_alone (r ∷ rest) e = absurd (let l = ap length e in omega (arith, l))
 
+-- what is written in front of the point is a whole part
 pub whole_part : (n : ℕ) → IsWholePart (whole_text n)
 whole_part n =
     let w = writes_whole n in
@@ -113,18 +117,19 @@ whole_part n =
 pub whole_text-number : (ds : List ℕ) → IsWholePart ds → whole_text (number ds) ≡ ds
 whole_text-number ds w = whole_once (whole_text (number ds)) ds (whole_part (number ds)) w (writes_whole (number ds)).number_is
 
--- the minus
+-- a number with a sign is written with the minus in front, where it has one
 pub signed_text-signed : (negative : Bool) (n : ℕ) → (negative ≡ true → 0 < n) → signed_text (signed negative n) ≡ minus_where negative ++ whole_text n
 signed_text-signed false n some = refl
 signed_text-signed true zero some = let h = some refl in absurd (omega (arith, h))
 signed_text-signed true (suc n) some = refl
 
+-- a decimal with a sign is written with the minus in front, where it has one
 pub written-signed : (negative : Bool) (a s : ℕ) → (negative ≡ true → 0 < a) → written (signed negative a) s ≡ minus_where negative ++ (whole_text (a / 10 ^ s) ++ (46 ∷ behind_text s (a % 10 ^ s)))
 written-signed false a s some = refl
 written-signed true zero s some = let h = some refl in absurd (omega (arith, h))
 written-signed true (suc a) s some = refl
 
--- whole numbers
+-- a whole number's text has a whole number's form
 whole_form : (z : ℤ) → HasWholeForm (signed_text z)
 whole_form (pos n) = record { negative = false; digits = whole_text n; text_is = refl; digits_are = whole_part n; no_minus_on_zero = λ e. absurd (cc) }
 whole_form (negsuc n) = record {
@@ -135,6 +140,7 @@ whole_form (negsuc n) = record {
   no_minus_on_zero = λ _. let e = (writes_whole (suc n)).number_is in omega (arith, e);
 }
 
+-- a whole number's text is the one text that has the form and names the number
 pub whole_text_once : (z : ℤ) (text : List ℕ) → (text ≡ signed_text z) ↔ (HasWholeForm text × NamesWhole text z)
 whole_text_once z text = (
   λ e. (subst HasWholeForm (sym e) (whole_form z), subst (λ t. NamesWhole t z) (sym e) (signed_reads z)),
@@ -147,25 +153,28 @@ whole_text_once z text = (
       is ∙ ap signed_text same,
 )
 
--- the last digit, and those in front of it
+-- the digits in front of the last one, and the last
 record Ends (ds : List ℕ) : Type 0 where
   pub front : List ℕ
   pub last : ℕ
   pub ds_are : ds ≡ front ++ last ∷ []
 
+-- digits, if there are any, have a last one
 ends : (ds : List ℕ) → 0 < length ds → Ends ds
 ends [] some = absurd (omega (arith, some))
 ends (d ∷ []) some = record { front = []; last = d; ds_are = refl }
 ends (d ∷ e ∷ ds) some = let r = ends (e ∷ ds) (omega arith) in record { front = d ∷ r.front; last = r.last; ds_are = ap (λ xs. d ∷ xs) r.ds_are }
 
+-- the last digit is the number's remainder by ten
 last_digit : (front : List ℕ) (d : ℕ) → IsDigit d → number (front ++ d ∷ []) % 10 ≡ d - 48
 last_digit front d h = omega (arith, number-append front (d ∷ []), h)
 
+-- the second of two runs of digits is digits
 AreDigits-back : (xs ys : List ℕ) → AreDigits (xs ++ ys) → AreDigits ys
 AreDigits-back [] ys h = h
 AreDigits-back (x ∷ xs) ys h = AreDigits-back xs ys h.1
 
--- the digits and the places of a text of the form
+-- a text of the form is the written one of some digits and places
 record Holds (text : List ℕ) : Type 0 where
   pub m : ℤ
   pub s : ℕ
@@ -173,6 +182,7 @@ record Holds (text : List ℕ) : Type 0 where
   pub places : s ≤ 24
   pub text_is : text ≡ written m s
 
+-- `Holds` is so where the digits in front of the point and behind it are the text's
 holds : (text : List ℕ) (f : HasDecimalForm text) (a s : ℕ) → (f.negative ≡ true → 0 < a) → (0 < s → a % 10 ≢ 0) → s ≤ 24 →
     a / 10 ^ s ≡ number f.whole → behind_text s (a % 10 ^ s) ≡ f.fraction → Holds text
 holds text f a s some canonical places front back = record {
@@ -186,13 +196,13 @@ holds text f a s some canonical places front back = record {
       ∙ sym (written-signed f.negative a s some);
 }
 
--- without places
+-- `Holds` is so of a text with a lone 0 behind the point
 holds_none : (text : List ℕ) (f : HasDecimalForm text) → f.fraction ≡ 48 ∷ [] → Holds text
 holds_none text f none =
     let all : number (f.whole ++ f.fraction) ≡ number f.whole * 10 = ap (λ ds. number (f.whole ++ ds)) none ∙ omega (arith, number-append f.whole (48 ∷ [])) in
     holds text f (number f.whole) 0 (λ e. let h = f.no_minus_on_zero e in omega (arith, h, all)) (λ h. absurd (omega (arith, h))) (lit≤ tt) (div-one (number f.whole)) (sym none)
 
--- with the places of the digits behind the point
+-- digits behind a point are what is written of their number at their places
 behind_again : (s n : ℕ) (ds : List ℕ) → AreDigits ds → length ds ≡ s → number ds ≡ n → 0 < s → behind_text s n ≡ ds
 behind_again s n ds digits long is some = elim (eqb_tells s 0) [
   | inl none ↦ let e = none.1 in absurd (omega (arith, e, some))
@@ -202,9 +212,11 @@ behind_again s n ds digits long is some = elim (eqb_tells s 0) [
       (number-last_digits s n (subst (λ x. x < 10 ^ s) is (subst (λ k. number ds < 10 ^ k) long (number-lt ds digits))) ∙ sym is)
 ]
 
+-- a multiple and a smaller rest has that rest as its remainder
 mod_is : (a w p f : ℕ) → f < p → a ≡ w * p + f → a % p ≡ f
 mod_is a w p f few e = let d : a / p ≡ w = ap (λ x. x / p) e ∙ div-mul-add w p f few in omega (arith, e, div-add-mod' a p, ap (λ x. x * p) d)
 
+-- `Holds` is so of a text whose digits behind the point don't end in 0
 holds_some : (text : List ℕ) (f : HasDecimalForm text) → number f.fraction % 10 ≢ 0 → Holds text
 holds_some text f other =
     let p : ℕ = 10 ^ length f.fraction in
@@ -219,6 +231,7 @@ holds_some text f other =
       last_of_all ws [] some = absurd (omega (arith, some))
       last_of_all ws (d ∷ ds) some = omega (arith, number-append ws (d ∷ ds), pow-suc 10 (length ds), ap (λ x. number ws * x) (pow-suc 10 (length ds)))
 
+-- `Holds` is so of every text of the form
 every_form : (text : List ℕ) → HasDecimalForm text → Holds text
 every_form text f = elim (eqb_tells (number f.fraction % 10) 0) [
   | inl divides ↦
@@ -230,14 +243,16 @@ every_form text f = elim (eqb_tells (number f.fraction % 10) 0) [
   | inr other ↦ holds_some text f other.1
 ]
 
--- a written decimal has the form
+-- in front of a lone '0' stands nothing
 alone : (front : List ℕ) → 48 ∷ [] ≡ front ++ 48 ∷ [] → front ≡ []
 alone [] e = refl
 alone (x ∷ front) e = absurd (let l = ap length e in omega (arith, l, length-append front (48 ∷ [])))
 
+-- a lone 0 is a fraction part
 zero_behind : IsFractionPart (48 ∷ [])
 zero_behind = record { are_digits = ((lit≤ tt, lit≤ tt), tt); some = lit< tt; few = lit≤ tt; no_zero_at_the_end = alone }
 
+-- the last s digits of a number that doesn't end in 0 are a fraction part
 last_part : (a s : ℕ) → s ≤ 24 → 0 < s → a % 10 ≢ 0 → IsFractionPart (last_digits s (a % 10 ^ s))
 last_part a zero few some other = absurd (omega (arith, some))
 last_part a (suc s) few some other = record {
@@ -249,6 +264,7 @@ last_part a (suc s) few some other = record {
       absurd (other (let o = last_over a s in omega (arith, last, o)));
 }
 
+-- what is written behind the point is a fraction part
 fraction_part : (a s : ℕ) → s ≤ 24 → (0 < s → a % 10 ≢ 0) → IsFractionPart (behind_text s (a % 10 ^ s))
 fraction_part a s few canonical = elim (eqb_tells s 0) [
   | inl none ↦ subst IsFractionPart (ap (λ b. cond b (48 ∷ []) (last_digits s (a % 10 ^ s))) (sym none.0)) zero_behind
@@ -257,10 +273,12 @@ fraction_part a s few canonical = elim (eqb_tells s 0) [
       subst IsFractionPart (ap (λ b. cond b (48 ∷ []) (last_digits s (a % 10 ^ s))) (sym more.0)) (last_part a s few some (canonical some))
 ]
 
+-- a positive product has positive factors
 positive : (a p x b : ℕ) → 0 < a → 0 < p → a * p ≡ x * b → 0 < x
 positive a p zero b h k e = let both : 0 < a * p = mul-pos h k in absurd (omega (arith, e, both))
 positive a p (suc x) b h k e = omega arith
 
+-- what is written of a sign, digits and places has a decimal's form
 decimal_form_of : (negative : Bool) (a s : ℕ) → s ≤ 24 → (0 < s → a % 10 ≢ 0) → (negative ≡ true → 0 < a) →
     HasDecimalForm (minus_where negative ++ (whole_text (a / 10 ^ s) ++ (46 ∷ behind_text s (a % 10 ^ s))))
 decimal_form_of negative a s few canonical some = record {
@@ -280,6 +298,7 @@ decimal_form_of negative a s few canonical some = record {
       number-append (whole_text (a / 10 ^ s)) ds ∙ ap (λ n. n * 10 ^ length ds + number ds) (writes_whole (a / 10 ^ s)).number_is in
       subst (λ x. 0 < x) (sym all) (positive a (10 ^ length ds) (a / 10 ^ s * 10 ^ length ds + number ds) (10 ^ s) h (ten_pow_pos (length ds)) b.same)
 
+-- a written decimal has a decimal's form
 decimal_form : (m : ℤ) (s : ℕ) → IsCanonical m s → s ≤ 24 → HasDecimalForm (written m s)
 decimal_form (pos n) s canonical few = decimal_form_of false n s few canonical (λ e. absurd (cc))
 decimal_form (negsuc n) s canonical few = decimal_form_of true (suc n) s few canonical (λ _. omega arith)

@@ -14,56 +14,64 @@ use Rattle.gc_values.proofs.Rounded.{sign_of}
 use Rattle.gc_values.proofs.Signs.{signed-mul}
 use Rattle.gc_values.proofs.WithinLemmas.{whole_place}
 
--- one number with a sign is below another
+-- a number with a sign is below another one
 abbrev less : Bool → ℕ → Bool → ℕ → Type 0
 less false x false y = x < y
 less false x true y = ⊥
 less true x false y = 0 < x + y
 less true x true y = y < x
 
+-- where one signed number is below another, `less` holds of their signs and magnitudes
 less_from : (b : Bool) (x : ℕ) (c : Bool) (y : ℕ) → signed b x <ℤ signed c y → less b x c y
 less_from false x false y h = omega (arith, ints, h)
 less_from false x true y h = omega (arith, ints, h)
 less_from true x false y h = omega (arith, ints, h)
 less_from true x true y h = omega (arith, ints, h)
 
+-- where `less` holds of signs and magnitudes, the one signed number is below the other
 less_to : (b : Bool) (x : ℕ) (c : Bool) (y : ℕ) → less b x c y → signed b x <ℤ signed c y
 less_to false x false y h = omega (arith, ints)
 less_to false x true y h = absurd h
 less_to true x false y h = omega (arith, ints)
 less_to true x true y h = omega (arith, ints)
 
+-- numbers keep their order when both are multiplied
 times : (x y p : ℕ) → 0 < p → x < y → x * p < y * p
 times x y p some h = omega (arith, mul-lt-mul_of_pos_left {m = x} {n = y} {k = p} h some)
 
+-- numbers keep their order when a common factor is taken out
 over : (x y p : ℕ) → x * p < y * p → x < y
 over x y p h = lt_of_mul-lt-mul_left p (omega arith)
 
+-- signed numbers keep their order when both are multiplied
 less_times : (b : Bool) (x : ℕ) (c : Bool) (y p : ℕ) → 0 < p → less b x c y → less b (x * p) c (y * p)
 less_times false x false y p some h = times x y p some h
 less_times false x true y p some h = h
 less_times true x false y p some h = let all : 0 * p < (x + y) * p = times 0 (x + y) p some h in omega arith
 less_times true x true y p some h = times y x p some h
 
+-- signed numbers keep their order when a common factor is taken out
 less_over : (b : Bool) (x : ℕ) (c : Bool) (y p : ℕ) → less b (x * p) c (y * p) → less b x c y
 less_over false x false y p h = over x y p h
 less_over false x true y p h = h
 less_over true x false y p h = over 0 (x + y) p (omega arith)
 less_over true x true y p h = over y x p h
 
--- numbers of units of the last place, where p is 10^24, and the same multiplied out
+-- numbers in units of the last place, where p is 10^24, keep their order when they are multiplied out
 moved : (b : Bool) (m : ℕ) (c : Bool) (n a a' d d' p : ℕ) → 0 < p → a * a' ≡ p → d * d' ≡ p → less b (m * a') c (n * d') → less b (m * d) c (n * a)
 moved b m c n a a' d d' p some e f h =
     let left : m * a' * p ≡ m * d * (a' * d') = omega (arith, ap (λ x. m * a' * x) f) in
     let right : n * d' * p ≡ n * a * (a' * d') = omega (arith, ap (λ x. n * d' * x) e) in
     less_over b (m * d) c (n * a) (a' * d') (subst (λ x. less b x c (n * a * (a' * d'))) left (subst (λ y. less b (m * a' * p) c y) right (less_times b (m * a') c (n * d') p some h)))
 
+-- numbers with a sign, in units of the last place, keep their order when they are multiplied out
 moved_signed : (b : Bool) (m : ℕ) (c : Bool) (n a a' d d' p : ℕ) → 0 < p → a * a' ≡ p → d * d' ≡ p → (signed b m *ℤ pos a') <ℤ (signed c n *ℤ pos d') → (signed b m *ℤ pos d) <ℤ (signed c n *ℤ pos a)
 moved_signed b m c n a a' d d' p some e f h =
     let there = less_from b (m * a') c (n * d') (subst (λ x. x <ℤ signed c (n * d')) (signed-mul b m a') (subst (λ y. (signed b m *ℤ pos a') <ℤ y) (signed-mul c n d') h)) in
     subst (λ x. x <ℤ (signed c n *ℤ pos a)) (sym (signed-mul b m d)) (subst (λ y. signed b (m * d) <ℤ y) (sym (signed-mul c n a))
     (less_to b (m * d) c (n * a) (moved b m c n a a' d d' p some e f there)))
 
+-- whole numbers, in units of the last place, keep their order when they are multiplied out
 moved_whole : (z w : ℤ) (a a' d d' p : ℕ) → 0 < p → a * a' ≡ p → d * d' ≡ p → (z *ℤ pos a') <ℤ (w *ℤ pos d') → (z *ℤ pos d) <ℤ (w *ℤ pos a)
 moved_whole z w a a' d d' p some e f =
     let x = sign_of z in
@@ -71,18 +79,19 @@ moved_whole z w a a' d d' p some e f =
     subst (λ z. (z *ℤ pos a') <ℤ (w *ℤ pos d') → (z *ℤ pos d) <ℤ (w *ℤ pos a)) (sym x.2)
     (subst (λ w. (signed x.0 x.1 *ℤ pos a') <ℤ (w *ℤ pos d') → (signed x.0 x.1 *ℤ pos d) <ℤ (w *ℤ pos a)) (sym y.2) (moved_signed x.0 x.1 y.0 y.1 a a' d d' p some e f))
 
--- fewer units, a smaller value
+-- a decimal of fewer units has a smaller value
 pub below_from_units : (a b : Decimal) → units a <ℤ units b → IsBelow (fraction a) (fraction b)
 below_from_units a b =
     moved_whole a.digits b.digits (10 ^ a.scale) (10 ^ (24 - a.scale)) (10 ^ b.scale) (10 ^ (24 - b.scale)) (10 ^ 24) (omega arith)
     (whole_place a.scale a.has_few_places) (whole_place b.scale b.has_few_places)
 
+-- an ordering says what follows from each of its three cases
 ranked_as : (o : Ordering) (P Q R P' Q' R' : Type 0) → MatchOrdering o P Q R → (P → P') → (Q → Q') → (R → R') → MatchOrdering o P' Q' R'
 ranked_as Less P Q R P' Q' R' h f g k = f h
 ranked_as Equal P Q R P' Q' R' h f g k = g h
 ranked_as Greater P Q R P' Q' R' h f g k = k h
 
--- what a comparison says
+-- a comparison says which of two values is smaller, or that the decimals are equal
 pub cmp_ranks : (a b : Decimal) → MatchOrdering (decimal_cmp a b) (IsBelow (fraction a) (fraction b)) (a ≡ b) (IsBelow (fraction b) (fraction a))
 cmp_ranks a b =
     ranked_as (int_cmp (units a) (units b)) (units a <ℤ units b) (units a ≡ units b) (units b <ℤ units a) (IsBelow (fraction a) (fraction b)) (a ≡ b) (IsBelow (fraction b) (fraction a))

@@ -7,20 +7,23 @@ use Rattle.gc_values.specs.Pieces.{KeepsCommas, CutsPiece, IsTrimmed}
 use Rattle.gc_values.proofs.Quotes.{quotes-append, quotes_same, quotes-spaces, KeepsCommas-nil, KeepsCommas-push, not_inside, one_cut}
 use Rattle.gc_values.proofs.Trimming.{front_off, back_off, padded_keeps, quotes-padded, trimmed_is_param, param_is_trimmed, one_trimmed, trimmed_exists}
 
--- a piece between commas outside quotes
+-- a piece between commas: its quotes are in pairs, and each comma is inside a pair
 pub record IsPiece (piece : List ℕ) : Type 0 where
   pub keeps : KeepsCommas piece
   pub even : quotes piece % 2 ≡ 0
 
+-- a parameter with spaces round it is a piece, as `IsPiece` has it
 padded_piece : (piece item : List ℕ) → IsPadded piece item → IsParam item → IsPiece piece
 padded_piece piece item p h = record { keeps = padded_keeps piece item p h; even = let same = quotes-padded piece item p in let even = h.pairs in omega (arith, same, even) }
 
+-- parameters with spaces round them are pieces, as `IsPiece` has it
 pub pieces_of : (ps is : List (List ℕ)) → ArePieces ps is → AllByRecursion IsPiece ps
 pieces_of [] [] h = tt
 pieces_of [] (i ∷ is) h = absurd h
 pieces_of (p ∷ ps) [] h = absurd h
 pieces_of (p ∷ ps) (i ∷ is) h = (padded_piece p i h.0 h.1, pieces_of ps is h.2)
 
+-- padded parameters behind padded parameters are padded parameters
 pub ArePieces-append : (ps is qs js : List (List ℕ)) → ArePieces ps is → ArePieces qs js → ArePieces (ps ++ qs) (is ++ js)
 ArePieces-append [] [] qs js h k = k
 ArePieces-append [] (i ∷ is) qs js h k = absurd h
@@ -32,16 +35,18 @@ abbrev pub led : List (List ℕ) → List ℕ → List ℕ
 led [] rest = rest
 led (p ∷ ps) rest = p ++ 44 ∷ led ps rest
 
+-- joined pieces are the first ones, each with a comma behind it, and then the others joined
 pub joined-append : (ps : List (List ℕ)) (q : List ℕ) (qs : List (List ℕ)) → joined (ps ++ q ∷ qs) ≡ led ps (joined (q ∷ qs))
 joined-append [] q qs = refl
 joined-append (p ∷ []) q qs = refl
 joined-append (p ∷ r ∷ rs) q qs = ap (λ xs. p ++ 44 ∷ xs) (joined-append (r ∷ rs) q qs)
 
+-- pieces and one more in front of a rest are the pieces in front of that one, a comma and the rest
 pub led-push : (ps : List (List ℕ)) (p rest : List ℕ) → led (ps ++ p ∷ []) rest ≡ led ps (p ++ 44 ∷ rest)
 led-push [] p rest = refl
 led-push (q ∷ qs) p rest = ap (λ xs. q ++ 44 ∷ xs) (led-push qs p rest)
 
--- the quotes round a comma
+-- a comma adds no quote
 quotes-comma : (xs ys : List ℕ) → quotes (xs ++ 44 ∷ ys) ≡ quotes xs + quotes ys
 quotes-comma xs ys = quotes-append xs (44 ∷ ys) ∙ ap (λ n. quotes xs + n) (quotes_same 44 ys refl)
 
@@ -71,6 +76,7 @@ same_pieces p q (r ∷ rs) (s ∷ ss) hp hq e =
     let rest = same_pieces r s rs ss hp.1 hq.1 cut.1 in
     cc
 
+-- pieces are of one list of parameters
 same_items : (ps is js : List (List ℕ)) → ArePieces ps is → ArePieces ps js → is ≡ js
 same_items [] [] [] h k = refl
 same_items [] [] (j ∷ js) h k = absurd k
@@ -82,6 +88,7 @@ same_items (p ∷ ps) (i ∷ is) (j ∷ js) h k =
     let rest = same_items ps is js h.2 k.2 in
     cc
 
+-- joined pieces are of one list of parameters
 one_joined : (ps is qs js : List (List ℕ)) (i j : List ℕ) → ArePieces ps (i ∷ is) → ArePieces qs (j ∷ js) → joined ps ≡ joined qs → i ∷ is ≡ j ∷ js
 one_joined [] is qs js i j h k e = absurd h
 one_joined (p ∷ ps) is [] js i j h k e = absurd k
@@ -89,14 +96,14 @@ one_joined (p ∷ ps) is (q ∷ qs) js i j h k e =
     let same = same_pieces p q ps qs (pieces_of (p ∷ ps) (i ∷ is) h) (pieces_of (q ∷ qs) (j ∷ js) k) e in
     same_items (p ∷ ps) (i ∷ is) (j ∷ js) h (subst (λ rs. ArePieces rs (j ∷ js)) (sym same) k)
 
--- a text is one list of parameters
+-- a text is at most one list of parameters
 pub one_list : (bytes : List ℕ) (xs ys : List (List ℕ)) → IsParams bytes xs → IsParams bytes ys → xs ≡ ys
 one_list bytes [] [] h k = refl
 one_list bytes [] (y ∷ ys) h k = absurd (k.some h)
 one_list bytes (x ∷ xs) [] h k = absurd (h.some k)
 one_list bytes (x ∷ xs) (y ∷ ys) h k = one_joined h.pieces xs k.pieces ys x y h.pieces_are k.pieces_are (sym h.bytes_are ∙ k.bytes_are)
 
--- a text with one piece and others
+-- a text is one piece, and others behind commas
 pub record HasPieces (text : List ℕ) : Type 0 where
   pub first : List ℕ
   pub others : List (List ℕ)
@@ -105,11 +112,13 @@ pub record HasPieces (text : List ℕ) : Type 0 where
   pub text_is : text ≡ joined (first ∷ others)
   pub are : ArePieces (first ∷ others) (item ∷ items)
 
+-- a piece alone is a text with pieces
 one_piece : (piece : List ℕ) → KeepsCommas piece → quotes piece % 2 ≡ 0 → HasPieces piece
 one_piece piece keeps even =
     let t = trimmed_exists piece in
     record { first = piece; others = []; item = back_off (front_off piece); items = []; text_is = sym (append-nil piece); are = (t.padded, trimmed_is_param piece _ t keeps even, tt) }
 
+-- a piece and a comma in front of a text with pieces are one
 more_pieces : (piece rest : List ℕ) → KeepsCommas piece → quotes piece % 2 ≡ 0 → HasPieces rest → HasPieces (piece ++ 44 ∷ rest)
 more_pieces piece rest keeps even r =
     let t = trimmed_exists piece in
@@ -123,13 +132,15 @@ more_pieces piece rest keeps even r =
       are = (t.padded, trimmed_is_param piece _ t keeps even, r.are);
     }
 
+-- behind a piece with its quotes in pairs, and a comma, quotes are in pairs where all are
 even_behind : (xs ys : List ℕ) → quotes xs % 2 ≡ 0 → quotes (xs ++ 44 ∷ ys) % 2 ≡ 0 → quotes ys % 2 ≡ 0
 even_behind xs ys first both = let sum = quotes-comma xs ys in omega (arith, first, both, sum)
 
+-- a number that isn't even is odd
 pub odd_or : (n : ℕ) → (n % 2 ≡ 0 → ⊥) → n % 2 ≡ 1
 odd_or n h = omega (arith, h)
 
--- a text with its quotes in pairs has pieces
+-- a text with its quotes in pairs has pieces, from wherever its first piece is read
 has_pieces_from : (front bytes : List ℕ) → KeepsCommas front → quotes (front ++ bytes) % 2 ≡ 0 → HasPieces (front ++ bytes)
 has_pieces_from front [] keeps even = subst HasPieces (sym (append-nil front)) (one_piece front keeps (ap (λ xs. quotes xs % 2) (sym (append-nil front)) ∙ even))
 has_pieces_from front (b ∷ bs) keeps even =
@@ -146,17 +157,18 @@ has_pieces_from front (b ∷ bs) keeps even =
       ]
     ]
 
+-- a text with its quotes in pairs has pieces
 pub has_pieces : (text : List ℕ) → quotes text % 2 ≡ 0 → HasPieces text
 has_pieces text even = has_pieces_from [] text KeepsCommas-nil even
 
--- the items so far, and the rest of the text
+-- the text is the items so far, each padded and with a comma behind it, and the rest
 pub record SplitSoFar (text : List ℕ) (items : List (List ℕ)) (rest : List ℕ) : Type 0 where
   pub pieces : List (List ℕ)
   pub text_is : text ≡ led pieces rest
   pub are : ArePieces pieces items
   pub even : quotes rest % 2 ≡ 0
 
--- one item more
+-- cutting one more piece off, and trimming it, makes one item more
 pub split_more : (text rest piece next item : List ℕ) (items : List (List ℕ)) → SplitSoFar text items rest → CutsPiece rest piece (Some next)
     → IsTrimmed piece item → SplitSoFar text (items ++ item ∷ []) next
 split_more text rest piece next item items s cut t = record {
@@ -166,11 +178,12 @@ split_more text rest piece next item items s cut t = record {
   even = even_behind piece next cut.2 (ap (λ xs. quotes xs % 2) (sym cut.0) ∙ s.even);
 }
 
+-- joined items, of which there are some, are a list of parameters
 params_from : (bytes : List ℕ) (items : List (List ℕ)) → 0 < length items → AreJoined bytes items → IsParams bytes items
 params_from bytes [] some h = absurd (omega arith)
 params_from bytes (i ∷ is) some h = h
 
--- the last item
+-- the last piece, trimmed, completes the list
 pub split_last : (text rest piece item : List ℕ) (items : List (List ℕ)) → SplitSoFar text items rest → CutsPiece rest piece None → IsTrimmed piece item
     → (AreSpaces text → ⊥) → IsParams text (items ++ item ∷ [])
 split_last text rest piece item items s cut t some =
@@ -202,10 +215,12 @@ plain_pieces : (ts : List (List ℕ)) → AllByRecursion IsParam ts → ArePiece
 plain_pieces [] h = tt
 plain_pieces (t ∷ ts) h = (record { before = 0; behind = 0; piece_is = sym (append-nil t) }, h.0, plain_pieces ts h.1)
 
+-- a text that begins with another byte isn't spaces alone
 not_spaces : (b : ℕ) (bs ts : List ℕ) (n : ℕ) → (b ≡ 32 → ⊥) → b ∷ (bs ++ ts) ≡ replicate n 32 → ⊥
 not_spaces b bs ts zero h e = cc
 not_spaces b bs ts (suc n) h e = h (let first : b ≡ 32 = cc in first)
 
+-- a text that begins with a parameter of some bytes isn't spaces alone
 some_first : (t rest : List ℕ) → IsParam t → 0 < length t → AreSpaces (t ++ rest) → ⊥
 some_first [] rest h some s = omega arith
 some_first (b ∷ bs) rest h some s = not_spaces b bs rest s.0 (λ e. h.first bs (ap (λ x. x ∷ bs) e)) s.1

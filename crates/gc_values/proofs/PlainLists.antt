@@ -9,10 +9,12 @@ use Rattle.gc_values.specs.declared.value.Value.{Value}
 use Rattle.gc_values.proofs.ParamLists.{joined_params}
 use Rattle.gc_values.proofs.TextShape.{AreBare, IsBare, bare_param}
 
+-- bare bytes with one more behind them are bare
 all_snoc : (xs : List ℕ) (b : ℕ) → AreBare xs → IsBare b → AreBare (xs ++ b ∷ [])
 all_snoc [] b h k = (k, tt)
 all_snoc (x ∷ xs) b h k = (h.0, all_snoc xs b h.1 k)
 
+-- bare bytes up to a comma are cut off as an item
 pub plain_cut : (text : List ℕ) (i : ℕ) → AreBare (take i text) → 0 < i → i < length text → get_or text i 0 ≡ 44 → CutsPlain text (take i text) (Some (drop (i + 1) text))
 plain_cut text i h some within comma = record {
   text_is = sym (take-append-drop i text) ∙ ap (λ xs. take i text ++ xs) (drop_more text i 0 within ∙ ap (λ b. b ∷ drop (i + 1) text) comma);
@@ -20,6 +22,7 @@ plain_cut text i h some within comma = record {
   some = omega (arith, length-take-le i text (omega arith));
 }
 
+-- bare bytes up to the end are cut off as an item
 pub plain_all : (text : List ℕ) (i : ℕ) → AreBare (take i text) → length text ≤ i → 0 < length text → CutsPlain text text None
 plain_all text i h all some = record {
   text_is = refl;
@@ -27,6 +30,7 @@ plain_all text i h all some = record {
   some = some;
 }
 
+-- an item up to the end is a list of one value
 one_plain : (text item : List ℕ) (v : Value) → CutsPlain text item None → IsItem item v → ArePlain text (v ∷ [])
 one_plain text item v cut x = record {
   first = item;
@@ -37,6 +41,7 @@ one_plain text item v cut x = record {
   read = (x, tt);
 }
 
+-- an item up to a comma, and a list behind it, are a list of one value more
 next_plain : (text item rest : List ℕ) (v : Value) (vs : List Value) → CutsPlain text item (Some rest) → IsItem item v → ArePlain rest vs → ArePlain text (v ∷ vs)
 next_plain text item rest v vs cut x left = record {
   first = item;
@@ -47,12 +52,12 @@ next_plain text item rest v vs cut x left = record {
   read = (x, left.read);
 }
 
--- an item that was cut off, and what is left behind it
+-- an item that was cut off, and what is left behind it, are a list of one value more
 pub plain_next : (text item : List ℕ) (rest : Option (List ℕ)) (v : Value) (vs : List Value) → CutsPlain text item rest → IsItem item v → LeftPlain rest vs → ArePlain text (v ∷ vs)
 plain_next text item None v vs cut x left = subst (λ ws. ArePlain text (v ∷ ws)) (sym left) (one_plain text item v cut x)
 plain_next text item (Some rest) v vs cut x left = next_plain text item rest v vs cut x left
 
--- a list in the common spelling is a list
+-- a list in the common spelling is a list of parameters
 pub plain_params : (text : List ℕ) (vs : List Value) → ArePlain text vs → AreParams text vs
 plain_params text vs x = record {
   items = x.first ∷ x.more;
@@ -60,6 +65,7 @@ plain_params text vs x = record {
   read = x.read;
 }
 
+-- an empty text is the list of parameters without values
 pub no_params : (text : List ℕ) (vs : List Value) → length text ≡ 0 → vs ≡ [] → AreParams text vs
 no_params [] vs none e = rw e (record { items = []; split = (0, refl); read = tt })
 no_params (b ∷ bs) vs none e = absurd (omega (arith, none))

@@ -3,16 +3,19 @@ use Rattle.std.proofs.lemmas.List.Sums.{sum_by-append, sum_by-cons, sum_by_more}
 use Rattle.gc_values.specs.Params.{quotes}
 use Rattle.gc_values.specs.Pieces.{KeepsCommas}
 
--- what a byte adds
+-- what a byte adds to the number of double quotes: 1 or 0
 abbrev counted : ℕ → ℕ
 counted b = cond (eqb b 34) 1 0
 
+-- quotes in two texts add up
 pub quotes-append : (xs ys : List ℕ) → quotes (xs ++ ys) ≡ quotes xs + quotes ys
 quotes-append xs ys = sum_by-append counted xs ys
 
+-- a first byte adds its quote
 pub quotes-cons : (b : ℕ) (bs : List ℕ) → quotes (b ∷ bs) ≡ cond (eqb b 34) 1 0 + quotes bs
 quotes-cons b bs = sum_by-cons counted b bs
 
+-- one more byte adds its quote
 pub quotes_more : (xs : List ℕ) (i : ℕ) → i < length xs → quotes (take (i + 1) xs) ≡ quotes (take i xs) + cond (eqb (get_or xs i 0) 34) 1 0
 quotes_more xs i h = sum_by_more counted xs i 0 h
 
@@ -20,10 +23,12 @@ quotes_more xs i h = sum_by_more counted xs i 0 h
 pub quotes_same : (b : ℕ) (bs : List ℕ) → eqb b 34 ≡ false → quotes (b ∷ bs) ≡ quotes bs
 quotes_same b bs e = quotes-cons b bs ∙ ap (λ c. cond c 1 0 + quotes bs) e ∙ zero-add (quotes bs)
 
+-- spaces have no quote
 pub quotes-spaces : (n : ℕ) → quotes (replicate n 32) ≡ 0
 quotes-spaces zero = refl
 quotes-spaces (suc n) = quotes_same 32 (replicate n 32) refl ∙ quotes-spaces n
 
+-- the empty list has no comma
 no_cut : (fs rest : List ℕ) → [] ≡ fs ++ 44 ∷ rest → ⊥
 no_cut [] rest e = cc
 no_cut (f ∷ fs) rest e = cc
@@ -41,17 +46,18 @@ push_cut (x ∷ xs) (f ∷ fs) rest b e =
       | inr h ↦ inr (h.0, let s = h.1 in cc)
     ]
 
+-- the empty list keeps its commas within quotes
 pub KeepsCommas-nil : KeepsCommas []
 KeepsCommas-nil front rest e = absurd (no_cut front rest e)
 
--- one byte more, which is no comma outside quotes
+-- one byte more, which is no comma outside quotes, keeps the commas within quotes
 pub KeepsCommas-push : (xs : List ℕ) (b : ℕ) → KeepsCommas xs → (b ≡ 44 → quotes xs % 2 ≡ 1) → KeepsCommas (xs ++ b ∷ [])
 KeepsCommas-push xs b keeps comma front rest e = elim (push_cut xs front rest b e) [
   | inl h ↦ subst (λ ys. quotes ys % 2 ≡ 1) (sym h.1) (comma h.0)
   | inr h ↦ keeps front h.0 h.1
 ]
 
--- two cuts of one text at a comma
+-- of two cuts of one text at a comma, they are one, or one comma stands before the other
 pub cuts_compare : (xs ys us vs : List ℕ) → xs ++ 44 ∷ us ≡ ys ++ 44 ∷ vs → ((xs ≡ ys) × (us ≡ vs)) ⊎ (((r : List ℕ) × (xs ≡ ys ++ 44 ∷ r)) ⊎ ((r : List ℕ) × (ys ≡ xs ++ 44 ∷ r)))
 cuts_compare [] [] us vs e = let h : us ≡ vs = cc in inl (refl, h)
 cuts_compare [] (y ∷ ys) us vs e = let h : y ∷ ys ≡ 44 ∷ ys = cc in inr (inr (ys, h))
@@ -69,7 +75,7 @@ cuts_compare (x ∷ xs) (y ∷ ys) us vs e =
 pub not_inside : (xs ys vs : List ℕ) → KeepsCommas xs → quotes ys % 2 ≡ 0 → xs ≡ ys ++ 44 ∷ vs → ⊥
 not_inside xs ys vs keeps even e = let odd = keeps ys vs e in omega (arith, odd, even)
 
--- the first comma outside quotes is one
+-- a text has one first comma outside quotes
 pub one_cut : (xs ys us vs : List ℕ) → KeepsCommas xs → quotes xs % 2 ≡ 0 → KeepsCommas ys → quotes ys % 2 ≡ 0 → xs ++ 44 ∷ us ≡ ys ++ 44 ∷ vs → (xs ≡ ys) × (us ≡ vs)
 one_cut xs ys us vs kx ex ky ey e = elim (cuts_compare xs ys us vs e) [
   | inl h ↦ h

@@ -16,6 +16,7 @@ use Rattle.gc_values.proofs.Unique.{names_once}
 abbrev pub fraction_of : Bool → List ℕ → List ℕ → ℕ → ℕ → Fraction
 fraction_of negative whole fraction up down = record { n = signed negative (number (whole ++ fraction) * 10 ^ up); k = length fraction + down }
 
+-- where a text reads as these parts, `fraction_of` them is the value of the numeral's parts
 same_fraction : (text : List ℕ) (negative : Bool) (whole fraction : List ℕ) (up down : ℕ) (r : ReadsNumeral text negative whole fraction up down)
     → fraction_of negative whole fraction up down ≡ value r.parts
 same_fraction text negative whole fraction up down r =
@@ -25,11 +26,12 @@ same_fraction text negative whole fraction up down r =
     ∙ ap (λ u. fraction_of (is_minus r.parts.sign) r.parts.whole (fraction_digits r.parts.fraction) u down) r.up_is
     ∙ ap (λ d. fraction_of (is_minus r.parts.sign) r.parts.whole (fraction_digits r.parts.fraction) (ups r.parts.exponent) d) r.down_is
 
+-- a text that reads as these parts names `fraction_of` them
 pub reads_names : (text : List ℕ) (negative : Bool) (whole fraction : List ℕ) (up down : ℕ) → ReadsNumeral text negative whole fraction up down
     → Names text (fraction_of negative whole fraction up down)
 reads_names text negative whole fraction up down r = (r.parts, r.form, r.text_is, same_fraction text negative whole fraction up down r)
 
--- the zeros at the end of m / 10^p are those of the number of 10^-24 that it is
+-- where n / 10^s is m / 10^p without the zeros at its end, it is m * 10^(24 - p) over 10^24 without the zeros at its end, too
 zeros_at_last : (m p n s : ℕ) → p ≤ 24 → WithoutZeros m p n s → WithoutZeros (m * 10 ^ (24 - p)) 24 n s
 zeros_at_last m p n s places w =
     let back : p + (24 - p) ≡ 24 = omega arith in
@@ -53,6 +55,7 @@ reads_value text negative whole fraction up down units p m s r c within made =
           (zeros_at_last units p made.n s c.places made.zeros)),
     )
 
+-- a number above the bound stays so without the zeros at its end
 beyond : (m p n s : ℕ) → 10 ^ 13 * 10 ^ p < m → WithoutZeros m p n s → 10 ^ 13 * 10 ^ s < n
 beyond m p n s large w =
     let same = w.same in
@@ -74,11 +77,11 @@ reads_beyond text negative whole fraction up down units p r c above =
       subst (λ n. 10 ^ 13 * 10 ^ z.1 < n) (sym (unsigned_abs-signed negative z.0)) (beyond c.m p z.0 z.1 large z.2),
     )
 
--- a text spells one decimal
+-- a text spells at most one decimal
 pub spells_once : (text : List ℕ) (m : ℤ) (s : ℕ) (n : ℤ) (t : ℕ) → Spells text m s → Spells text n t → (m ≡ n) × (s ≡ t)
 spells_once text m s n t x y = rounds_to_one x.0 24 m s n t x.2 (subst (λ q. IsRounded q 24 n t) (names_once text y.0 x.0 y.1 x.1) y.2)
 
--- in range and beyond at once it can't be
+-- a text doesn't spell a decimal in range and a number beyond it
 pub in_range_only : (text : List ℕ) (m : ℤ) (s : ℕ) → Spells text m s → IsInRange m s → SpellsBeyond text → ⊥
 in_range_only text m s x within b =
     let same = spells_once text m s b.0 b.1 x b.2 in

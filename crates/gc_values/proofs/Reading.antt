@@ -9,7 +9,7 @@ use Rattle.gc_values.specs.declared.fault.ValueFault.TheVariants.{Spelling, Rang
 use Rattle.gc_values.proofs.DecimalLaws.{spells_unique, spells-no_range}
 use Rattle.gc_values.proofs.ReadLemmas.{reads_value, reads_beyond}
 
--- what reading a text answers
+-- what reading a text answers: what it spells, and nothing else
 pub record IsReading (text : List ℕ) (r : Result Decimal ValueFault) : Type 0 where
   pub value : IfOk r (λ d. Spells text d.digits d.scale)
   pub only : (d : Decimal) → Spells text d.digits d.scale → r ≡ Ok d
@@ -17,13 +17,15 @@ pub record IsReading (text : List ℕ) (r : Result Decimal ValueFault) : Type 0 
   pub spelling : (r ≡ Err Spelling) ↔ SpellsNothing text
   pub faults : IfErr r (λ e. (e ≡ Range) ⊎ (e ≡ Spelling))
 
+-- a result isn't both a value and a fault
 not_ok : (d : Decimal) (e : ValueFault) (r : Result Decimal ValueFault) → r ≡ Ok d → r ≡ Err e → ⊥
 not_ok d e r h k = absurd (cc)
 
+-- a result isn't both faults
 range_is_other : (r : Result Decimal ValueFault) → r ≡ Err Range → r ≡ Err Spelling → ⊥
 range_is_other r h k = absurd (cc)
 
--- a text that spells a decimal
+-- answering the decimal that a text spells is reading it
 pub reads_ok : (text : List ℕ) (d : Decimal) → Spells text d.digits d.scale → IsReading text (Ok d)
 reads_ok text d spelled = record {
   value = spelled;
@@ -33,7 +35,7 @@ reads_ok text d spelled = record {
   faults = tt;
 }
 
--- a number beyond the range
+-- answering `Range` of a number beyond the range is reading it
 pub reads_range : (text : List ℕ) (e : ValueFault) → e ≡ Range → SpellsBeyond text → IsReading text (Err e)
 reads_range text e is beyond = record {
   value = tt;
@@ -43,7 +45,7 @@ reads_range text e is beyond = record {
   faults = inl is;
 }
 
--- the parts of a numeral, and what is made of them
+-- answering the decimal made of a numeral's units, or `Range` where they pass the bound, is reading it
 pub reads_parts : (text : List ℕ) (negative : Bool) (whole fraction : List ℕ) (up down units p : ℕ) (r : Result Decimal ValueFault) → ReadsNumeral text negative whole fraction up down →
     IsCapped (number (whole ++ fraction) * 10 ^ up) (length fraction + down) (10 ^ 37 + 1) units p →
     IfOk r (λ d. MadeOf negative units p d.digits d.scale) →

@@ -14,16 +14,18 @@ use Rattle.gc_values.proofs.Signs.{signed-mul, gap_signed, unsigned_abs-signed}
 pub zeros_off : (m s : ℕ) → (n : ℕ) × (t : ℕ) × WithoutZeros m s n t
 zeros_off m s = ((stripped m s).digits, (stripped m s).places, stripped_is m s)
 
+-- a gap is the same from either side
 gap_comm : (a b : ℕ) → gap a b ≡ gap b a
 gap_comm a b = omega arith
 
+-- numbers of one sign are as far apart as their magnitudes
 distance_signed : (neg : Bool) (n s a k : ℕ) → distance (signed neg n) s (signed neg a) k ≡ gap (n * 10 ^ k) (a * 10 ^ s)
 distance_signed neg n s a k =
     ap (λ x. unsigned_abs (x -ℤ signed neg a *ℤ pos (10 ^ s))) (signed-mul neg n (10 ^ k))
     ∙ ap (λ x. unsigned_abs (signed neg (n * 10 ^ k) -ℤ x)) (signed-mul neg a (10 ^ s))
     ∙ gap_signed neg (n * 10 ^ k) (a * 10 ^ s)
 
--- the distance, over 10^p and not over 10^s
+-- the distance of two numbers over 10^s is that over 10^p, where one has zeros more
 moved : (a k p m n s : ℕ) → m * 10 ^ s ≡ n * 10 ^ p → gap (n * 10 ^ k) (a * 10 ^ s) * 10 ^ p ≡ gap (a * 10 ^ p) (m * 10 ^ k) * 10 ^ s
 moved a k p m n s same =
     let left : n * 10 ^ k * 10 ^ p ≡ m * 10 ^ k * 10 ^ s = omega (arith, ap (λ x. x * 10 ^ k) same) in
@@ -31,7 +33,7 @@ moved a k p m n s same =
     sym (gap-mul (n * 10 ^ k) (a * 10 ^ s) (10 ^ p)) ∙ ap (λ x. gap x (a * 10 ^ s * 10 ^ p)) left ∙ ap (gap (m * 10 ^ k * 10 ^ s)) right
     ∙ gap_comm (m * 10 ^ k * 10 ^ s) (a * 10 ^ p * 10 ^ s) ∙ gap-mul (a * 10 ^ p) (m * 10 ^ k) (10 ^ s)
 
--- what the whole numbers of 10^-p say of the decimal without its zeros
+-- where m is the nearest number of 10^-p, m without its zeros is the rounding
 pub rounded_from : (neg : Bool) (a k p m n s : ℕ) → RoundsHalfUp (a * 10 ^ p) (10 ^ k) m → WithoutZeros m p n s → IsRounded (record { n = signed neg a; k = k }) p (signed neg n) s
 rounded_from neg a k p m n s r w =
     let far = distance_signed neg n s a k in
@@ -48,32 +50,36 @@ rounded_from neg a k p m n s r w =
           omega (arith, less, ap (λ x. x * 10 ^ s) (unsigned_abs-signed neg a), ap (λ x. x * 10 ^ k) (unsigned_abs-signed neg n));
     }
 
--- a number with a sign, and 0 where the other sign would be needed
+-- a number of the other sign is too far away to be the rounding
 far_apart : (x k p a s : ℕ) → s ≤ p → 2 * ((suc x) * 10 ^ k + a * 10 ^ s) * 10 ^ p ≤ 10 ^ s * 10 ^ k → ⊥
 far_apart x k p a s places near =
     let wide : 10 ^ s * 10 ^ k ≤ 10 ^ p * 10 ^ k = mul-le-mul_right {m = 10 ^ s} {n = 10 ^ p} (10 ^ k) (ten_pow_le s p places) in
     let pos : 0 < 10 ^ p * 10 ^ k = omega (arith, pow-add 10 p k, ten_pow_pos (p + k)) in
     omega arith
 
+-- a positive and a negative number are as far apart as their sum
 pub abs_pos_neg : (x y : ℕ) → unsigned_abs (pos x -ℤ neg_ℤ (pos y)) ≡ x + y
 abs_pos_neg x y = omega (arith, ints)
 
+-- a negative and a positive number are as far apart as their sum
 pub abs_neg_pos : (x y : ℕ) → unsigned_abs (neg_ℤ (pos x) -ℤ pos y) ≡ x + y
 abs_neg_pos x y = omega (arith, ints)
 
+-- a negative number and one from 0 on are as far apart as the sum of their magnitudes
 opposite_false : (x s a k : ℕ) → distance (negsuc x) s (pos a) k ≡ suc x * 10 ^ k + a * 10 ^ s
 opposite_false x s a k =
     ap (λ z. unsigned_abs (z -ℤ pos a *ℤ pos (10 ^ s))) (signed-mul true (suc x) (10 ^ k))
     ∙ ap (λ z. unsigned_abs (signed true (suc x * 10 ^ k) -ℤ z)) (signed-mul false a (10 ^ s))
     ∙ abs_neg_pos (suc x * 10 ^ k) (a * 10 ^ s)
 
+-- a positive number and one from 0 down are as far apart as the sum of their magnitudes
 opposite_true : (x s a k : ℕ) → distance (pos (suc x)) s (signed true a) k ≡ suc x * 10 ^ k + a * 10 ^ s
 opposite_true x s a k =
     ap (λ z. unsigned_abs (z -ℤ signed true a *ℤ pos (10 ^ s))) (signed-mul false (suc x) (10 ^ k))
     ∙ ap (λ z. unsigned_abs (pos (suc x * 10 ^ k) -ℤ z)) (signed-mul true a (10 ^ s))
     ∙ abs_pos_neg (suc x * 10 ^ k) (a * 10 ^ s)
 
--- what is rounded keeps the sign
+-- a rounding keeps the sign
 pub keeps_sign : (neg : Bool) (a k p : ℕ) (m : ℤ) (s : ℕ) → IsRounded (record { n = signed neg a; k = k }) p m s → (n : ℕ) × (m ≡ signed neg n)
 keeps_sign false a k p (pos n) s r = (n, refl)
 keeps_sign false a k p (negsuc x) s r = absurd (far_apart x k p a s r.places (subst (λ d. 2 * d * 10 ^ p ≤ 10 ^ s * 10 ^ k) (opposite_false x s a k) r.near))
@@ -81,7 +87,7 @@ keeps_sign true a k p (negsuc x) s r = (suc x, refl)
 keeps_sign true a k p (pos zero) s r = (0, refl)
 keeps_sign true a k p (pos (suc x)) s r = absurd (far_apart x k p a s r.places (subst (λ d. 2 * d * 10 ^ p ≤ 10 ^ s * 10 ^ k) (opposite_true x s a k) r.near))
 
--- the whole number of 10^-p
+-- a rounding is the nearest whole number of 10^-p, without its zeros
 pub record Units (neg : Bool) (a k p : ℕ) (m : ℤ) (s : ℕ) : Type 0 where
   pub n : ℕ
   pub u : ℕ
@@ -89,6 +95,7 @@ pub record Units (neg : Bool) (a k p : ℕ) (m : ℤ) (s : ℕ) : Type 0 where
   pub zeros : WithoutZeros u p n s
   pub rounds : RoundsHalfUp (a * 10 ^ p) (10 ^ k) u
 
+-- `Units` holds of each rounding of the same sign
 with_sign_known : (neg : Bool) (a k p n s : ℕ) → IsRounded (record { n = signed neg a; k = k }) p (signed neg n) s → Units neg a k p (signed neg n) s
 with_sign_known neg a k p n s r =
     let u : ℕ = n * 10 ^ (p - s) in
@@ -113,13 +120,14 @@ with_sign_known neg a k p n s r =
       };
     }
 
+-- `Units` holds of each rounding
 pub rounded_to : (neg : Bool) (a k p : ℕ) (m : ℤ) (s : ℕ) → IsRounded (record { n = signed neg a; k = k }) p m s → Units neg a k p m s
 rounded_to neg a k p m s r =
     let sign = keeps_sign neg a k p m s r in
     let there : IsRounded (record { n = signed neg a; k = k }) p (signed neg sign.0) s = subst (λ z. IsRounded (record { n = signed neg a; k = k }) p z s) sign.1 r in
     subst (λ z. Units neg a k p z s) (sym sign.1) (with_sign_known neg a k p sign.0 s there)
 
--- a fraction rounds to one decimal
+-- a fraction with a sign rounds to at most one decimal
 pub rounded_once : (neg : Bool) (a k p : ℕ) (m : ℤ) (s : ℕ) (n : ℤ) (t : ℕ) → IsRounded (record { n = signed neg a; k = k }) p m s
     → IsRounded (record { n = signed neg a; k = k }) p n t → (m ≡ n) × (s ≡ t)
 rounded_once neg a k p m s n t r q =
@@ -129,24 +137,27 @@ rounded_once neg a k p m s n t r q =
     let one = zeros_once x.u p x.n s y.n t x.zeros (subst (λ u. WithoutZeros u p y.n t) (sym same) y.zeros) in
     (x.m_is ∙ ap (signed neg) one.0 ∙ sym y.m_is, one.1)
 
--- a fraction has a sign
+-- each whole number is a magnitude with a sign
 pub sign_of : (z : ℤ) → (neg : Bool) × (a : ℕ) × (z ≡ signed neg a)
 sign_of (pos n) = (false, n, refl)
 sign_of (negsuc n) = (true, suc n, refl)
 
+-- a fraction rounds to at most one decimal
 pub rounds_to_one : (q : Fraction) (p : ℕ) (m : ℤ) (s : ℕ) (n : ℤ) (t : ℕ) → IsRounded q p m s → IsRounded q p n t → (m ≡ n) × (s ≡ t)
 rounds_to_one q p m s n t r r' =
     let z = sign_of q.n in
     let same : q ≡ record { n = signed z.0 z.1; k = q.k } = ap (λ (x : ℤ). let f : Fraction = record { n = x; k = q.k } in f) z.2 in
     rounded_once z.0 z.1 q.k p m s n t (subst (λ f. IsRounded f p m s) same r) (subst (λ f. IsRounded f p n t) same r')
 
+-- a number is 0 away from itself
 same_place : (x : ℤ) → unsigned_abs (x -ℤ x) ≡ 0
 same_place x = omega (arith, ints)
 
+-- twice 0 times anything is 0
 nothing : (x : ℕ) → 2 * 0 * x ≡ 0
 nothing x = omega arith
 
--- a value that needs no rounding
+-- a decimal with enough places has its value as its rounding
 pub exact_rounds : (q : Fraction) (p : ℕ) (m : ℤ) (s : ℕ) → IsCanonical m s → s ≤ p → m *ℤ pos (10 ^ q.k) ≡ q.n *ℤ pos (10 ^ s) → IsRounded q p m s
 exact_rounds q p m s canonical places same =
     let near : distance m s q.n q.k ≡ 0 = ap (λ x. unsigned_abs (x -ℤ q.n *ℤ pos (10 ^ s))) same ∙ same_place (q.n *ℤ pos (10 ^ s)) in
@@ -159,7 +170,7 @@ exact_rounds q p m s canonical places same =
       tie = λ h. let e : 0 ≡ 10 ^ s * 10 ^ q.k = sym none ∙ h in absurd (omega (arith, e, some));
     }
 
--- a decimal of s places, rounded to p of them
+-- rounding digits to p of their s places is rounding the value at p places
 pub rounds_places : (a s p m : ℕ) → p ≤ s → RoundsHalfUp a (10 ^ (s - p)) m → RoundsHalfUp (a * 10 ^ p) (10 ^ s) m
 rounds_places a s p m places r =
     let back : s - p + p ≡ s = omega arith in
@@ -167,6 +178,7 @@ rounds_places a s p m places r =
     let same : a * 10 ^ s ≡ a * 10 ^ p * 10 ^ (s - p) = omega (arith, ap (λ x. a * x) power) in
     rounds_same_value a (10 ^ (s - p)) (a * 10 ^ p) (10 ^ s) m (ten_pow_pos (s - p)) (ten_pow_pos s) same r
 
+-- a value in range has at most 10^37 units of 10^-24
 pub units_in_range : (a s : ℕ) → s ≤ 24 → a ≤ 10 ^ 13 * 10 ^ s → a * 10 ^ (24 - s) ≤ 10 ^ 37
 units_in_range a s places h =
     let back : s + (24 - s) ≡ 24 = omega arith in

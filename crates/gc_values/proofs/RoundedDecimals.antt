@@ -10,10 +10,11 @@ use Rattle.gc_values.proofs.DecimalLemmas.{same_decimal}
 use Rattle.gc_values.proofs.Rounded.{exact_rounds, rounded_from, rounds_places, rounds_to_one}
 use Rattle.gc_values.proofs.Signs.{signed-mul}
 
+-- a whole number over 1 rounds to itself
 half_up-one : (m : ℕ) → half_up m 1 ≡ m
 half_up-one m = omega arith
 
--- at its own places or more a number stays
+-- rounded at its own places or more, a number stays
 stays : (b : Bool) (m s p : ℕ) → s ≤ p → IsRounded (record { n = signed b m; k = s }) p (signed b (rounded_to m s p).digits) (rounded_to m s p).places
 stays b m s p h =
     let r = rounded_to m s p in
@@ -25,7 +26,7 @@ stays b m s p h =
     exact_rounds (record { n = signed b m; k = s }) p (signed b r.digits) r.places (rounded_canonical b m s p) (let f = zeros.fewer in omega (arith, f))
     (signed-mul b r.digits (10 ^ s) ∙ ap (signed b) same ∙ sym (signed-mul b m (10 ^ r.places)))
 
--- at fewer it goes to the nearest
+-- rounded at fewer places, a number goes to the nearest
 nears : (b : Bool) (m s p : ℕ) → p < s → IsRounded (record { n = signed b m; k = s }) p (signed b (rounded_to m s p).digits) (rounded_to m s p).places
 nears b m s p h =
     let r = rounded_to m s p in
@@ -34,14 +35,16 @@ nears b m s p h =
     rounded_from b m s p (half_up m (10 ^ (s - p))) r.digits r.places
     (rounds_places m s p (half_up m (10 ^ (s - p))) (omega arith) (half_up_rounds m (10 ^ (s - p)) (ten_pow_pos (s - p)))) zeros
 
+-- `rounded_to` gives the rounding of a number with a sign
 pub rounded_to_rounds : (b : Bool) (m s p : ℕ) → IsRounded (record { n = signed b m; k = s }) p (signed b (rounded_to m s p).digits) (rounded_to m s p).places
 rounded_to_rounds b m s p = elim (cases_lt p s) [ inl fewer ↦ nears b m s p fewer | inr own ↦ stays b m s p own ]
 
+-- a number is its magnitude with its sign
 signed-unsigned_abs : (z : ℤ) → signed (is_negative z) (unsigned_abs z) ≡ z
 signed-unsigned_abs (pos n) = refl
 signed-unsigned_abs (negsuc n) = refl
 
--- the rounded decimal is the rounding
+-- `rounded` gives the rounding of a decimal
 pub rounded_rounds : (d : Decimal) (p : ℕ) → IsRounded (fraction d) p (rounded d p).digits (rounded d p).scale
 unfolding rounded
 rounded_rounds d p =

@@ -3,12 +3,15 @@ pub use Rattle.gc_values.specs.Nearest.{gap, RoundsHalfUp}
 use Rattle.std.proofs.Math.Nat.{mul-le-mul_right, le_of_mul-le-mul_right, lt_of_mul-lt-mul_left, eq_of_mul-eq-mul_left, mul-lt-mul_of_pos_left}
 use Rattle.std.proofs.lemmas.Bool.{cases_lt, cases_order}
 
+-- the gap of multiples is the multiple of the gap, where the second is greater
 gap-mul_up : (a t c : ℕ) → gap (a * c) ((a + t) * c) ≡ gap a (a + t) * c
 gap-mul_up a t c = let l : gap (a * c) ((a + t) * c) ≡ t * c = omega arith in let r : gap a (a + t) ≡ t = omega arith in l ∙ ap (λ x. x * c) (sym r)
 
+-- the gap of multiples is the multiple of the gap, where the first is greater
 gap-mul_down : (a t c : ℕ) → gap ((a + t) * c) (a * c) ≡ gap (a + t) a * c
 gap-mul_down a t c = let l : gap ((a + t) * c) (a * c) ≡ t * c = omega arith in let r : gap (a + t) a ≡ t = omega arith in l ∙ ap (λ x. x * c) (sym r)
 
+-- the gap of multiples is the multiple of the gap
 pub gap-mul : (a b c : ℕ) → gap (a * c) (b * c) ≡ gap a b * c
 gap-mul a b c = elim (cases_lt a b) [
   | inl lt ↦ let e : a + (b - a) ≡ b = omega arith in subst (λ x. gap (a * c) (x * c) ≡ gap a x * c) e (gap-mul_up a (b - a) c)
@@ -28,7 +31,7 @@ rounds_same_value a b c d m b_pos d_pos same r =
           lt_of_mul-lt-mul_left b (omega (arith, shuffled, same, mul-lt-mul_of_pos_left {m = a} {n = m * b} {k = d} (r.tie there) d_pos));
     }
 
--- no greater number rounds too
+-- no greater number is the nearest one too
 no_greater : (a b m n : ℕ) → 0 < b → m < n → RoundsHalfUp a b m → RoundsHalfUp a b n → ⊥
 no_greater a b m n pos lt r s =
     let apart : b + m * b ≤ n * b = omega (arith, mul-le-mul_right {m = m + 1} {n = n} b (omega arith)) in
@@ -37,7 +40,7 @@ no_greater a b m n pos lt r s =
     let near' : 2 * gap a (n * b) ≤ b = s.near in
     omega arith
 
--- there is one such number
+-- at most one number is the nearest one
 pub rounds_once : (a b m n : ℕ) → 0 < b → RoundsHalfUp a b m → RoundsHalfUp a b n → m ≡ n
 rounds_once a b m n pos r s = elim (cases_order m n) [
   | inl same ↦ same
@@ -55,12 +58,13 @@ rounds_whole m b pos = record { near = omega arith; tie = λ h. absurd (omega ar
 pub rounds_to_zero : (a b : ℕ) → 0 < b → 2 * a < b → RoundsHalfUp a b 0
 rounds_to_zero a b pos small = record { near = omega arith; tie = λ h. absurd (omega arith) }
 
--- the first digit behind the place decides, where u is the weight of that digit and r what comes after it
+-- a first digit below 5 behind the place rounds down, where u is that digit's weight and r what comes after it
 pub rounds_down : (m d u r : ℕ) → d < 5 → r < u → RoundsHalfUp (m * (10 * u) + (d * u + r)) (10 * u) m
 rounds_down m d u r small rest =
     let part : d * u + u ≤ 5 * u = omega (arith, mul-le-mul_right {m = d + 1} {n = 5} u (omega arith)) in
     record { near = omega arith; tie = λ h. absurd (omega arith) }
 
+-- a first digit from 5 on rounds up
 pub rounds_up : (m d u r : ℕ) → 5 ≤ d → d < 10 → r < u → RoundsHalfUp (m * (10 * u) + (d * u + r)) (10 * u) (m + 1)
 rounds_up m d u r large digit rest =
     let part : 5 * u ≤ d * u = mul-le-mul_right {m = 5} {n = d} u large in

@@ -9,23 +9,26 @@ pub record Scanned (text : List ℕ) (i : ℕ) (quoted : Bool) : Type 0 where
   pub keeps : KeepsCommas (take i text)
   pub parity : quotes (take i text) % 2 ≡ cond quoted 1 0
 
--- inside quotes or not, behind the byte
+-- whether the bytes end inside quotes, behind one more byte
 abbrev pub turned : ℕ → Bool → Bool
 turned b quoted = cond (eqb b 34) (not quoted) quoted
 
+-- before the first byte no comma was passed, and no quote is open
 pub scanned_none : (text : List ℕ) → Scanned text 0 false
 scanned_none text = record { keeps = KeepsCommas-nil; parity = refl }
 
+-- one more quote turns odd and even
 parity_step : (n : ℕ) (quoted same : Bool) → n % 2 ≡ cond quoted 1 0 → (n + cond same 1 0) % 2 ≡ cond (cond same (not quoted) quoted) 1 0
 parity_step n true true h = omega arith
 parity_step n true false h = omega arith
 parity_step n false true h = omega arith
 parity_step n false false h = omega arith
 
+-- inside quotes the number of quotes is odd
 odd_inside : (n : ℕ) (quoted : Bool) → quoted ≡ true → n % 2 ≡ cond quoted 1 0 → n % 2 ≡ 1
 odd_inside n quoted e h = h ∙ ap (λ b. cond b 1 0) e
 
--- one byte more
+-- one byte more, which is no comma outside quotes, was scanned
 pub scanned_more : (text : List ℕ) (i : ℕ) (quoted now : Bool) → Scanned text i quoted → i < length text → (get_or text i 0 ≡ 44 → quoted ≡ true)
     → now ≡ turned (get_or text i 0) quoted → Scanned text (i + 1) now
 scanned_more text i quoted now s within comma step =

@@ -5,6 +5,7 @@ use Rattle.gc_values.specs.Fraction.{signed}
 pub use Rattle.gc_values.specs.RoundedFacts.{unsigned_abs-signed}
 use Rattle.gc_values.proofs.Rounding.{gap}
 
+-- a multiple of a number with a sign has the sign
 pub signed-mul : (b : Bool) (m n : ℕ) → signed b m *ℤ pos n ≡ signed b (m * n)
 signed-mul false m n = pos-*ℤ-pos m n
 signed-mul true zero n = let e : 0 * n ≡ 0 = omega arith in rw e refl
@@ -15,5 +16,6 @@ pub gap_signed : (b : Bool) (m n : ℕ) → unsigned_abs (signed b m -ℤ signed
 gap_signed false m n = omega (arith, ints)
 gap_signed true m n = omega (arith, ints)
 
+-- a number with a sign has its magnitude
 pub abs_from : (z : ℤ) (b : Bool) (m : ℕ) → z ≡ signed b m → unsigned_abs z ≡ m
 abs_from z b m e = ap unsigned_abs e ∙ unsigned_abs-signed b m

@@ -5,15 +5,18 @@ use Rattle.gc_values.specs.Padding.{IsKept}
 use Rattle.gc_values.specs.declared.text.Text.TheInside.{Inside}
 use Rattle.gc_values.specs.Text.{IsStringByte, AreStringBytes, quoted, IsString}
 
+-- bytes that may stand in a string, behind others that may, all may
 pub AreStringBytes-append : (xs ys : List ℕ) → AreStringBytes xs → AreStringBytes ys → AreStringBytes (xs ++ ys)
 AreStringBytes-append [] ys h k = k
 AreStringBytes-append (x ∷ xs) ys h k = (h.0, AreStringBytes-append xs ys h.1 k)
 
+-- the byte at a place of a string's bytes may stand in a string
 pub string_byte_at : (bytes : List ℕ) (i : ℕ) → i < length bytes → AreStringBytes bytes → IsStringByte (get_or bytes i 0)
 string_byte_at [] i within h = absurd (omega arith)
 string_byte_at (b ∷ bs) zero within h = h.0
 string_byte_at (b ∷ bs) (suc i) within h = string_byte_at bs i (omega arith) h.1
 
+-- texts that are one with a quote behind them are one
 end_same : (xs ys : List ℕ) → xs ++ 34 ∷ [] ≡ ys ++ 34 ∷ [] → xs ≡ ys
 end_same [] [] e = refl
 end_same [] (y ∷ []) e = cc
@@ -26,6 +29,7 @@ end_same (x ∷ xs) (y ∷ ys) e = let t : xs ++ 34 ∷ [] ≡ ys ++ 34 ∷ [] =
 pub one_quoted : (xs ys : List ℕ) → quoted xs ≡ quoted ys → xs ≡ ys
 one_quoted xs ys e = let t : xs ++ 34 ∷ [] ≡ ys ++ 34 ∷ [] = cc in end_same xs ys t
 
+-- an item is a string of at most one list of bytes
 pub one_string : (item xs ys : List ℕ) → IsString item xs → IsString item ys → xs ≡ ys
 one_string item xs ys x y = one_quoted xs ys (sym x.item_is ∙ y.item_is)
 

@@ -31,39 +31,48 @@ pub record IsBare (b : ℕ) : Type 0 where
   pub cr : b ≢ 13
   pub lf : b ≢ 10
 
+-- bytes that are all bare
 abbrev pub AreBare : List ℕ → Type 0
 AreBare bs = AllByRecursion IsBare bs
 
+-- a byte above 44 is bare
 pub bare_above : (b : ℕ) → 44 < b → IsBare b
 bare_above b h = record { space = λ e. omega (arith, e); quote = λ e. omega (arith, e); comma = λ e. omega (arith, e); cr = λ e. omega (arith, e); lf = λ e. omega (arith, e) }
 
+-- a single quote is bare
 bare_quote : IsBare 39
 bare_quote = record { space = λ e. omega (arith, e); quote = λ e. omega (arith, e); comma = λ e. omega (arith, e); cr = λ e. omega (arith, e); lf = λ e. omega (arith, e) }
 
+-- bare bytes behind bare bytes are bare
 pub AreBare-append : (xs ys : List ℕ) → AreBare xs → AreBare ys → AreBare (xs ++ ys)
 AreBare-append [] ys h k = k
 AreBare-append (x ∷ xs) ys h k = (h.0, AreBare-append xs ys h.1 k)
 
+-- digits are bare
 pub bare_digits : (ds : List ℕ) → AreDigits ds → AreBare ds
 bare_digits [] h = tt
 bare_digits (d ∷ ds) h = (bare_above d (let low = h.0.0 in omega (arith, low)), bare_digits ds h.1)
 
+-- bare bytes have no double quote
 quotes-bare : (xs : List ℕ) → AreBare xs → quotes xs ≡ 0
 quotes-bare [] h = refl
 quotes-bare (x ∷ xs) h = quotes_same x xs (ne_eqb x 34 h.0.quote) ∙ quotes-bare xs h.1
 
+-- bare bytes have no comma
 bare_comma : (xs front rest : List ℕ) → AreBare xs → xs ≡ front ++ 44 ∷ rest → ⊥
 bare_comma [] [] rest h e = cc
 bare_comma [] (f ∷ fs) rest h e = cc
 bare_comma (x ∷ xs) [] rest h e = h.0.comma (let first : x ≡ 44 = cc in first)
 bare_comma (x ∷ xs) (f ∷ fs) rest h e = let t : xs ≡ fs ++ 44 ∷ rest = cc in bare_comma xs fs rest h.1 t
 
+-- bare bytes don't end in a space
 bare_last : (xs front : List ℕ) → AreBare xs → xs ≡ front ++ 32 ∷ [] → ⊥
 bare_last [] [] h e = cc
 bare_last [] (f ∷ fs) h e = cc
 bare_last (x ∷ xs) [] h e = h.0.space (let first : x ≡ 32 = cc in first)
 bare_last (x ∷ xs) (f ∷ fs) h e = let t : xs ≡ fs ++ 32 ∷ [] = cc in bare_last xs fs h.1 t
 
+-- bare bytes don't begin with a space
 bare_first : (xs rest : List ℕ) → AreBare xs → xs ≡ 32 ∷ rest → ⊥
 bare_first [] rest h e = cc
 bare_first (x ∷ xs) rest h e = h.0.space (let first : x ≡ 32 = cc in first)
@@ -77,34 +86,40 @@ bare_param xs h = record {
   commas = λ front rest e. absurd (bare_comma xs front rest h e);
 }
 
--- a byte that ends no line
+-- a byte is neither CR nor LF
 abbrev pub EndsNoLine : ℕ → Type 0
 EndsNoLine b = (b ≢ 10) × (b ≢ 13)
 
+-- bare bytes end no line
 bare_plain : (xs : List ℕ) → AreBare xs → AllByRecursion EndsNoLine xs
 bare_plain [] h = tt
 bare_plain (x ∷ xs) h = ((h.0.lf, h.0.cr), bare_plain xs h.1)
 
--- the texts of numbers and bytes are bare, and not empty
+-- a minus, or none, is bare
 bare_minus : (z : ℤ) → AreBare (minus_text z)
 bare_minus (pos n) = tt
 bare_minus (negsuc n) = (bare_above 45 (lit< tt), tt)
 
+-- a whole number's text is bare
 bare_whole : (n : ℕ) → AreBare (whole_text n)
 bare_whole n = bare_digits (whole_text n) (writes_whole n).digits
 
+-- the text of a whole number with a sign is bare
 bare_signed : (z : ℤ) → AreBare (signed_text z)
 bare_signed z = AreBare-append (minus_text z) (whole_text (unsigned_abs z)) (bare_minus z) (bare_whole (unsigned_abs z))
 
+-- a decimal's text is bare
 bare_written : (m : ℤ) (s : ℕ) → AreBare (written m s)
 bare_written m s =
     let n = unsigned_abs m in
     AreBare-append (minus_text m) (whole_text (n / 10 ^ s) ++ (46 ∷ behind_text s (n % 10 ^ s))) (bare_minus m)
     (AreBare-append (whole_text (n / 10 ^ s)) (46 ∷ behind_text s (n % 10 ^ s)) (bare_whole (n / 10 ^ s)) (bare_above 46 (lit< tt), bare_digits (behind_text s (n % 10 ^ s)) (behind n s).digits))
 
+-- a hexadecimal digit is above 44
 digit_above : (d : ℕ) → d < 16 → 44 < slice_index lower_digits d
 digit_above d h = ltb-true 44 (slice_index lower_digits d) (agree_below_at (λ k. ltb 44 (slice_index lower_digits k)) (λ _. true) 16 d refl h)
 
+-- a byte parameter's text is bare
 bare_byte : (n : ℕ) → n < 256 → AreBare (byte_text n)
 bare_byte n h = (
   bare_quote,
@@ -114,6 +129,7 @@ bare_byte n h = (
   ),
 )
 
+-- a Boolean's text is bare
 bare_boolean : (b : Bool) → AreBare (boolean_text b)
 bare_boolean false = (bare_above 48 (lit< tt), tt)
 bare_boolean true = (bare_above 49 (lit< tt), tt)
@@ -123,6 +139,7 @@ quotes-string : (bytes : List ℕ) → AreStringBytes bytes → quotes bytes ≡
 quotes-string [] h = refl
 quotes-string (b ∷ bs) h = quotes_same b bs (ne_eqb b 34 h.0.0) ∙ quotes-string bs h.1
 
+-- a comma in a quoted string is inside the quotes
 quoted_commas : (bytes front rest : List ℕ) → AreStringBytes bytes → quoted bytes ≡ front ++ 44 ∷ rest → quotes front % 2 ≡ 1
 quoted_commas bytes [] rest h e = let first : ◌≡◌ {A = ℕ} 34 44 = cc in absurd (omega (arith, first))
 quoted_commas bytes (f ∷ fs) rest h e =
@@ -136,6 +153,7 @@ quoted_commas bytes (f ∷ fs) rest h e =
           omega (arith, none, one, quotes-append fs (44 ∷ inside.0))
     ]
 
+-- a quoted string is a parameter
 quoted_param : (bytes : List ℕ) → AreStringBytes bytes → IsParam (quoted bytes)
 quoted_param bytes h = record {
   first = λ rest e. let bad : ◌≡◌ {A = ℕ} 34 32 = cc in omega (arith, bad);
@@ -145,6 +163,7 @@ quoted_param bytes h = record {
   commas = λ front rest e. quoted_commas bytes front rest h e;
 }
 
+-- a string's bytes, and the quote behind them, end no line
 string_plain : (bytes : List ℕ) → AreStringBytes bytes → AllByRecursion EndsNoLine (bytes ++ 34 ∷ [])
 string_plain [] h = ((λ e. omega (arith, e), λ e. omega (arith, e)), tt)
 string_plain (b ∷ bs) h = ((h.0.2, h.0.1), string_plain bs h.1)
@@ -158,9 +177,11 @@ text_is_param (value.Byte n) h = bare_param _ (bare_byte n h)
 text_is_param (value.Bool b) h = bare_param _ (bare_boolean b)
 text_is_param (value.Text bytes) h = quoted_param bytes h.plain
 
+-- a text with a whole number in it isn't empty
 whole_some : (before behind : List ℕ) (n : ℕ) → 0 < length (before ++ (whole_text n ++ behind))
 whole_some before behind n = omega (arith, length-append before (whole_text n ++ behind), length-append (whole_text n) behind, (writes_whole n).some)
 
+-- the text of a whole number with a sign isn't empty
 signed_some : (z : ℤ) → 0 < length (signed_text z)
 signed_some z = omega (arith, length-append (minus_text z) (whole_text (unsigned_abs z)), (writes_whole (unsigned_abs z)).some)
 
@@ -174,6 +195,7 @@ text_is_some (value.Bool false) = omega arith
 text_is_some (value.Bool true) = omega arith
 text_is_some (value.Text bytes) = omega arith
 
+-- the text of a value ends no line
 ends_no_line : (v : Value) → IsValue v → AllByRecursion EndsNoLine (text v)
 ends_no_line (value.Double d) h = bare_plain _ (bare_written d.digits d.scale)
 ends_no_line (value.Long z) h = bare_plain _ (bare_signed z)
@@ -182,6 +204,7 @@ ends_no_line (value.Byte n) h = bare_plain (byte_text n) (bare_byte n h)
 ends_no_line (value.Bool b) h = bare_plain _ (bare_boolean b)
 ends_no_line (value.Text bytes) h = ((λ e. omega (arith, e), λ e. omega (arith, e)), string_plain bytes h.plain)
 
+-- both ways to say something of all elements are one
 all_from : (P : ℕ → Type 0) (xs : List ℕ) → AllByRecursion P xs → All P xs
 all_from P [] h k d within = absurd (omega arith)
 all_from P (x ∷ xs) h zero d within = h.0
@@ -191,6 +214,7 @@ all_from P (x ∷ xs) h (suc k) d within = all_from P xs h.1 k d (omega arith)
 pub text_is_plain : (v : Value) → IsValue v → All EndsNoLine (text v)
 text_is_plain v h = all_from EndsNoLine (text v) (ends_no_line v h)
 
+-- a decimal's text has at most 40 bytes
 pub length-written : (m : ℤ) (s : ℕ) → IsInRange m s → s ≤ 24 → length (written m s) ≤ 40
 length-written m s small few =
     let n = unsigned_abs m in
@@ -215,10 +239,12 @@ text_is_short (value.Bool false) h = lit≤ tt
 text_is_short (value.Bool true) h = lit≤ tt
 text_is_short (value.Text bytes) h = let few = h.few in omega (arith, few, length-append bytes (34 ∷ []))
 
+-- the texts of values are parameters
 texts_are_params : (vs : List Value) → AllByRecursion IsValue vs → AllByRecursion IsParam (map text vs)
 texts_are_params [] h = tt
 texts_are_params (v ∷ vs) h = (text_is_param v h.0, texts_are_params vs h.1)
 
+-- the texts of values aren't empty
 texts_are_some : (vs : List Value) → AllByRecursion (λ t. 0 < length t) (map text vs)
 texts_are_some [] = tt
 texts_are_some (v ∷ vs) = (text_is_some v, texts_are_some vs)

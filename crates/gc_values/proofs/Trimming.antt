@@ -5,7 +5,7 @@ use Rattle.gc_values.specs.Params.{quotes, IsPadded, IsParam, AreSpaces}
 use Rattle.gc_values.specs.Pieces.{KeepsCommas, StartsNoSpace, EndsNoSpace, TrimsFront, TrimsBack, IsTrimmed}
 use Rattle.gc_values.proofs.Quotes.{quotes-append, quotes_same, quotes-spaces, KeepsCommas-push}
 
--- spaces in front hold no comma
+-- spaces in front of a text leave its commas within quotes
 front_spaces : (n : ℕ) (xs : List ℕ) → KeepsCommas xs → KeepsCommas (replicate n 32 ++ xs)
 front_spaces zero xs keeps front rest e = keeps front rest e
 front_spaces (suc n) xs keeps [] rest e = let h : ◌≡◌ {A = ℕ} 32 44 = cc in absurd (omega (arith, h))
@@ -35,9 +35,11 @@ quotes-padded piece item p =
       quotes-spaces p.behind,
     )
 
+-- a parameter with spaces round it has its commas within quotes
 pub padded_keeps : (piece item : List ℕ) → IsPadded piece item → IsParam item → KeepsCommas piece
 padded_keeps piece item p h = subst KeepsCommas (sym p.piece_is) (front_spaces p.before (item ++ replicate p.behind 32) (back_spaces p.behind item h.commas))
 
+-- bytes with a comma among them may be grouped round the comma
 regroup : (a b c d e : List ℕ) → a ++ ((b ++ 44 ∷ c) ++ d) ≡ (a ++ b) ++ 44 ∷ (c ++ d)
 regroup a b c d e = simp append_assoc
 
@@ -62,7 +64,7 @@ abbrev pub front_off : List ℕ → List ℕ
 front_off [] = []
 front_off (b ∷ bs) = cond (eqb b 32) (front_off bs) (b ∷ bs)
 
--- b and the rest, or nothing where b is a space and there is no rest
+-- byte b in front of a trimmed rest: nothing where b is a space and the rest is empty
 abbrev pub kept_front : ℕ → List ℕ → List ℕ
 kept_front b [] = cond (eqb b 32) [] (b ∷ [])
 kept_front b (x ∷ xs) = b ∷ x ∷ xs
@@ -72,33 +74,41 @@ abbrev pub back_off : List ℕ → List ℕ
 back_off [] = []
 back_off (b ∷ bs) = kept_front b (back_off bs)
 
+-- spaces in front are taken off
 front_off-spaces : (n : ℕ) (xs : List ℕ) → front_off (replicate n 32 ++ xs) ≡ front_off xs
 front_off-spaces zero xs = refl
 front_off-spaces (suc n) xs = front_off-spaces n xs
 
+-- a text without spaces in front stays
 front_off_same : (xs : List ℕ) → StartsNoSpace xs → front_off xs ≡ xs
 front_off_same [] h = refl
 front_off_same (b ∷ bs) h = ap (λ c. cond c (front_off bs) (b ∷ bs)) (ne_eqb b 32 (λ e. h bs (ap (λ x. x ∷ bs) e)))
 
+-- spaces alone are taken off the end
 back_off-spaces : (n : ℕ) → back_off (replicate n 32) ≡ []
 back_off-spaces zero = refl
 back_off-spaces (suc n) = ap (kept_front 32) (back_off-spaces n)
 
+-- a byte in front of a text without spaces at its end stays
 kept_front_same : (b : ℕ) (bs : List ℕ) → EndsNoSpace (b ∷ bs) → kept_front b bs ≡ b ∷ bs
 kept_front_same b [] h = ap (λ c. cond c [] (b ∷ [])) (ne_eqb b 32 (λ e. h [] (ap (λ x. x ∷ []) e)))
 kept_front_same b (x ∷ xs) h = refl
 
+-- a text without spaces at its end has none without its first byte
 tail_ends : (b : ℕ) (bs : List ℕ) → EndsNoSpace (b ∷ bs) → EndsNoSpace bs
 tail_ends b bs h front e = h (b ∷ front) (ap (λ xs. b ∷ xs) e)
 
+-- spaces behind a text without spaces at its end are taken off
 back_off_same : (xs : List ℕ) (n : ℕ) → EndsNoSpace xs → back_off (xs ++ replicate n 32) ≡ xs
 back_off_same [] n h = back_off-spaces n
 back_off_same (b ∷ bs) n h = ap (kept_front b) (back_off_same bs n (tail_ends b bs h)) ∙ kept_front_same b bs h
 
+-- a text without spaces in front is empty, or has none with spaces behind it
 empty_or_first : (xs : List ℕ) (n : ℕ) → StartsNoSpace xs → (xs ≡ []) ⊎ (StartsNoSpace (xs ++ replicate n 32))
 empty_or_first [] n h = inl refl
 empty_or_first (b ∷ bs) n h = inr (λ rest e. h bs (let head : b ≡ 32 = cc in ap (λ x. x ∷ bs) head))
 
+-- trimming a text without spaces at its ends, and spaces behind it, gives the text
 trims_once : (n : ℕ) (xs : List ℕ) → StartsNoSpace xs → EndsNoSpace xs → back_off (front_off (xs ++ replicate n 32)) ≡ xs
 trims_once n xs f l = elim (empty_or_first xs n f) [
   | inl h ↦ ap (λ ys. back_off (front_off (ys ++ replicate n 32))) h ∙ ap back_off
@@ -106,19 +116,21 @@ trims_once n xs f l = elim (empty_or_first xs n f) [
   | inr h ↦ ap back_off (front_off_same (xs ++ replicate n 32) h) ∙ back_off_same xs n l
 ]
 
--- a trimmed item is one
+-- a trimmed item is what both functions leave of the piece
 pub trimmed_is : (piece item : List ℕ) → IsTrimmed piece item → item ≡ back_off (front_off piece)
 trimmed_is piece item t =
     let p = t.padded in
     sym (ap (λ xs. back_off (front_off xs)) p.piece_is ∙ ap back_off (front_off-spaces p.before (item ++ replicate p.behind 32)) ∙ trims_once p.behind item t.first t.last)
 
+-- a piece has one trimmed item
 pub one_trimmed : (piece x y : List ℕ) → IsTrimmed piece x → IsTrimmed piece y → x ≡ y
 one_trimmed piece x y s t = trimmed_is piece x s ∙ sym (trimmed_is piece y t)
 
+-- a parameter with spaces round it is trimmed to the parameter
 pub param_is_trimmed : (piece item : List ℕ) → IsPadded piece item → IsParam item → IsTrimmed piece item
 param_is_trimmed piece item p h = record { padded = p; first = h.first; last = h.last }
 
--- every text can be trimmed at its front
+-- `front_off` trims every text at its front
 trims_front : (xs : List ℕ) → TrimsFront xs (front_off xs)
 trims_front [] = record { count = 0; text_is = refl; first = λ rest e. cc }
 trims_front (b ∷ bs) = elim (cases_eq b 32) [
@@ -131,23 +143,27 @@ trims_front (b ∷ bs) = elim (cases_eq b 32) [
       subst (λ ys. TrimsFront (b ∷ bs) ys) (sym off) (record { count = 0; text_is = refl; first = λ rest e. h (let head : b ≡ 32 = cc in head) })
 ]
 
+-- the empty list doesn't end in a space
 no_last : (front : List ℕ) → [] ≡ front ++ 32 ∷ [] → ⊥
 no_last [] e = cc
 no_last (f ∷ fs) e = cc
 
+-- the empty list doesn't end in a byte
 no_end : (front : List ℕ) (b : ℕ) → [] ≡ front ++ b ∷ [] → ⊥
 no_end [] b e = cc
 no_end (f ∷ fs) b e = cc
 
+-- a text of one byte that ends in a space is that space
 one_last : (b : ℕ) (front : List ℕ) → b ∷ [] ≡ front ++ 32 ∷ [] → b ≡ 32
 one_last b [] e = cc
 one_last b (f ∷ fs) e = let t : [] ≡ fs ++ 32 ∷ [] = cc in absurd (no_last fs t)
 
+-- a byte in front of a text without a space at its end changes nothing of its end
 longer_last : (b : ℕ) (xs front : List ℕ) (x : ℕ) → EndsNoSpace (x ∷ xs) → b ∷ x ∷ xs ≡ front ++ 32 ∷ [] → ⊥
 longer_last b xs [] x h e = cc
 longer_last b xs (f ∷ fs) x h e = let t : x ∷ xs ≡ fs ++ 32 ∷ [] = cc in h fs t
 
--- trimming the end of a text with one more byte in front
+-- where a text is trimmed at its end, the text with one more byte in front is trimmed to what `kept_front` gives
 back_step : (b : ℕ) (bs item : List ℕ) → TrimsBack bs item → TrimsBack (b ∷ bs) (kept_front b item)
 back_step b bs [] r = elim (cases_eq b 32) [
   | inl h ↦
@@ -163,11 +179,12 @@ back_step b bs (x ∷ xs) r = record {
   last = λ front e. longer_last b xs front x r.last e;
 }
 
+-- `back_off` trims every text at its end
 trims_back : (xs : List ℕ) → TrimsBack xs (back_off xs)
 trims_back [] = record { count = 0; text_is = refl; last = λ front e. no_last front e }
 trims_back (b ∷ bs) = back_step b bs (back_off bs) (trims_back bs)
 
--- what is trimmed at its end keeps its front
+-- trimming the front and then the end trims both
 pub both_ends : (text middle item : List ℕ) → TrimsFront text middle → TrimsBack middle item → IsTrimmed text item
 both_ends text middle item f b = record {
   padded = record { before = f.count; behind = b.count; piece_is = f.text_is ∙ ap (λ xs. replicate f.count 32 ++ xs) b.text_is };
@@ -175,10 +192,11 @@ both_ends text middle item f b = record {
   last = b.last;
 }
 
+-- both functions trim every text
 pub trimmed_exists : (text : List ℕ) → IsTrimmed text (back_off (front_off text))
 trimmed_exists text = both_ends text (front_off text) _ (trims_front text) (trims_back (front_off text))
 
--- a slice's rest
+-- a slice from a place to the end is what is left from there
 pub rest_of : (text : List ℕ) (i : ℕ) → take (length text - i) (drop i text) ≡ drop i text
 rest_of text i = take_all (length text - i) (drop i text) (omega (arith, length-drop i text))
 
@@ -198,7 +216,7 @@ front_all text i all spaces = record {
   first = λ rest e. cc;
 }
 
--- a loop from the end: one space more
+-- a loop from the end passes one space more
 pub back_more : (text : List ℕ) (end : ℕ) → 0 < end → end ≤ length text → drop end text ≡ replicate (length text - end) 32 → get_or text (end - 1) 0 ≡ 32
     → drop (end - 1) text ≡ replicate (length text - (end - 1)) 32
 back_more text end some within spaces here =
@@ -206,6 +224,7 @@ back_more text end some within spaces here =
     let size : suc (length text - end) ≡ length text - (end - 1) = omega arith in
     drop_more text (end - 1) 0 (omega arith) ∙ ap (λ b. b ∷ drop (end - 1 + 1) text) here ∙ ap (λ i. 32 ∷ drop i text) back ∙ ap (λ xs. 32 ∷ xs) spaces ∙ ap (λ n. replicate n 32) size
 
+-- a list ends in one element
 pub last_of : (xs ys : List ℕ) (a b : ℕ) → xs ++ a ∷ [] ≡ ys ++ b ∷ [] → a ≡ b
 last_of [] [] a b e = cc
 last_of [] (y ∷ ys) a b e = let t : [] ≡ ys ++ b ∷ [] = cc in absurd (no_end ys b t)
@@ -227,13 +246,14 @@ back_at text end within spaces stop = record {
   ];
 }
 
+-- spaces in front of another byte aren't spaces alone
 first_not_space : (b : ℕ) (bs : List ℕ) (m n : ℕ) → StartsNoSpace (b ∷ bs) → replicate m 32 ++ b ∷ bs ≡ replicate n 32 → ⊥
 first_not_space b bs zero zero h e = cc
 first_not_space b bs zero (suc n) h e = let head : b ≡ 32 = cc in h bs (ap (λ x. x ∷ bs) head)
 first_not_space b bs (suc m) zero h e = cc
 first_not_space b bs (suc m) (suc n) h e = let t : replicate m 32 ++ b ∷ bs ≡ replicate n 32 = cc in first_not_space b bs m n h t
 
--- a text with more than spaces
+-- a text of which trimming leaves something isn't spaces alone
 pub front_not_spaces : (text item : List ℕ) → TrimsFront text item → 0 < length item → AreSpaces text → ⊥
 front_not_spaces text [] t some s = omega arith
 front_not_spaces text (b ∷ bs) t some s = first_not_space b bs t.count s.0 t.first (sym t.text_is ∙ s.1)

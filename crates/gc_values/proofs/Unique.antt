@@ -6,7 +6,7 @@ use Rattle.gc_values.specs.Digits.{IsDigit, AreDigits, number}
 use Rattle.gc_values.specs.Cut.{StartsNoDigit, StartsNoSign, StartsNoPoint, CutsDigits, CutsSign, CutsFraction}
 use Rattle.gc_values.specs.Spelling.{Sign, Absent, Plus, Minus, sign_text, is_minus, Exponent, IsExponent, exponent_text, mark, ups, downs, fraction_text, fraction_digits, Parts, IsNumeral, spelling, value, Names}
 
--- a longest run of digits is one
+-- a text has one longest run of digits in front
 pub run_once : (xs ys us vs : List ℕ) → AreDigits xs → AreDigits ys → StartsNoDigit us → StartsNoDigit vs → xs ++ us ≡ ys ++ vs → (xs ≡ ys) × (us ≡ vs)
 run_once [] [] us vs dx dy nu nv e = (refl, e)
 run_once [] (y ∷ ys) us vs dx dy nu nv e = absurd (subst StartsNoDigit e nu dy.0)
@@ -17,7 +17,7 @@ run_once (x ∷ xs) (y ∷ ys) us vs dx dy nu nv e =
     let r : (xs ≡ ys) × (us ≡ vs) = run_once xs ys us vs dx.1 dy.1 nu nv rest in
     (let h = r.0 in cc, r.1)
 
--- a sign is one
+-- a text has one sign in front, or none
 pub sign_once : (s t : Sign) (us vs : List ℕ) → (s ≡ Absent → StartsNoSign us) → StartsNoSign vs → sign_text s ++ us ≡ sign_text t ++ vs → (is_minus s ≡ is_minus t) × (us ≡ vs)
 sign_once Absent Absent us vs nu nv e = (refl, e)
 sign_once Absent Plus us vs nu nv e = absurd ((subst StartsNoSign e (nu refl)).0 refl)
@@ -29,32 +29,38 @@ sign_once Minus Absent us vs nu nv e = absurd ((subst StartsNoSign (sym e) nv).1
 sign_once Minus Plus us vs nu nv e = let r : ◌≡◌ {A = ℕ} 45 43 = cc in absurd (omega (arith, r))
 sign_once Minus Minus us vs nu nv e = (refl, let r : us ≡ vs = cc in r)
 
+-- an exponent's mark is no digit
 mark_no_digit : (b : Bool) → IsDigit (mark b) → ⊥
 mark_no_digit true h = omega arith
 mark_no_digit false h = omega arith
 
+-- an exponent's mark is no point
 mark_no_point : (b : Bool) → mark b ≢ 46
 mark_no_point true h = omega (arith, h)
 mark_no_point false h = omega (arith, h)
 
+-- an exponent's text begins with no digit
 exponent_no_digit : (e : Option Exponent) → StartsNoDigit (exponent_text e)
 exponent_no_digit None = tt
 exponent_no_digit (Some e) = mark_no_digit e.capital
 
+-- an exponent's text begins with no point
 exponent_no_point : (e : Option Exponent) → StartsNoPoint (exponent_text e)
 exponent_no_point None = tt
 exponent_no_point (Some e) = mark_no_point e.capital
 
+-- a fraction and an exponent begin with no digit
 fraction_no_digit : (f : Option (List ℕ)) (e : Option Exponent) → StartsNoDigit (fraction_text f ++ exponent_text e)
 fraction_no_digit None e = exponent_no_digit e
 fraction_no_digit (Some ds) e = λ h. omega arith
 
+-- digits, or a point and digits, begin with no sign
 number_no_sign : (whole : List ℕ) (f : Option (List ℕ)) (rest : List ℕ) → AreDigits whole → 0 < length whole + length (fraction_digits f) → StartsNoSign (whole ++ (fraction_text f ++ rest))
 number_no_sign [] None rest digits some = absurd (omega arith)
 number_no_sign [] (Some ds) rest digits some = (λ h. omega (arith, h), λ h. omega (arith, h))
 number_no_sign (b ∷ bs) f rest digits some = (λ h. let d = digits.0 in omega (arith, h, d.0), λ h. let d = digits.0 in omega (arith, h, d.0))
 
--- a point and the digits behind it are one
+-- a text has one fraction in front, or none
 pub fraction_once : (f g : Option (List ℕ)) (us vs : List ℕ) → AreDigits (fraction_digits f) → AreDigits (fraction_digits g) → (f ≡ None → StartsNoPoint us)
     → StartsNoPoint vs → StartsNoDigit us → StartsNoDigit vs →
     fraction_text f ++ us ≡ fraction_text g ++ vs → (fraction_digits f ≡ fraction_digits g) × (us ≡ vs)
@@ -63,13 +69,14 @@ fraction_once None (Some ds) us vs df dg pu pv nu nv e = absurd (subst StartsNoP
 fraction_once (Some cs) None us vs df dg pu pv nu nv e = absurd (subst StartsNoPoint (sym e) pv refl)
 fraction_once (Some cs) (Some ds) us vs df dg pu pv nu nv e = let r : cs ++ us ≡ ds ++ vs = cc in run_once cs ds us vs df dg nu nv r
 
--- what was cut off are the parts of every numeral that has this text
+-- the parts that were cut off are those of this numeral
 pub record SameParts (negative : Bool) (whole fraction rest : List ℕ) (p : Parts) : Type 0 where
   pub sign : negative ≡ is_minus p.sign
   pub whole_is : whole ≡ p.whole
   pub fraction_is : fraction ≡ fraction_digits p.fraction
   pub rest_is : rest ≡ exponent_text p.exponent
 
+-- the parts that were cut off are those of every numeral with this text
 pub same_parts : (text : List ℕ) (negative : Bool) (r1 whole r2 fraction r3 : List ℕ) → CutsSign text negative r1 → CutsDigits r1 whole r2 → CutsFraction r2 fraction r3 →
     (p : Parts) → IsNumeral p → text ≡ spelling p → SameParts negative whole fraction r3 p
 same_parts text negative r1 whole r2 fraction r3 s d f p n e =
@@ -80,11 +87,12 @@ same_parts text negative r1 whole r2 fraction r3 s d f p n e =
     (exponent_no_point p.exponent) f.longest (exponent_no_digit p.exponent) (sym f.text_is ∙ runs.1) in
     record { sign = s.negative_is ∙ signs.0; whole_is = runs.0; fraction_is = f.run_is ∙ fractions.0; rest_is = fractions.1 }
 
+-- digits begin with no sign
 pub digits_no_sign : (ds us : List ℕ) → AreDigits ds → 0 < length ds → StartsNoSign (ds ++ us)
 digits_no_sign [] us h some = absurd (omega arith)
 digits_no_sign (b ∷ bs) us h some = (λ e. let d = h.0 in omega (arith, e, d.0), λ e. let d = h.0 in omega (arith, e, d.0))
 
--- an exponent is one
+-- a text is one exponent
 pub exponent_once : (e f : Option Exponent) → IsExponent e → IsExponent f → exponent_text e ≡ exponent_text f → (ups e ≡ ups f) × (downs e ≡ downs f)
 exponent_once None None he hf same = (refl, refl)
 exponent_once None (Some f) he hf same = absurd (cc)
@@ -98,7 +106,7 @@ exponent_once (Some e) (Some f) he hf same =
       ap (λ b. cond b (number e.digits) 0) r.0 ∙ ap (λ ds. cond (is_minus f.sign) (number ds) 0) r.1,
     )
 
--- a numeral is cut into its parts
+-- a numeral's text is cut into its sign and the rest
 numeral_sign : (p : Parts) → IsNumeral p → CutsSign (spelling p) (is_minus p.sign) (p.whole ++ (fraction_text p.fraction ++ exponent_text p.exponent))
 numeral_sign p n = record {
   sign = p.sign;
@@ -107,9 +115,11 @@ numeral_sign p n = record {
   first = λ _. number_no_sign p.whole p.fraction (exponent_text p.exponent) n.whole n.some;
 }
 
+-- behind the sign a numeral's text is cut into its digits and the rest
 numeral_digits : (p : Parts) → IsNumeral p → CutsDigits (p.whole ++ (fraction_text p.fraction ++ exponent_text p.exponent)) p.whole (fraction_text p.fraction ++ exponent_text p.exponent)
 numeral_digits p n = record { text_is = refl; digits = n.whole; longest = fraction_no_digit p.fraction p.exponent }
 
+-- behind the digits a numeral's text is cut into its fraction and its exponent
 numeral_fraction : (p : Parts) → IsNumeral p → CutsFraction (fraction_text p.fraction ++ exponent_text p.exponent) (fraction_digits p.fraction) (exponent_text p.exponent)
 numeral_fraction p n = record {
   fraction = p.fraction;
@@ -120,7 +130,7 @@ numeral_fraction p n = record {
   longest = exponent_no_digit p.exponent;
 }
 
--- a text names one fraction
+-- numerals of one text have one value
 pub same_value : (p r : Parts) → IsNumeral p → IsNumeral r → spelling p ≡ spelling r → value p ≡ value r
 same_value p r np nr e =
     let same = same_parts (spelling p) _ _ _ _ _ _ (numeral_sign p np) (numeral_digits p np) (numeral_fraction p np) r nr e in
@@ -136,5 +146,6 @@ same_value p r np nr e =
     ap (λ ds. length ds + downs p.exponent) same.fraction_is ∙ ap (λ n. length (fraction_digits r.fraction) + n) power.1 in
     ap (λ (z : ℤ). let f : Fraction = record { n = z; k = (value p).k } in f) top ∙ ap (λ (j : ℕ). let f : Fraction = record { n = (value r).n; k = j } in f) under
 
+-- a text names at most one fraction
 pub names_once : (text : List ℕ) (q f : Fraction) → Names text q → Names text f → q ≡ f
 names_once text q f x y = x.3 ∙ same_value x.0 y.0 x.1 y.1 (sym x.2 ∙ y.2) ∙ sym y.3

@@ -8,13 +8,15 @@ use Rattle.gc_values.proofs.Kept.{number-lt, rounds_digits, kept_behind, min_mul
 use Rattle.gc_values.proofs.Powers.{ten_pow_pos, ten_pow_le}
 use Rattle.gc_values.proofs.Rounding.{RoundsHalfUp, rounds_same_value, rounds_whole, rounds_to_zero}
 
+-- a number times 10^0 is the number
 times_one : (n : ℕ) → n ≡ n * 10 ^ (24 - 24)
 times_one n = omega arith
 
+-- a product may be regrouped where b is a times c
 product : (n a b c : ℕ) → b ≡ a * c → n * b ≡ n * a * c
 product n a b c e = omega (arith, ap (λ x. n * x) e)
 
--- k digits are kept, where the exponent and the places leave that many
+-- where the exponent and the places leave k digits, those, the next one rounded in, are the rounded value
 pub units_kept : (ds : List ℕ) (w f up down p k : ℕ) → AreDigits ds → length ds ≡ w + f → k + down ≡ w + up + p →
     RoundsHalfUp (number ds * 10 ^ up * 10 ^ p) (10 ^ (f + down)) (kept_and_rounded ds k)
 units_kept ds w f up down p k digits size places =
@@ -38,7 +40,7 @@ units_none ds w f up down p digits size places =
     let shape : number ds * 10 ^ (up + p) ≡ number ds * 10 ^ up * 10 ^ p = omega (arith, ap (λ x. number ds * x) (pow-add 10 up p)) in
     rounds_to_zero (number ds * 10 ^ up * 10 ^ p) (10 ^ (f + down)) (ten_pow_pos (f + down)) (omega arith)
 
--- with the digits that the count leaves, and the next one rounded in
+-- where k digits are left, they are the units, the next one rounded in, at most the cap
 pub capped_few : (ds : List ℕ) (w f up down cap k units : ℕ) → AreDigits ds → length ds ≡ w + f → k + down ≡ w + up + 24 → units ≡ min cap (kept_and_rounded ds k) →
     IsCapped (number ds * 10 ^ up) (f + down) cap units 24
 capped_few ds w f up down cap k units digits size places e = record {
@@ -48,7 +50,7 @@ capped_few ds w f up down cap k units digits size places e = record {
   places = lit≤ tt;
 }
 
--- the units with all digits kept, and `more` zeros behind them to the last place
+-- where all digits are left and fewer than 24 places behind them, they are the units, at most the cap
 pub capped_zeros : (ds : List ℕ) (w f up down cap k size more units p : ℕ) → AreDigits ds → length ds ≡ size → size ≡ w + f → k + down ≡ w + up + 24
     → size + more ≡ k → more + p ≡ 24 → units ≡ min cap (kept ds size) →
     IsCapped (number ds * 10 ^ up) (f + down) cap units p
@@ -63,7 +65,7 @@ capped_zeros ds w f up down cap k size more units p digits is_size sum places be
       places = omega arith;
     }
 
--- with all the digits, and zeros in front of the point too
+-- where all digits are left and zeros in front of the point too, both are the units, at most the cap
 pub capped_many : (ds : List ℕ) (w f up down cap k size more x units : ℕ) → AreDigits ds → length ds ≡ size → size ≡ w + f → k + down ≡ w + up + 24
     → size + (24 + more) ≡ k → x ≡ min cap (kept ds size) → units ≡ min cap (x * 10 ^ more) →
     IsCapped (number ds * 10 ^ up) (f + down) cap units 0
@@ -80,11 +82,11 @@ capped_many ds w f up down cap k size more x units digits is_size sum places beh
       places = lit≤ tt;
     }
 
--- with no digit
+-- where an exponent leaves no digit, the units are 0
 pub capped_none : (ds : List ℕ) (w f up down cap : ℕ) → AreDigits ds → length ds ≡ w + f → w + up + 24 < down → IsCapped (number ds * 10 ^ up) (f + down) cap 0 24
 capped_none ds w f up down cap digits size places = record { m = 0; rounds = units_none ds w f up down 24 digits size places; capped = omega arith; places = lit≤ tt }
 
--- few digits, as they are
+-- at most 18 digits without an exponent are the units as they are
 pub capped_short : (ds : List ℕ) (f up down cap units : ℕ) → AreDigits ds → f ≤ length ds → length ds ≤ 18 → up ≡ 0 → down ≡ 0 → 10 ^ 18 ≤ cap → units ≡ number ds →
     IsCapped (number ds * 10 ^ up) (f + down) cap units f
 capped_short ds f up down cap units digits part few no_up no_down room e =

@@ -9,14 +9,16 @@ use Rattle.gc_values.specs.declared.fault.ValueFault.{ValueFault}
 use Rattle.gc_values.proofs.Kept.{AreDigits-at, AreDigits-take_more, number-take_more}
 use Rattle.gc_values.proofs.Unique.{sign_once}
 
--- the first i digits, up to a cap
+-- the value is the number that the first i digits write, at most the cap
 pub record CountedSoFar (text : List ℕ) (i cap value : ℕ) : Type 0 where
   pub digits : AreDigits (take i text)
   pub value_is : value ≡ min cap (number (take i text))
 
+-- where a number was cut at the cap, appending a digit and cutting again gives the longer number, cut at the cap
 capped_step : (n d cap value more whole : ℕ) → value ≡ min cap n → whole ≡ n * 10 + d → more ≡ min (value * 10 + d) cap → more ≡ min cap whole
 capped_step n d cap value more whole e f g = omega arith
 
+-- one digit more was counted
 pub counted_more : (text : List ℕ) (i cap value more : ℕ) → CountedSoFar text i cap value → i < length text → IsDigit (get_or text i 0)
     → more ≡ min (value * 10 + (get_or text i 0 - 48)) cap → CountedSoFar text (i + 1) cap more
 counted_more text i cap value more c within here e = record {
@@ -29,18 +31,20 @@ pub record Counted (text : List ℕ) (cap value : ℕ) : Type 0 where
   pub names : NamesNumber text (number text)
   pub value_is : value ≡ min cap (number text)
 
--- a byte that is no digit
+-- a text with a byte that is no digit writes no number
 pub not_number : (text : List ℕ) (i n : ℕ) → i < length text → (IsDigit (get_or text i 0) → ⊥) → NamesNumber text n → ⊥
 not_number text i n within other names = other (AreDigits-at text i 0 names.digits within)
 
+-- a text writes at most one number
 pub one_number : (text : List ℕ) (m n : ℕ) → NamesNumber text m → NamesNumber text n → m ≡ n
 one_number text m n x y = x.value ∙ sym y.value
 
+-- digits begin with no sign
 digits_no_sign : (ds : List ℕ) → AreDigits ds → 0 < length ds → StartsNoSign ds
 digits_no_sign [] h some = absurd (omega arith)
 digits_no_sign (b ∷ bs) h some = (λ e. let d = h.0 in omega (arith, e, d.0), λ e. let d = h.0 in omega (arith, e, d.0))
 
--- a sign cut off, and the number behind it
+-- a sign cut off, and the number behind it, are the whole number that the text writes
 pub cut_names : (text rest : List ℕ) (negative : Bool) (n : ℕ) → CutsSign text negative rest → NamesNumber rest n → NamesWhole text (signed negative n)
 cut_names text rest negative n cut names = record {
   sign = cut.sign;
@@ -51,24 +55,28 @@ cut_names text rest negative n cut names = record {
   value = ap (λ b. signed b n) cut.negative_is;
 }
 
+-- behind the sign that was cut off stands the number of the whole number that the text writes
 pub names_cut : (text rest : List ℕ) (negative : Bool) (z : ℤ) → CutsSign text negative rest → NamesWhole text z → (n : ℕ) × NamesNumber rest n × (z ≡ signed negative n)
 names_cut text rest negative z cut w =
     let same = sign_once cut.sign w.sign rest w.digits cut.first (digits_no_sign w.digits w.number_is.digits w.number_is.some) (sym cut.text_is ∙ w.text_is) in
     (w.n, subst (λ ds. NamesNumber ds w.n) (sym same.1) w.number_is, w.value ∙ ap (λ b. signed b w.n) (sym (cut.negative_is ∙ same.0)))
 
+-- a whole number's text is cut into its sign and its digits
 cut_of : (text : List ℕ) (z : ℤ) (w : NamesWhole text z) → CutsSign text (is_minus w.sign) w.digits
 cut_of text z w = record { sign = w.sign; text_is = w.text_is; negative_is = refl; first = λ _. digits_no_sign w.digits w.number_is.digits w.number_is.some }
 
--- a text writes one whole number
+-- a text writes at most one whole number
 pub one_whole : (text : List ℕ) (y z : ℤ) → NamesWhole text y → NamesWhole text z → y ≡ z
 one_whole text y z v w =
     let r = names_cut text v.digits (is_minus v.sign) z (cut_of text y v) w in
     v.value ∙ ap (signed (is_minus v.sign)) (one_number v.digits v.n r.0 v.number_is r.1) ∙ sym r.2
 
+-- a number in range has a magnitude that its sign allows
 pub size_from : (negative : Bool) (n below above : ℕ) → IsBetween below above (signed negative n) → n ≤ cond negative below above
 size_from false n below above h = let u = h.1 in omega (arith, ints, u)
 size_from true n below above h = let l = h.0 in omega (arith, ints, l)
 
+-- a magnitude above what its sign allows is out of range
 beyond_size : (negative : Bool) (n most below above : ℕ) → most ≡ cond negative below above → most < n → IsBetween below above (signed negative n) → ⊥
 beyond_size negative n most below above e far between = let few = size_from negative n below above between in omega (arith, e, few)
 

@@ -19,12 +19,14 @@ spread false m true n = m + n
 spread true m false n = m + n
 spread true m true n = gap m n
 
+-- multiples are as many times as far apart
 spread-mul : (b : Bool) (m : ℕ) (c : Bool) (n k : ℕ) → spread b (m * k) c (n * k) ≡ spread b m c n * k
 spread-mul false m false n k = gap-mul m n k
 spread-mul false m true n k = omega arith
 spread-mul true m false n k = omega arith
 spread-mul true m true n k = gap-mul m n k
 
+-- the distance of two numbers with signs is their `spread`
 abs_spread : (b : Bool) (m : ℕ) (c : Bool) (n : ℕ) → unsigned_abs (signed b m -ℤ signed c n) ≡ spread b m c n
 abs_spread false m false n = gap_signed false m n
 abs_spread false m true n = abs_pos_neg m n
@@ -35,12 +37,14 @@ abs_spread true m true n = gap_signed true m n
 abbrev apart : ℤ → ℕ → ℤ → ℕ → ℕ
 apart z k w l = unsigned_abs (z *ℤ pos k -ℤ w *ℤ pos l)
 
+-- multiples of numbers with signs are as far apart as the `spread` of the products
 apart_signed : (b : Bool) (m k : ℕ) (c : Bool) (n l : ℕ) → apart (signed b m) k (signed c n) l ≡ spread b (m * k) c (n * l)
 apart_signed b m k c n l =
     ap (λ x. unsigned_abs (x -ℤ signed c n *ℤ pos l)) (signed-mul b m k)
     ∙ ap (λ x. unsigned_abs (signed b (m * k) -ℤ x)) (signed-mul c n l)
     ∙ abs_spread b (m * k) c (n * l)
 
+-- numbers with signs are as many times as far apart when both are multiplied
 apart-mul_signed : (b : Bool) (m k : ℕ) (c : Bool) (n l p : ℕ) → apart (signed b m) k (signed c n) l * p ≡ apart (signed b m) (k * p) (signed c n) (l * p)
 apart-mul_signed b m k c n l p =
     let left : m * k * p ≡ m * (k * p) = omega arith in
@@ -48,6 +52,7 @@ apart-mul_signed b m k c n l p =
     ap (λ x. x * p) (apart_signed b m k c n l) ∙ sym (spread-mul b (m * k) c (n * l) p)
     ∙ ap (λ x. spread b x c (n * l * p)) left ∙ ap (spread b (m * (k * p)) c) right ∙ sym (apart_signed b m (k * p) c n (l * p))
 
+-- whole numbers are as many times as far apart when both are multiplied
 apart-mul : (z : ℤ) (k : ℕ) (w : ℤ) (l p : ℕ) → apart z k w l * p ≡ apart z (k * p) w (l * p)
 apart-mul z k w l p =
     let x = sign_of z in
@@ -55,35 +60,40 @@ apart-mul z k w l p =
     subst (λ z. apart z k w l * p ≡ apart z (k * p) w (l * p)) (sym x.2)
     (subst (λ w. apart (signed x.0 x.1) k w l * p ≡ apart (signed x.0 x.1) (k * p) w (l * p)) (sym y.2) (apart-mul_signed x.0 x.1 k y.0 y.1 l p))
 
--- the distance in units of the last place, where p is 10^24
+-- the distance in units of the last place, where p is 10^24, is the one multiplied out
 in_units : (z : ℤ) (a a' : ℕ) (w : ℤ) (b b' p : ℕ) → a * a' ≡ p → b * b' ≡ p → apart z a' w b' * (a * b) ≡ apart z b w a * p
 in_units z a a' w b b' p e f =
     let left : a' * (a * b) ≡ b * p = omega (arith, ap (λ x. x * b) e) in
     let right : b' * (a * b) ≡ a * p = omega (arith, ap (λ x. x * a) f) in
     apart-mul z a' w b' (a * b) ∙ ap (λ x. apart z x w (b' * (a * b))) left ∙ ap (λ x. apart z (b * p) w x) right ∙ sym (apart-mul z b w a p)
 
--- x units of distance, y the distance multiplied out, ab and c the powers below
+-- where a distance of x units is at most the area's units, it is so multiplied out: y is that distance, ab and c are the powers below
 within_to : (x y ab n c c' p : ℕ) → 0 < p → x * ab ≡ y * p → c * c' ≡ p → x ≤ n * c' → y * c ≤ n * ab
 within_to x y ab n c c' p some e f h =
     le_of_mul-le-mul_right {m = y * c} {n = n * ab} {k = p}
     (omega (arith, ap (λ u. u * c) e, ap (λ u. u * (n * ab)) f, mul-le-mul_right {m = x} {n = n * c'} (ab * c) h)) some
 
+-- where the distance y multiplied out is at most the area, x units are at most the area's units
 within_from : (x y ab n c c' p : ℕ) → 0 < ab * c → x * ab ≡ y * p → c * c' ≡ p → y * c ≤ n * ab → x ≤ n * c'
 within_from x y ab n c c' p some e f h =
     le_of_mul-le-mul_right {m = x} {n = n * c'} {k = ab * c}
     (omega (arith, ap (λ u. u * c) e, ap (λ u. u * (n * ab)) f, mul-le-mul_right {m = y * c} {n = n * ab} p h)) some
 
+-- no distance is at most a negative area
 below_zero : (x n k : ℕ) → 0 < k → pos x ≤ℤ (negsuc n *ℤ pos k) → ⊥
 below_zero x n k some h =
     let there : pos x ≤ℤ neg_ℤ (pos (suc n * k)) = subst (λ z. pos x ≤ℤ z) (negsuc-*ℤ-pos n k) h in
     omega (arith, ints, there)
 
+-- numbers in order are so as whole numbers
 pos_le : (x y : ℕ) → x ≤ y → pos x ≤ℤ pos y
 pos_le x y h = omega (arith, ints)
 
+-- whole numbers from 0 on in order are so as numbers
 le_pos : (x y : ℕ) → pos x ≤ℤ pos y → x ≤ y
 le_pos x y h = omega (arith, ints, h)
 
+-- a distance is at most the area in units exactly where it is so multiplied out
 both : (x y ab : ℕ) (z : ℤ) (c c' p : ℕ) → 0 < p → 0 < c' → 0 < ab * c → 0 < ab → x * ab ≡ y * p → c * c' ≡ p → (pos x ≤ℤ (z *ℤ pos c')) ↔ (pos (y * c) ≤ℤ (z *ℤ pos ab))
 both x y ab (pos n) c c' p p_pos c'_pos abc_pos ab_pos e f = (
   λ h. subst (λ w. pos (y * c) ≤ℤ w) (sym (pos-*ℤ-pos n ab)) (pos_le (y * c) (n * ab) (within_to x y ab n c c' p p_pos e f (le_pos x (n * c') (subst (λ w. pos x ≤ℤ w) (pos-*ℤ-pos n c') h)))),
@@ -91,12 +101,15 @@ both x y ab (pos n) c c' p p_pos c'_pos abc_pos ab_pos e f = (
 )
 both x y ab (negsuc n) c c' p p_pos c'_pos abc_pos ab_pos e f = (λ h. absurd (below_zero x n c' c'_pos h), λ h. absurd (below_zero (y * c) n ab ab_pos h))
 
+-- 10^s and what it lacks make 10^24
 pub whole_place : (s : ℕ) → s ≤ 24 → 10 ^ s * 10 ^ (24 - s) ≡ 10 ^ 24
 whole_place s h = let back : s + (24 - s) ≡ 24 = omega arith in sym (pow-add 10 s (24 - s)) ∙ ap (λ e. 10 ^ e) back
 
+-- two powers of ten have a product above 0
 pub product_pos : (s t : ℕ) → 0 < 10 ^ s * 10 ^ t
 product_pos s t = omega (arith, pow-add 10 s t, ten_pow_pos (s + t))
 
+-- three powers of ten have a product above 0
 triple_pos : (s t u : ℕ) → 0 < 10 ^ s * 10 ^ t * 10 ^ u
 triple_pos s t u = omega (arith, ap (λ x. x * 10 ^ u) (pow-add 10 s t), pow-add 10 (s + t) u, ten_pow_pos (s + t + u))
 
@@ -109,23 +122,26 @@ within_units a b area =
     (in_units a.digits (10 ^ a.scale) (10 ^ (24 - a.scale)) b.digits (10 ^ b.scale) (10 ^ (24 - b.scale)) (10 ^ 24) (whole_place a.scale a.has_few_places) (whole_place b.scale b.has_few_places))
     (whole_place area.scale area.has_few_places)
 
+-- a test that is true holds
 test_passes : (b : Bool) → IsTrue b → T b
 test_passes true h = tt
 test_passes false h = absurd (cc)
 
+-- a test that holds is true
 passes_test : (b : Bool) → T b → IsTrue b
 passes_test true h = refl
 passes_test false h = absurd h
 
+-- the test of an order of whole numbers holds exactly where they are in order
 int_le_is : (x y : ℤ) → IsTrue (int_le x y) ↔ (x ≤ℤ y)
 int_le_is x y = (λ h. record { le = test_passes (int_le x y) h }, λ h. passes_test (int_le x y) h.le)
 
--- the test is the fact
+-- `is_within` holds exactly where the values are at most the area apart
 pub is_within_is : (a b area : Decimal) → IsTrue (is_within a b area) ↔ IsWithin (fraction a) (fraction b) (fraction area)
 unfolding is_within
 is_within_is a b area = int_le_is (pos (distance a.digits a.scale b.digits b.scale * 10 ^ area.scale)) (area.digits *ℤ pos (10 ^ a.scale * 10 ^ b.scale))
 
--- what the code compares
+-- the comparison that the code makes holds exactly where the values are at most the area apart
 pub compared : (a b area : Decimal) (x y : ℤ) → x ≡ pos (unsigned_abs (units a -ℤ units b)) → y ≡ units area → IsTrue (int_le x y) ↔ IsWithin (fraction a) (fraction b) (fraction area)
 compared a b area x y e f =
     let w = within_units a b area in
@@ -134,12 +150,13 @@ compared a b area x y e f =
       λ h. t.1 (subst (λ z. x ≤ℤ z) (sym f) (subst (λ z. z ≤ℤ units area) (sym e) (w.1 h))),
     )
 
+-- the comparison that the code makes is `is_within`
 pub compared_exact : (a b area : Decimal) (x y : ℤ) → x ≡ pos (unsigned_abs (units a -ℤ units b)) → y ≡ units area → int_le x y ≡ is_within a b area
 compared_exact a b area x y e f =
     let c = compared a b area x y e f in
     let t = is_within_is a b area in
     both_ways (int_le x y) (is_within a b area) (λ h. t.1 (c.0 h)) (λ h. c.1 (t.0 h))
 
--- two numbers within the range are at most twice as far apart
+-- two numbers of at most 10^37 are at most twice that apart
 pub apart_fits : (x y : ℤ) → unsigned_abs x ≤ 10 ^ 37 → unsigned_abs y ≤ 10 ^ 37 → unsigned_abs (x -ℤ y) ≤ 2 * 10 ^ 37
 apart_fits x y h k = omega (arith, ints)

@@ -8,29 +8,33 @@ use Rattle.std.proofs.lemmas.Bool.{ne_eqb, cond_both}
 use Rattle.gc_values.specs.Written.{digits_text, last_digits, behind_text}
 use Rattle.gc_values.proofs.Powers.{ten_pow_pos}
 
--- one place to the right
+-- taking p - 1 digits off a number, and then one more, is taking off p
 pub next_place : (n p : ℕ) → 0 < p → n / 10 ^ (p - 1) / 10 ≡ n / 10 ^ p
 next_place n p some =
     let back : suc (p - 1) ≡ p = omega arith in
     div-div-eq-div-mul n (10 ^ (p - 1)) 10 ∙ ap (λ x. n / x) (sym (pow-suc 10 (p - 1)) ∙ ap (λ e. 10 ^ e) back)
 
+-- a number's digits are those of the number without its last digit, and that
 pub digits_text_step : (x : ℕ) → 0 < x → digits_text x ≡ digits_text (x / 10) ++ (48 + x % 10) ∷ []
 digits_text_step x some = ap (map (λ d. 48 + d)) (digits_of_step 10 x (lit≤ tt) some) ∙ map-append (λ d. 48 + d) (digits_of 10 (x / 10)) (x % 10 ∷ [])
 
+-- a number below 10^k has at most k digits
 pub length-digits_text : (x k : ℕ) → x < 10 ^ k → length (digits_text x) ≤ k
 length-digits_text x k h = omega (arith, length-map (digits_of 10 x) (λ d. 48 + d), length-digits_of-le 10 k x (lit≤ tt) h)
 
+-- the last k digits are k
 pub length-last_digits : (k n : ℕ) → length (last_digits k n) ≡ k
 length-last_digits zero n = refl
 length-last_digits (suc k) n = omega (arith, length-append (last_digits k (n / 10)) ((48 + n % 10) ∷ []), length-last_digits k (n / 10))
 
--- one digit more
+-- one more digit of the number is written behind those before it
 pub digits_more : (old out new : List ℕ) (n p : ℕ) → 0 < p → 0 < n / 10 ^ (p - 1) → out ≡ old ++ digits_text (n / 10 ^ p)
     → new ≡ out ++ (48 + n / 10 ^ (p - 1) % 10) ∷ [] → new ≡ old ++ digits_text (n / 10 ^ (p - 1))
 digits_more old out new n p some rest e f =
     f ∙ ap (λ xs. xs ++ (48 + n / 10 ^ (p - 1) % 10) ∷ []) e ∙ append_assoc old (digits_text (n / 10 ^ p)) ((48 + n / 10 ^ (p - 1) % 10) ∷ []) ∙ ap (λ xs. old ++ xs)
     (ap (λ x. digits_text x ++ (48 + n / 10 ^ (p - 1) % 10) ∷ []) (sym (next_place n p some)) ∙ sym (digits_text_step (n / 10 ^ (p - 1)) rest))
 
+-- one more of the last k digits is written behind those before it
 pub last_more : (old out new : List ℕ) (n k p : ℕ) → 0 < p → p ≤ k → out ≡ old ++ last_digits (k - p) (n / 10 ^ p)
     → new ≡ out ++ (48 + n / 10 ^ (p - 1) % 10) ∷ [] → new ≡ old ++ last_digits (k - (p - 1)) (n / 10 ^ (p - 1))
 last_more old out new n k p some within e f =
@@ -38,20 +42,23 @@ last_more old out new n k p some within e f =
     f ∙ ap (λ xs. xs ++ (48 + n / 10 ^ (p - 1) % 10) ∷ []) e ∙ append_assoc old (last_digits (k - p) (n / 10 ^ p)) ((48 + n / 10 ^ (p - 1) % 10) ∷ []) ∙ ap (λ xs. old ++ xs)
     (ap (λ x. last_digits (k - p) x ++ (48 + n / 10 ^ (p - 1) % 10) ∷ []) (sym (next_place n p some)) ∙ ap (λ j. last_digits j (n / 10 ^ (p - 1))) (sym more))
 
--- the last digit and the others, of a number below a power
+-- the last k + 1 digits of a number are its last one, and in front of it the last k of the others
 mod_over : (n k : ℕ) → n % 10 ^ suc k ≡ n / 10 % 10 ^ k * 10 + n % 10
 mod_over n k = ap (λ p. n % p) (pow-suc 10 k) ∙ mod-mul n {m = 10 ^ k} {c = 10} (ten_pow_pos k) (lit< tt)
 
+-- the last of the last k + 1 digits is the number's last
 pub last_over : (n k : ℕ) → n % 10 ^ suc k % 10 ≡ n % 10
 last_over n k = omega (arith, mod_over n k)
 
+-- the others of the last k + 1 digits are the last k of the number without its last
 others_over : (n k : ℕ) → n % 10 ^ suc k / 10 ≡ n / 10 % 10 ^ k
 others_over n k = omega (arith, mod_over n k)
 
+-- taking one digit off a number, and then k, is taking off k + 1
 div_over : (n k : ℕ) → n / 10 / 10 ^ k ≡ n / 10 ^ suc k
 div_over n k = div-div-eq-div-mul n 10 (10 ^ k) ∙ ap (λ p. n / p) (mul_comm 10 (10 ^ k) ∙ sym (pow-suc 10 k))
 
--- the last digits, in two runs
+-- the last j + k digits are j digits, and then the last k
 pub last_digits-split : (j k n : ℕ) → last_digits (j + k) n ≡ last_digits j (n / 10 ^ k) ++ last_digits k (n % 10 ^ k)
 last_digits-split j zero n =
     let none : j + 0 ≡ j = omega arith in
@@ -66,7 +73,7 @@ last_digits-split j (suc k) n =
     ∙ append_assoc (last_digits j (n / 10 ^ suc k)) (last_digits k (n % 10 ^ suc k / 10)) ((48 + n % 10) ∷ [])
     ∙ ap (λ d. last_digits j (n / 10 ^ suc k) ++ (last_digits k (n % 10 ^ suc k / 10) ++ (48 + d) ∷ [])) (sym (last_over n k))
 
--- two runs of digits in a row
+-- the last k digits put in front, and then the others in front of them, are the last `count` digits
 pub two_runs : (old back out : List ℕ) (n count k : ℕ) → k ≤ count → back ≡ last_digits k (n - n / 10 ^ k * 10 ^ k) ++ old
     → out ≡ last_digits (count - k) (n / 10 ^ k) ++ back → out ≡ last_digits count n ++ old
 two_runs old back out n count k within e f =
@@ -81,26 +88,29 @@ two_runs old back out n count k within e f =
 pub last_digits-below : (k n : ℕ) → last_digits k (n % 10 ^ k) ≡ last_digits k n
 last_digits-below k n = let none : 0 + k ≡ k = omega arith in sym (last_digits-split 0 k n) ∙ ap (λ c. last_digits c n) none
 
--- one digit more, in front
+-- the last k + 1 digits are the one at that place, and the last k
 pub last_digits-front : (k n : ℕ) → last_digits (k + 1) n ≡ (48 + n / 10 ^ k % 10) ∷ last_digits k n
 last_digits-front k n =
     let more : k + 1 ≡ 1 + k = omega arith in
     ap (λ c. last_digits c n) more ∙ last_digits-split 1 k n ∙ ap (λ ds. (48 + n / 10 ^ k % 10) ∷ ds) (last_digits-below k n)
 
+-- taking k digits off a number, and then one, is taking off k + 1
 pub div_more : (n k : ℕ) → n / 10 ^ k / 10 ≡ n / 10 ^ (k + 1)
 div_more n k =
     let power : 10 ^ (k + 1) ≡ 10 ^ k * 10 = ap (λ e. 10 ^ e) (let e : k + 1 ≡ suc k = omega arith in e) ∙ pow-suc 10 k in
     div-div-eq-div-mul n (10 ^ k) 10 ∙ ap (λ x. n / x) (sym power)
 
--- digits in front of digits that stand there
+-- one more digit is put in front of the last k
 pub put_more : (old self new : List ℕ) (n k rest : ℕ) → self ≡ last_digits k n ++ old → rest ≡ n / 10 ^ k → new ≡ (48 + rest % 10) ∷ self → new ≡ last_digits (k + 1) n ++ old
 put_more old self new n k rest e r f =
     f ∙ ap (λ x. (48 + x % 10) ∷ self) r ∙ ap (λ xs. (48 + n / 10 ^ k % 10) ∷ xs) e ∙ ap (λ ds. ds ++ old) (sym (last_digits-front k n))
 
+-- one more digit of a whole number is put in front
 pub whole_more : (all self new : List ℕ) (rest : ℕ) → 0 < rest → digits_text rest ++ self ≡ all → new ≡ (48 + rest % 10) ∷ self → digits_text (rest / 10) ++ new ≡ all
 whole_more all self new rest some e f =
     ap (λ xs. digits_text (rest / 10) ++ xs) f ∙ sym (append_assoc (digits_text (rest / 10)) ((48 + rest % 10) ∷ []) self) ∙ ap (λ ds. ds ++ self) (sym (digits_text_step rest some)) ∙ e
 
+-- while digits of a number below 10^14 are left, there is room for one more
 pub whole_room : (old self : List ℕ) (n rest : ℕ) → digits_text rest ++ self ≡ digits_text n ++ old → n < 10 ^ 14 → 0 < rest → length old + 14 ≤ 40 → length self < 40
 whole_room old self n rest e small some room =
     omega (
@@ -114,14 +124,16 @@ whole_room old self n rest e small some room =
       length-append (digits_text (rest / 10)) ((48 + rest % 10) ∷ []),
     )
 
--- the digits behind the point
+-- the last s digits are what stands behind the point
 pub behind_short : (s m n : ℕ) (xs : List ℕ) → 0 < s → n ≡ m → xs ≡ last_digits s n ++ [] → xs ≡ behind_text s (m % 10 ^ s)
 behind_short s m n xs some e f =
     f ∙ append-nil (last_digits s n) ∙ ap (last_digits s) e ∙ sym (last_digits-below s m)
     ∙ ap (λ b. cond b (48 ∷ []) (last_digits s (m % 10 ^ s))) (sym (ne_eqb s 0 (λ h. omega (arith, h, some))))
 
+-- at most 24 digits stand behind the point
 pub length-behind_text : (s n : ℕ) → s ≤ 24 → length (behind_text s n) ≤ 24
 length-behind_text s n few = cond_both (eqb s 0) (48 ∷ []) (last_digits s n) (λ ds. length ds ≤ 24) (λ _. lit≤ tt) (λ _. omega (arith, length-last_digits s n))
 
+-- k digits put in front of nothing are k
 pub length-put : (k n : ℕ) (old new : List ℕ) → new ≡ last_digits k n ++ old → old ≡ [] → length new ≡ k
 length-put k n old new e none = omega (arith, ap length e, length-append (last_digits k n) old, length-last_digits k n, ap length none)

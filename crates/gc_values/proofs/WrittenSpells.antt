@@ -15,13 +15,16 @@ use Rattle.gc_values.proofs.Rounded.{exact_rounds}
 use Rattle.gc_values.proofs.Signs.{signed-mul}
 use Rattle.gc_values.proofs.WrittenLemmas.{digits_text_step, length-last_digits}
 
+-- '0' and a number below ten are a digit
 a_digit : (d : ℕ) → d < 10 → IsDigit (48 + d)
 a_digit d h = (omega arith, omega arith)
 
+-- the last k digits are digits
 pub AreDigits-last_digits : (k n : ℕ) → AreDigits (last_digits k n)
 AreDigits-last_digits zero n = tt
 AreDigits-last_digits (suc k) n = AreDigits-append (last_digits k (n / 10)) _ (AreDigits-last_digits k (n / 10)) (a_digit (n % 10) (mod-lt n (lit< tt)), tt)
 
+-- the last k digits of a number below 10^k write it
 pub number-last_digits : (k n : ℕ) → n < 10 ^ k → number (last_digits k n) ≡ n
 number-last_digits zero n h = omega arith
 number-last_digits (suc k) n h =
@@ -29,9 +32,11 @@ number-last_digits (suc k) n h =
     let front = number-last_digits k (n / 10) small in
     omega (arith, number-append (last_digits k (n / 10)) ((48 + n % 10) ∷ []), front)
 
+-- where a number had the digit d appended, the digit counts with the power of ten of its place, and the number with the next one
 digits_step : (n d p q v w x : ℕ) → v ≡ (n * 10 + d) * p + w → q ≡ p * 10 → x ≡ p → v ≡ n * q + (d * x + w)
 digits_step n d p q v w x e f g = omega (arith, e, ap (λ y. n * y) f, ap (λ y. d * y) g)
 
+-- digits read behind a number are that number moved by their places, and theirs
 digits_after : (n : ℕ) (ds : List ℕ) → number_from_digits_after 10 n ds ≡ n * 10 ^ length ds + number (map (λ d. 48 + d) ds)
 digits_after n [] = omega arith
 digits_after n (d ∷ ds) =
@@ -41,13 +46,16 @@ digits_after n (d ∷ ds) =
     (digits_after (n * 10 + d) ds) (pow-suc 10 (length ds)) (ap (λ e. 10 ^ e) (length-map ds (λ d. 48 + d)))
     ∙ ap (λ y. n * 10 ^ length (d ∷ ds) + (y + number (map (λ d. 48 + d) ds))) (sym back)
 
+-- a number's digits write it
 number-digits_text : (n : ℕ) → number (digits_text n) ≡ n
 number-digits_text n = omega (arith, digits_after 0 (digits_of 10 n), number_digits_of 10 n (lit≤ tt))
 
+-- values below ten, written, are digits
 map_digits : (ds : List ℕ) → AllBelowBase 10 ds → AreDigits (map (λ d. 48 + d) ds)
 map_digits [] h = tt
 map_digits (d ∷ ds) h = (a_digit d h.0, map_digits ds h.1)
 
+-- a number's digits are digits
 AreDigits-digits_text : (n : ℕ) → AreDigits (digits_text n)
 AreDigits-digits_text n = map_digits (digits_of 10 n) (all_below_base_digits_of 10 n (lit≤ tt))
 
@@ -57,6 +65,7 @@ pub record Writes (n : ℕ) (text : List ℕ) : Type 0 where
   pub some : 0 < length text
   pub number_is : number text ≡ n
 
+-- a whole number's text writes it
 pub writes_whole : (n : ℕ) → Writes n (whole_text n)
 writes_whole n = elim (eqb_tells n 0) [
   | inl none ↦ subst (λ xs. Writes n xs) (ap (λ b. cond b (48 ∷ []) (digits_text n)) (sym none.0)) (record { digits = (a_digit 0 (lit< tt), tt); some = lit< tt; number_is = sym none.1 })
@@ -67,6 +76,7 @@ writes_whole n = elim (eqb_tells n 0) [
   })
 ]
 
+-- the last s digits of a number below 10^s write it
 writes_behind : (s n : ℕ) → n < 10 ^ s → 0 < s → Writes n (last_digits s n)
 writes_behind s n h some = record { digits = AreDigits-last_digits s n; some = omega (arith, length-last_digits s n); number_is = number-last_digits s n h }
 
@@ -75,9 +85,11 @@ pub record Behind (a s : ℕ) (text : List ℕ) : Type 0 where
   pub digits : AreDigits text
   pub same : a * 10 ^ length text ≡ (a / 10 ^ s * 10 ^ length text + number text) * 10 ^ s
 
+-- without places, a lone 0 stands behind the point
 behind_none : (a : ℕ) → Behind a 0 (48 ∷ [])
 behind_none a = record { digits = (a_digit 0 (lit< tt), tt); same = let e : a / 10 ^ 0 ≡ a = div-one a in let f : (a / 10 ^ 0 * 10 + 0) * 1 ≡ a * 10 = omega (arith, e) in sym f }
 
+-- with places, the last s digits stand behind the point
 behind_some : (a s : ℕ) → 0 < s → Behind a s (last_digits s (a % 10 ^ s))
 behind_some a s some =
     let w = writes_behind s (a % 10 ^ s) (mod-lt a (ten_pow_pos s)) some in
@@ -89,12 +101,14 @@ behind_some a s some =
           ∙ ap (λ k. (a / 10 ^ s * 10 ^ k + number (last_digits s (a % 10 ^ s))) * 10 ^ s) (sym size);
     }
 
+-- `Behind` holds of what is written behind the point
 pub behind : (a s : ℕ) → Behind a s (behind_text s (a % 10 ^ s))
 behind a s = elim (eqb_tells s 0) [
   | inl none ↦ subst (λ xs. Behind a s xs) (ap (λ b. cond b (48 ∷ []) (last_digits s (a % 10 ^ s))) (sym none.0)) (subst (λ t. Behind a t (48 ∷ [])) (sym none.1) (behind_none a))
   | inr some ↦ subst (λ xs. Behind a s xs) (ap (λ b. cond b (48 ∷ []) (last_digits s (a % 10 ^ s))) (sym some.0)) (behind_some a s (pos_of_ne-zero some.1))
 ]
 
+-- a sign, the digits in front of the point, and those behind it spell the decimal
 with_sign : (sign : Sign) (m : ℤ) (s : ℕ) (a : ℕ) → m ≡ signed (is_minus sign) a → IsCanonical m s → s ≤ 24 →
     Spells (sign_text sign ++ (whole_text (a / 10 ^ s) ++ (46 ∷ behind_text s (a % 10 ^ s)))) m s
 with_sign sign m s a m_is canonical places =
@@ -120,7 +134,7 @@ with_sign sign m s a m_is canonical places =
       exact_rounds (value parts) 24 m s canonical places same,
     )
 
--- what is written is read back
+-- a decimal's written text spells the decimal
 pub written_spells : (m : ℤ) (s : ℕ) → IsCanonical m s → s ≤ 24 → Spells (written m s) m s
 written_spells (pos n) s canonical places = with_sign Absent (pos n) s n refl canonical places
 written_spells (negsuc n) s canonical places = with_sign Minus (negsuc n) s (suc n) refl canonical places

@@ -12,7 +12,7 @@ pub record AreLeft (items : List (List ℕ)) (place : ℕ) (fault : Option Value
   pub within : place ≤ length items
   pub read : AreItems (drop place items) vs
 
--- the first fault: the one that was found so far, or the first of the items from this place on
+-- the first fault: the one that was found so far, or, where none was, the first of these items for these kinds
 abbrev pub IsFirst : Option ValueFault → List Kind → List (List ℕ) → ValueFault → Type 0
 IsFirst (Some kept) ks items e = e ≡ kept
 IsFirst None ks items e = FirstFault ks items e
@@ -22,11 +22,12 @@ pub data IsFaultFrom (items : List (List ℕ)) (place : ℕ) (fault : Option Val
   wrong_count : e ≡ Count → length ks + place ≢ length items → IsFaultFrom items place fault ks e
   first_fault : length ks + place ≡ length items → IsFirst fault ks (drop place items) e → IsFaultFrom items place fault ks e
 
--- `AreLeft` or `IsFaultFrom`, where the list may have been refused as a whole
+-- `AreLeft`, where the list wasn't refused as a whole: a refused one reads as no values
 abbrev pub ReadsFrom : Result (List (List ℕ)) ValueFault → ℕ → Option ValueFault → List Value → Type 0
 ReadsFrom (Ok items) place fault vs = AreLeft items place fault vs
 ReadsFrom (Err refusal) place fault vs = ⊥
 
+-- `IsFaultFrom`, where the list wasn't refused as a whole; else the fault is that refusal
 abbrev pub FailsFrom : Result (List (List ℕ)) ValueFault → ℕ → Option ValueFault → List Kind → ValueFault → Type 0
 FailsFrom (Ok items) place fault ks e = IsFaultFrom items place fault ks e
 FailsFrom (Err refusal) place fault ks e = e ≡ refusal

@@ -3,7 +3,7 @@
 use Rattle.std.specs.Prelude.{◌≡◌, ℕ, ◌+◌, ◌*◌, ◌/◌, ◌%◌, List, [], ◌∷◌, Some, slice_index}
 use Rattle.hex.specs.Hex.{hex_digit_value, lower_digits}
 
--- two hexadecimal digits between single quotes
+-- the text is two hexadecimal digits between single quotes, which write n
 pub record IsByte (text : List ℕ) (n : ℕ) : Type 0 where
   pub a : ℕ
   pub b : ℕ

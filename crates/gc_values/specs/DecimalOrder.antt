@@ -15,6 +15,7 @@ use Rattle.gc_values.specs.RoundedFacts.{ten_pow_pos}
 use Rattle.gc_values.specs.Zeros.{WithoutZeros}
 use Rattle.gc_values.specs.declared.decimal.Decimal.{Decimal}
 
+-- the zeros at the end can't be taken off in two ways that leave different numbers of places
 fewer_zeros : (m p n s k t : ℕ) → WithoutZeros m p n s → WithoutZeros m p k t → s < t → ⊥
 fewer_zeros m p n s k t v w lt =
     let back : s + suc (t - suc s) ≡ t = omega arith in
@@ -24,7 +25,7 @@ fewer_zeros m p n s k t v w lt =
     (omega (arith, ap (λ x. x * (10 ^ (t - suc s) * 10 * 10 ^ s)) v.same, ap (λ x. x * 10 ^ s) w.same, ap (λ x. m * 10 ^ s * x) power)) in
     w.canonical (omega arith) (ap (λ x. x % 10) (sym more) ∙ mul-mod_left (n * 10 ^ (t - suc s)) 10)
 
--- in one way
+-- the zeros at the end are taken off in one way
 pub zeros_once : (m p n s k t : ℕ) → WithoutZeros m p n s → WithoutZeros m p k t → (n ≡ k) × (s ≡ t)
 zeros_once m p n s k t v w = elim (cases_order s t) [
   | inl same ↦ (eq_of_mul-eq-mul_left (10 ^ p) (ten_pow_pos p) n k (omega (arith, v.same, w.same, ap (λ e. m * 10 ^ e) same)), same)
@@ -34,13 +35,14 @@ zeros_once m p n s k t v w = elim (cases_order s t) [
   ]
 ]
 
+-- m / 10^s that needs all its places is its units of 10^-24 without the zeros at their end
 units_without_zeros : (m s : ℕ) → s ≤ 24 → (0 < s → m % 10 ≡ 0 → ⊥) → WithoutZeros (m * 10 ^ (24 - s)) 24 m s
 units_without_zeros m s places canonical =
     let back : 24 - s + s ≡ 24 = omega arith in
     let power : 10 ^ (24 - s) * 10 ^ s ≡ 10 ^ 24 = sym (pow-add 10 (24 - s) s) ∙ ap (λ e. 10 ^ e) back in
     record { same = omega (arith, ap (λ x. m * x) power); fewer = places; canonical = canonical }
 
--- numbers of one size, which are equal after a multiplication
+-- numbers of one size are equal where they are after a multiplication
 cancel : (z w : ℤ) (p : ℕ) → 0 < p → unsigned_abs z ≡ unsigned_abs w → z *ℤ pos p ≡ w *ℤ pos p → z ≡ w
 cancel (pos a) (pos b) p some size e = ap pos size
 cancel (negsuc a) (negsuc b) p some size e = let same : a ≡ b = omega arith in ap negsuc same
@@ -64,10 +66,11 @@ units_once a b e =
       one.1,
     )
 
+-- the order of decimals is total
 pub cmp_total : IsTotalOrder decimal_cmp
 cmp_total = on_total units int_cmp_total
 
--- decimals are equal where the order doesn't tell them apart
+-- `==` says that decimals are equal exactly where the order does
 pub cmp_matches_eq : (a b : Decimal) → decimal_eq a b ≡ eq_by_cmp decimal_cmp a b
 cmp_matches_eq a b =
     let same : Bool = decimal_eq a b in
@@ -82,5 +85,6 @@ cmp_matches_eq a b =
     ) in
     one_answer same (int_eq (units a) (units b)) fields (signed_Decides (units a) (units b))
 
+-- the order of decimals, as a partial one, keeps the laws of partial orders
 pub cmp_order : IsPartialOrder decimal_eq (as_partial_cmp decimal_cmp)
 cmp_order = partial_order_from_agreeing_total decimal_cmp cmp_total (λ a b. refl) cmp_matches_eq

@@ -19,7 +19,7 @@ decimal m s h = record { digits = m; scale = s; has_few_places = decimal_few m s
 abbrev pub zero : Decimal
 zero = record { digits = pos 0; scale = 0; has_few_places = zero_few; is_in_range = zero_in_range; is_canonical = zero_canonical }
 
--- the decimal rounded to p places, half away from zero: the law `rounded_is_the_rounding` says that it is
+-- the decimal rounded to p places, half away from zero, as the law `rounded_is_the_rounding` says
 unfoldable pub rounded : Decimal → ℕ → Decimal
 rounded d p = record {
   digits = signed (is_negative d.digits) (rounded_to (unsigned_abs d.digits) d.scale p).digits;
@@ -37,7 +37,7 @@ units d = units_of d.digits d.scale
 abbrev pub decimal_eq : Decimal → Decimal → Bool
 decimal_eq a b = int_eq a.digits b.digits && (a.scale == b.scale)
 
--- the order of the values
+-- how two decimals compare: as their values do
 abbrev pub decimal_cmp : Decimal → Decimal → Ordering
 decimal_cmp = on units int_cmp
 

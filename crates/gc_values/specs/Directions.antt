@@ -14,42 +14,42 @@ half_turn = pos 3141592653589793238462643
 abbrev pub turn : ℤ
 turn = pos 6283185307179586476925286
 
--- the vertical angle in face I: as it comes where it is at most half a turn, and else, since the telescope is in face II, 2P - v
+-- the vertical angle v in face I: as it comes where it is at most half a turn, and else, because the telescope is in face II, 2P - v
 abbrev pub v_of : Direction → ℤ
 v_of d = if int_le (units d.v) half_turn then units d.v else turn -ℤ units d.v
 
--- the horizontal direction in face I: as it comes where v is at most half a turn, and else h - P
+-- the horizontal direction h in face I: as it comes where v is at most half a turn, and else h - P
 abbrev pub hz_of : Direction → ℤ
 hz_of d = if int_le (units d.v) half_turn then units d.hz else units d.hz -ℤ half_turn
 
--- whether two numbers are at most so far apart
-abbrev pub is_apart : ℤ → ℤ → ℤ → Bool
-is_apart most x y = int_le (pos (unsigned_abs (x -ℤ y))) most
+-- whether x and y are at most `most` apart
+abbrev pub is_close : ℤ → ℤ → ℤ → Bool
+is_close most x y = int_le (pos (unsigned_abs (x -ℤ y))) most
 
--- the same once the first was turned so many times
-abbrev pub is_apart_turned : ℤ → ℤ → ℤ → ℤ → Bool
-is_apart_turned most turns x y = is_apart most (x +ℤ turns *ℤ turn) y
+-- whether x plus `turns` whole turns and y are at most `most` apart
+abbrev pub is_close_turned : ℤ → ℤ → ℤ → ℤ → Bool
+is_close_turned most turns x y = is_close most (x +ℤ turns *ℤ turn) y
 
--- the same on the circle: for some number of turns from -2 to 2
-abbrev pub is_apart_on_circle : ℤ → ℤ → ℤ → Bool
-is_apart_on_circle most x y =
-    is_apart_turned most (negsuc 1) x y || (is_apart_turned most (negsuc 0) x y || (is_apart_turned most (pos 0) x y
-    || (is_apart_turned most (pos 1) x y || is_apart_turned most (pos 2) x y)))
+-- whether x and y are at most `most` apart on the circle: for some number of turns from -2 to 2
+abbrev pub is_close_on_circle : ℤ → ℤ → ℤ → Bool
+is_close_on_circle most x y =
+    is_close_turned most (negsuc 1) x y || (is_close_turned most (negsuc 0) x y || (is_close_turned most (pos 0) x y
+    || (is_close_turned most (pos 1) x y || is_close_turned most (pos 2) x y)))
 
--- whether a direction is near a place: both of its angles are at most the tolerance away
+-- whether a direction is near a place: both of its angles, as face I has them, are at most the tolerance away
 unfoldable pub is_near : Direction → Direction → Decimal → Bool
 is_near d place tolerance =
-    is_apart (units tolerance) (v_of d) (units place.v) && is_apart_on_circle (units tolerance) (hz_of d) (units place.hz)
+    is_close (units tolerance) (v_of d) (units place.v) && is_close_on_circle (units tolerance) (hz_of d) (units place.hz)
 
--- whether a number is from 0 to this one
+-- whether x is from 0 to `most`, both included
 abbrev pub is_up_to : ℤ → ℤ → Bool
 is_up_to most x = int_le (pos 0) x && int_le x most
 
--- whether a direction is a place as face I has it: the horizontal one within a turn, the vertical one within half a turn
+-- whether a direction is a place as face I has it: the horizontal direction from 0 to a turn, the vertical angle from 0 to half a turn
 unfoldable pub is_place : Direction → Bool
 is_place d = is_up_to turn (units d.hz) && is_up_to half_turn (units d.v)
 
--- whether a number is a tolerance: it is within half a turn
+-- whether a number is a tolerance: it is from 0 to half a turn
 unfoldable pub is_tolerance : Decimal → Bool
 is_tolerance t = is_up_to half_turn (units t)
 
@@ -61,6 +61,6 @@ pub record IsNear (d place : Direction) (tolerance : Decimal) : Type 0 where
   pub v_near : pos (unsigned_abs (v_of d -ℤ units place.v)) ≤ℤ units tolerance
   pub hz_near : pos (unsigned_abs (hz_of d +ℤ turns *ℤ turn -ℤ units place.hz)) ≤ℤ units tolerance
 
--- the test is that
+-- the test `is_near` says exactly whether a direction is near a place
 abbrev pub NearIsWithinTheTolerance : Type 0
 NearIsWithinTheTolerance = (d place : Direction) (tolerance : Decimal) → (is_near d place tolerance ≡ true → IsNear d place tolerance) × (IsNear d place tolerance → is_near d place tolerance ≡ true)

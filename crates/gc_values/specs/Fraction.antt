@@ -7,11 +7,12 @@ pub record Fraction : Type 0 where
   pub n : ℤ
   pub k : ℕ
 
+-- whether a number is below 0
 abbrev pub is_negative : ℤ → Bool
 is_negative (pos n) = false
 is_negative (negsuc n) = true
 
--- a number with its sign
+-- the number with this magnitude, below 0 where the sign is a minus (true)
 abbrev pub signed : Bool → ℕ → ℤ
 signed false m = pos m
 signed true m = neg_ℤ (pos m)
@@ -41,7 +42,7 @@ abbrev pub distance : ℤ → ℕ → ℤ → ℕ → ℕ
 distance m s n k = unsigned_abs (m *ℤ pos (10 ^ k) -ℤ n *ℤ pos (10 ^ s))
 
 -- m / 10^s is q rounded to p places: it has at most p places, no whole number of 10^-p is nearer to q, and of
--- two that are as near it is the one further from 0
+-- two that are equally near m / 10^s is the one further from 0
 pub record IsRounded (q : Fraction) (p : ℕ) (m : ℤ) (s : ℕ) : Type 0 where
   pub canonical : IsCanonical m s
   pub places : s ≤ p
@@ -52,6 +53,6 @@ pub record IsRounded (q : Fraction) (p : ℕ) (m : ℤ) (s : ℕ) : Type 0 where
 abbrev pub IsWithin : Fraction → Fraction → Fraction → Type 0
 IsWithin a b c = pos (distance a.n a.k b.n b.k * 10 ^ c.k) ≤ℤ (c.n *ℤ pos (10 ^ a.k * 10 ^ b.k))
 
--- n / 10^k in units of 10^-24
+-- n / 10^k in units of 10^-24, where k is at most 24
 abbrev pub units_of : ℤ → ℕ → ℤ
 units_of n k = n *ℤ pos (10 ^ (24 - k))

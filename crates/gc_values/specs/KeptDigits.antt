@@ -6,11 +6,11 @@ use Rattle.gc_values.specs.Digits.{number}
 abbrev pub digit_or_zero : List ℕ → ℕ → ℕ
 digit_or_zero ds i = slice_index_or ds i 48 - 48
 
--- the number that the first i digits write, with zeros behind the last one
+-- the number that the first i digits write, with zeros in place of those behind the last one
 unfoldable pub kept : List ℕ → ℕ → ℕ
 kept ds i = number (take i ds) * 10 ^ (i - length ds)
 
--- what the digit behind the place adds
+-- what a digit adds to the place in front of it by rounding: 1 from 5 on, else 0
 abbrev pub carry : ℕ → ℕ
 carry d = if nat_le 5 d then 1 else 0
 

@@ -32,7 +32,7 @@ FirstFault [] items e = ⊥
 FirstFault (k ∷ ks) [] e = ⊥
 FirstFault (k ∷ ks) (item ∷ items) e = IsItemFault k item e ⊎ ((v : Value) × (kind_of v ≡ k) × IsItem item v × FirstFault ks items e)
 
--- why the items are no values of the kinds: more than 16, else another count, else the first item with a fault
+-- why the items aren't values of the kinds, one for one: they are more than 16, else not as many as the kinds, else the first with a fault
 pub data IsItemsFault (kinds : List Kind) (items : List (List ℕ)) (e : ValueFault) : Type 0 where
   too_many : e ≡ TooMany → 16 < length items → IsItemsFault kinds items e
   wrong_count : e ≡ Count → length items ≤ 16 → length items ≢ length kinds → IsItemsFault kinds items e

@@ -6,7 +6,7 @@ use Rattle.gc_values.specs.Fraction.{is_decimal}
 use Rattle.gc_values.specs.declared.decimal.Decimal.{Decimal}
 use Rattle.gc_values.specs.declared.direction.Direction.{Direction}
 
--- m / 10^s and n / 10^t as a direction
+-- the direction with the horizontal direction m / 10^s and the vertical angle n / 10^t
 abbrev pub pointing : (m s n t : ℕ) → IsTrue (is_decimal (pos m) s) → IsTrue (is_decimal (pos n) t) → Direction
 pointing m s n t h k = record { hz = decimal (pos m) s h; v = decimal (pos n) t k }
 
@@ -18,6 +18,7 @@ hundredth = decimal (pos 1) 2 refl
 abbrev pub prism : Direction
 prism = pointing 225 2 1625 3 refl refl
 
+-- each example with the answer of `is_near`
 pub record NearByExample : Type 0 where
   -- 6.28 and 0.001 are near on the circle, either way round
   pub circle : is_near (pointing 628 2 15 1 refl refl) (pointing 1 3 15 1 refl refl) hundredth ≡ true

@@ -7,28 +7,28 @@ use Rattle.gc_values.specs.Zeros.{WithoutZeros, Placed, stripped}
 abbrev pub gap : ℕ → ℕ → ℕ
 gap a b = (a - b) + (b - a)
 
--- m is the whole number nearest to a / b, and the greater one of two
+-- m is the whole number nearest to a / b, and of two that are equally near the greater one
 pub record RoundsHalfUp (a b m : ℕ) : Type 0 where
   pub near : 2 * gap a (m * b) ≤ b
   pub tie : 2 * gap a (m * b) ≡ b → a < m * b
 
--- the whole number nearest to a / b, and the greater one of two
+-- the whole number nearest to a / b, and of two that are equally near the greater one
 abbrev pub half_up : ℕ → ℕ → ℕ
 half_up a b = (2 * a + b) / (2 * b)
 
--- a / 10^k, rounded to whole numbers of 10^-24, is m / 10^p, and the units are m, or the cap where m is above it
+-- a / 10^k rounded to 24 places is m / 10^p, and `units` is m, but at most the cap
 pub record IsCapped (a k cap units p : ℕ) : Type 0 where
   pub m : ℕ
   pub rounds : RoundsHalfUp (a * 10 ^ 24) (10 ^ k) (m * 10 ^ (24 - p))
   pub capped : units ≡ min cap m
   pub places : p ≤ 24
 
--- m / 10^s is the signed number of 10^-p, without the zeros at its end
+-- m / 10^s is magnitude / 10^p with the sign, without the zeros at its end
 pub record MadeOf (negative : Bool) (magnitude p : ℕ) (m : ℤ) (s : ℕ) : Type 0 where
   pub n : ℕ
   pub m_is : m ≡ signed negative n
   pub zeros : WithoutZeros magnitude p n s
 
--- m / 10^s rounded to p places at most, half up: a whole number of 10^-p without the zeros at its end
+-- m / 10^s rounded to at most p places, half up, without the zeros at its end
 abbrev pub rounded_to : ℕ → ℕ → ℕ → Placed
 rounded_to m s p = stripped (half_up m (10 ^ (s - p))) (min s p)

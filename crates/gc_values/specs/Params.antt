@@ -7,7 +7,7 @@ use Rattle.std.specs.List.{flat_map}
 abbrev pub quotes : List ℕ → ℕ
 quotes bytes = count_by (λ b. b == 34) bytes
 
--- spaces alone, or nothing
+-- the bytes are spaces alone, or none
 abbrev pub AreSpaces : List ℕ → Type 0
 AreSpaces bytes = (n : ℕ) × (bytes ≡ replicate n 32)
 
@@ -18,7 +18,7 @@ pub record IsParam (item : List ℕ) : Type 0 where
   pub pairs : quotes item % 2 ≡ 0
   pub commas : (front rest : List ℕ) → item ≡ front ++ 44 ∷ rest → quotes front % 2 ≡ 1
 
--- the item with any spaces round it
+-- the piece is the item with any spaces round it
 pub record IsPadded (piece item : List ℕ) : Type 0 where
   pub before : ℕ
   pub behind : ℕ

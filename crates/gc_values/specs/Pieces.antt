@@ -2,11 +2,11 @@
 use Rattle.std.specs.Prelude.{◌≡◌, ℕ, ◌%◌, List, ◌∷◌, [], ◌++◌, replicate, Option, None, Some}
 use Rattle.gc_values.specs.Params.{quotes, IsPadded}
 
--- each comma has an odd number of double quotes before it
+-- each comma of the piece has an odd number of double quotes before it
 abbrev pub KeepsCommas : List ℕ → Type 0
 KeepsCommas piece = (front rest : List ℕ) → piece ≡ front ++ 44 ∷ rest → quotes front % 2 ≡ 1
 
--- the text up to its first comma outside quotes, and what follows that comma
+-- the text is a piece, up to its first comma outside quotes, and what follows that comma, if there is one
 abbrev pub CutsPiece : List ℕ → List ℕ → Option (List ℕ) → Type 0
 CutsPiece text piece None = (text ≡ piece) × KeepsCommas piece
 CutsPiece text piece (Some rest) = (text ≡ piece ++ 44 ∷ rest) × KeepsCommas piece × (quotes piece % 2 ≡ 0)
@@ -19,19 +19,19 @@ StartsNoSpace item = (rest : List ℕ) → item ≡ 32 ∷ rest → ⊥
 abbrev pub EndsNoSpace : List ℕ → Type 0
 EndsNoSpace item = (front : List ℕ) → item ≡ front ++ 32 ∷ [] → ⊥
 
--- the text without the spaces at its front
+-- the item is the text without the spaces at its front
 pub record TrimsFront (text item : List ℕ) : Type 0 where
   pub count : ℕ
   pub text_is : text ≡ replicate count 32 ++ item
   pub first : StartsNoSpace item
 
--- the text without the spaces at its end
+-- the item is the text without the spaces at its end
 pub record TrimsBack (text item : List ℕ) : Type 0 where
   pub count : ℕ
   pub text_is : text ≡ item ++ replicate count 32
   pub last : EndsNoSpace item
 
--- the text without the spaces at its ends
+-- the item is the text without the spaces at its ends
 pub record IsTrimmed (text item : List ℕ) : Type 0 where
   pub padded : IsPadded text item
   pub first : StartsNoSpace item

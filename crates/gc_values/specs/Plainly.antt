@@ -9,30 +9,31 @@ use Rattle.gc_values.specs.Whole.{NamesWhole}
 use Rattle.gc_values.specs.declared.decimal.Decimal.{Decimal}
 use Rattle.gc_values.specs.declared.value.Value.{Value}
 
--- an item with nothing round it, and what follows its comma
+-- the text is an item with nothing round it, and what follows its comma, if there is one
 abbrev pub Stands : List ℕ → List ℕ → Option (List ℕ) → Type 0
 Stands text item None = text ≡ item
 Stands text item (Some rest) = text ≡ item ++ 44 ∷ rest
 
+-- the text is an item and what follows its comma, as `Stands` has it, and the item is a parameter of at least one byte
 pub record CutsPlain (text item : List ℕ) (rest : Option (List ℕ)) : Type 0 where
   pub text_is : Stands text item rest
   pub param : IsParam item
   pub some : 0 < length item
 
--- the first few bytes are digits, at most so many, and the value is the number that they write behind the digits of front
+-- the first `count` bytes are digits, at most `most`, and the value is the number that the digits of `front` and these write
 pub record CountsDigits (front : ℕ) (text : List ℕ) (most value count : ℕ) : Type 0 where
   pub within : count ≤ length text
   pub few : count ≤ most
   pub digits : AreDigits (take count text)
   pub value_is : value ≡ front * 10 ^ count + number (take count text)
 
--- a decimal was cut off, and its comma
+-- the text begins with a decimal in plain spelling, and the rest is what follows its comma, if there is one
 pub record CutsDecimal (text : List ℕ) (d : Decimal) (rest : Option (List ℕ)) : Type 0 where
   pub item : List ℕ
   pub cut : CutsPlain text item rest
   pub spelled : Spells item d.digits d.scale
 
--- a whole number of few digits was cut off, and its comma
+-- the text begins with a whole number in plain spelling, and the rest is what follows its comma, if there is one
 pub record CutsNumber (text : List ℕ) (n : ℕ) (rest : Option (List ℕ)) : Type 0 where
   pub item : List ℕ
   pub cut : CutsPlain text item rest
@@ -47,12 +48,12 @@ pub record ArePlain (text : List ℕ) (vs : List Value) : Type 0 where
   pub some : AllByRecursion (λ item. 0 < length item) (first ∷ more)
   pub read : AreItems (first ∷ more) vs
 
--- what is left is read as the values, and behind the end nothing is
+-- the text that is left is read as the values; behind the end there are none
 abbrev pub LeftPlain : Option (List ℕ) → List Value → Type 0
 LeftPlain None vs = vs ≡ []
 LeftPlain (Some text) vs = ArePlain text vs
 
--- what the common spelling has read so far is well, and the rest reads as these values
+-- all that was asked for so far was read, and the text that is left is read as these values
 pub record ReadsPlainly (good : Bool) (rest : Option (List ℕ)) (vs : List Value) : Type 0 where
   pub well : good ≡ true
   pub left : LeftPlain rest vs

@@ -9,18 +9,21 @@ use Rattle.gc_values.specs.Fraction.{signed, is_decimal, IsCanonical, IsInRange}
 use Rattle.gc_values.specs.Nearest.{gap, RoundsHalfUp, half_up, rounded_to}
 use Rattle.gc_values.specs.Zeros.{WithoutZeros, Placed, stripped}
 
+-- where m ends in a zero, and m / 10 over 10^s is n / 10^t, m over 10^(s+1) is n / 10^t, too
 zero_back : (m s n t : ℕ) → m % 10 ≡ 0 → (m / 10) * 10 ^ t ≡ n * 10 ^ s → m * 10 ^ t ≡ n * 10 ^ suc s
 zero_back m s n t whole same =
     let ten : m ≡ 10 * (m / 10) = omega arith in
     omega (arith, same, pow-suc 10 s, ap (λ x. n * x) (pow-suc 10 s), ap (λ x. x * 10 ^ t) ten)
 
+-- where m ends in a zero, and n / 10^t is m / 10 over 10^s without its zeros, it is m / 10^(s+1) without its zeros, too
 one_more : (m s n t : ℕ) → m % 10 ≡ 0 → WithoutZeros (m / 10) s n t → WithoutZeros m (suc s) n t
 one_more m s n t whole w = record { same = zero_back m s n t whole w.same; fewer = let f = w.fewer in omega (arith, f); canonical = w.canonical }
 
+-- r is m / 10^s without the zeros at its end
 abbrev Stripped : ℕ → ℕ → Placed → Type 0
 Stripped m s r = WithoutZeros m s r.digits r.places
 
--- the zeros are off
+-- `stripped` takes off the zeros at the end, and changes no value
 pub stripped_is : (m s : ℕ) → WithoutZeros m s (stripped m s).digits (stripped m s).places
 stripped_is m zero = record { same = refl; fewer = omega arith; canonical = λ h. absurd (omega arith) }
 stripped_is m (suc s) = elim (eqb_tells (m % 10) 0) [
@@ -32,10 +35,11 @@ stripped_is m (suc s) = elim (eqb_tells (m % 10) 0) [
       (record { same = refl; fewer = omega arith; canonical = λ _. part.1 })
 ]
 
+-- the quotient m of 2a + b by 2b, with remainder r, is the whole number nearest to a / b
 near_from : (a b m r : ℕ) → 0 < b → m * (2 * b) + r ≡ 2 * a + b → r < 2 * b → RoundsHalfUp a b m
 near_from a b m r some whole rest = record { near = omega arith; tie = λ h. omega arith }
 
--- the quotient is the nearest whole number
+-- `half_up` gives the nearest whole number
 pub half_up_rounds : (a b : ℕ) → 0 < b → RoundsHalfUp a b (half_up a b)
 half_up_rounds a b some = near_from a b (half_up a b) ((2 * a + b) % (2 * b)) some (div-add-mod' (2 * a + b) (2 * b)) (mod-lt (2 * a + b) (omega arith))
 
@@ -51,9 +55,11 @@ rounds_bound a b m n some r h =
       | inr within ↦ within
     ]
 
+-- a power of ten is above 0
 pub ten_pow_pos : (k : ℕ) → 0 < 10 ^ k
 ten_pow_pos k = one-le-pow k 10 (lit< tt)
 
+-- a number with a sign has its magnitude
 pub unsigned_abs-signed : (b : Bool) (m : ℕ) → unsigned_abs (signed b m) ≡ m
 unsigned_abs-signed false m = refl
 unsigned_abs-signed true zero = refl
@@ -64,23 +70,26 @@ pub zeros_in_range : (m s n t : ℕ) → WithoutZeros m s n t → m ≤ 10 ^ 13 
 zeros_in_range m s n t w h =
     le_of_mul-le-mul_right {m = n} {n = 10 ^ 13 * 10 ^ t} {k = 10 ^ s} (omega (arith, w.same, mul-le-mul_right {m = m} {n = 10 ^ 13 * 10 ^ s} (10 ^ t) h)) (ten_pow_pos s)
 
--- nor do places that are left out
+-- a number in range stays so where its last places are cut off
 pub places_in_range : (a s p : ℕ) → p ≤ s → a ≤ 10 ^ 13 * 10 ^ s → a ≤ 10 ^ 13 * 10 ^ p * 10 ^ (s - p)
 places_in_range a s p places h =
     let back : p + (s - p) ≡ s = omega arith in
     let power : 10 ^ p * 10 ^ (s - p) ≡ 10 ^ s = sym (pow-add 10 p (s - p)) ∙ ap (λ e. 10 ^ e) back in
     omega (arith, h, power)
 
--- a fraction that is rounded at its own or at fewer places
+-- the digits of `rounded_to` are those of the nearest whole number, without the zeros at their end
 pub rounded_to_zeros : (m s p : ℕ) → WithoutZeros (half_up m (10 ^ (s - p))) (min s p) (rounded_to m s p).digits (rounded_to m s p).places
 rounded_to_zeros m s p = stripped_is (half_up m (10 ^ (s - p))) (min s p)
 
+-- a number of at most 24 places has at most 24 when it is rounded
 pub rounded_few : (m s p : ℕ) → s ≤ 24 → (rounded_to m s p).places ≤ 24
 rounded_few m s p h = let w = (rounded_to_zeros m s p).fewer in omega (arith, w)
 
+-- s less the lesser of s and p is s less p
 min_off : (s p : ℕ) → s - min s p ≡ s - p
 min_off s p = omega arith
 
+-- a number in range stays so when it is rounded
 pub rounded_in_range : (b : Bool) (m s p : ℕ) → m ≤ 10 ^ 13 * 10 ^ s → IsInRange (signed b (rounded_to m s p).digits) (rounded_to m s p).places
 rounded_in_range b m s p h =
     let size : m ≤ 10 ^ 13 * 10 ^ min s p * 10 ^ (s - p) =
@@ -90,45 +99,58 @@ rounded_in_range b m s p h =
     let all = zeros_in_range (half_up m (10 ^ (s - p))) (min s p) (rounded_to m s p).digits (rounded_to m s p).places (rounded_to_zeros m s p) whole in
     subst (λ n. n ≤ 10 ^ 13 * 10 ^ (rounded_to m s p).places) (sym (unsigned_abs-signed b (rounded_to m s p).digits)) all
 
+-- a rounded number has no place more than it needs
 pub rounded_canonical : (b : Bool) (m s p : ℕ) → IsCanonical (signed b (rounded_to m s p).digits) (rounded_to m s p).places
 rounded_canonical b m s p some divides =
     (rounded_to_zeros m s p).canonical some (ap (λ n. n % 10) (sym (unsigned_abs-signed b (rounded_to m s p).digits)) ∙ divides)
 
+-- 0.0 has at most 24 places
 pub zero_few : 0 ≤ 24
 zero_few = lit≤ tt
 
+-- 0.0 is in range
 pub zero_in_range : IsInRange (pos 0) 0
 zero_in_range = lit≤ tt
 
+-- 0.0 has no place more than it needs
 pub zero_canonical : IsCanonical (pos 0) 0
 zero_canonical below = absurd (omega arith)
 
--- what the test of a decimal says
+-- From the test `is_decimal` to the facts that a decimal holds.
+
+-- where both hold, the first does
 first_holds : (s t : Bool) → (s && t) ≡ true → s ≡ true
 first_holds true t h = refl
 first_holds false t h = h
 
+-- where both hold, the second does
 second_holds : (s t : Bool) → (s && t) ≡ true → t ≡ true
 second_holds true t h = h
 second_holds false t h = absurd (cc)
 
+-- where the test `is_decimal` holds, there are at most 24 places
 pub decimal_few : (m : ℤ) (s : ℕ) → is_decimal m s ≡ true → s ≤ 24
 decimal_few m s h = leb-true s 24 (first_holds (nat_le s 24) (nat_le (unsigned_abs m) (10 ^ 13 * 10 ^ s) && (s == 0 || not (unsigned_abs m % 10 == 0))) h)
 
+-- where the test `is_decimal` holds, what it tests behind the number of places holds
 rest : (m : ℤ) (s : ℕ) → is_decimal m s ≡ true → (nat_le (unsigned_abs m) (10 ^ 13 * 10 ^ s) && (s == 0 || not (unsigned_abs m % 10 == 0))) ≡ true
 rest m s h = second_holds (nat_le s 24) (nat_le (unsigned_abs m) (10 ^ 13 * 10 ^ s) && (s == 0 || not (unsigned_abs m % 10 == 0))) h
 
+-- where the test `is_decimal` holds, the value is in range
 pub decimal_in_range : (m : ℤ) (s : ℕ) → is_decimal m s ≡ true → IsInRange m s
 decimal_in_range m s h = leb-true (unsigned_abs m) (10 ^ 13 * 10 ^ s) (first_holds (nat_le (unsigned_abs m) (10 ^ 13 * 10 ^ s)) (s == 0 || not (unsigned_abs m % 10 == 0)) (rest m s h))
 
+-- a number of places above 0 fails the test for 0
 some_places : (s : ℕ) → 0 < s → (s == 0) ≡ false
 some_places s some = elim (eqb_tells s 0) [ inl none ↦ absurd (let e = none.1 in omega (arith, e)) | inr more ↦ more.0 ]
 
+-- where a or not b holds, b can't hold without a
 no_zero : (a b : Bool) → (a || not b) ≡ true → a ≡ false → b ≡ true → ⊥
 no_zero true b h e f = absurd (cc)
 no_zero false true h e f = absurd (cc)
 no_zero false false h e f = absurd (cc)
 
+-- where the test `is_decimal` holds, there is no place more than the value needs
 pub decimal_canonical : (m : ℤ) (s : ℕ) → is_decimal m s ≡ true → IsCanonical m s
 decimal_canonical m s h some divides =
     let last = second_holds (nat_le (unsigned_abs m) (10 ^ 13 * 10 ^ s)) (s == 0 || not (unsigned_abs m % 10 == 0)) (rest m s h) in

@@ -11,11 +11,13 @@ pub data Sign : Type 0 where
   Plus : Sign
   Minus : Sign
 
+-- how a sign is written
 abbrev pub sign_text : Sign → List ℕ
 sign_text Absent = []
 sign_text Plus = 43 ∷ []
 sign_text Minus = 45 ∷ []
 
+-- whether a sign is a minus
 abbrev pub is_minus : Sign → Bool
 is_minus Absent = false
 is_minus Plus = false
@@ -34,27 +36,31 @@ pub record Parts : Type 0 where
   pub fraction : Option (List ℕ)
   pub exponent : Option Exponent
 
+-- a point and the digits behind it, where there is a fraction
 abbrev pub fraction_text : Option (List ℕ) → List ℕ
 fraction_text None = []
 fraction_text (Some ds) = 46 ∷ ds
 
+-- the digits behind the point, none without a point
 abbrev pub fraction_digits : Option (List ℕ) → List ℕ
 fraction_digits None = []
 fraction_digits (Some ds) = ds
 
--- `E` or `e`
+-- `E` where it is a capital (true), else `e`
 abbrev pub mark : Bool → ℕ
 mark capital = if capital then 69 else 101
 
+-- an exponent as it is written, where there is one
 abbrev pub exponent_text : Option Exponent → List ℕ
 exponent_text None = []
 exponent_text (Some e) = mark e.capital ∷ (sign_text e.sign ++ e.digits)
 
--- how many times the exponent multiplies by ten, and how many times it divides
+-- how many times the exponent multiplies by ten
 abbrev pub ups : Option Exponent → ℕ
 ups None = 0
 ups (Some e) = if is_minus e.sign then 0 else number e.digits
 
+-- how many times the exponent divides by ten
 abbrev pub downs : Option Exponent → ℕ
 downs None = 0
 downs (Some e) = if is_minus e.sign then number e.digits else 0
@@ -65,21 +71,24 @@ pub record IsShort (digits : List ℕ) : Type 0 where
   pub some : 0 < length digits
   pub few : length digits ≤ 3
 
+-- an exponent, where there is one, has one to three digits
 abbrev pub IsExponent : Option Exponent → Type 0
 IsExponent None = Unit {0}
 IsExponent (Some e) = IsShort e.digits
 
--- digits, at least one of them before or behind the point
+-- the parts are those of a number's text: digits, at least one of them before or behind the point, and a short exponent, if any
 pub record IsNumeral (p : Parts) : Type 0 where
   pub whole : AreDigits p.whole
   pub fraction : AreDigits (fraction_digits p.fraction)
   pub some : 0 < length p.whole + length (fraction_digits p.fraction)
   pub exponent : IsExponent p.exponent
 
+-- the text of the parts
 abbrev pub spelling : Parts → List ℕ
 spelling p = sign_text p.sign ++ (p.whole ++ (fraction_text p.fraction ++ exponent_text p.exponent))
 
--- the whole number that all the digits write, moved by the exponent and by the digits behind the point
+-- the value of the parts: all the digits as a whole number with the sign, divided by ten for each digit behind the point, and
+-- multiplied or divided as the exponent says
 abbrev pub value : Parts → Fraction
 value p = record {
   n = signed (is_minus p.sign) (number (p.whole ++ fraction_digits p.fraction) * 10 ^ ups p.exponent);

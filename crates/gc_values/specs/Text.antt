@@ -11,7 +11,7 @@ IsStringByte b = (b ≢ 34) × (b ≢ 13) × (b ≢ 10)
 abbrev pub AreStringBytes : List ℕ → Type 0
 AreStringBytes bytes = AllByRecursion IsStringByte bytes
 
--- what a text holds
+-- the bytes may be those of a string parameter: at most 64, each of which may stand in a string
 pub record IsText (bytes : List ℕ) : Type 0 where
   pub few : length bytes ≤ 64
   pub plain : AreStringBytes bytes
@@ -20,12 +20,12 @@ pub record IsText (bytes : List ℕ) : Type 0 where
 abbrev pub quoted : List ℕ → List ℕ
 quoted bytes = 34 ∷ (bytes ++ 34 ∷ [])
 
--- a string of any length
+-- the item is a string of any length, with these bytes between its quotes
 pub record IsString (item bytes : List ℕ) : Type 0 where
   pub item_is : item ≡ quoted bytes
   pub plain : AreStringBytes bytes
 
--- a string of at most 64 bytes
+-- the item is a string of at most 64 bytes, these
 pub record IsTextItem (item bytes : List ℕ) : Type 0 where
   pub string : IsString item bytes
   pub few : length bytes ≤ 64

@@ -8,17 +8,17 @@ use Rattle.gc_values.specs.Written.{minus_text, whole_text}
 use Rattle.gc_values.specs.declared.fault.ValueFault.{ValueFault}
 use Rattle.gc_values.specs.declared.fault.ValueFault.TheVariants.{Spelling, Range}
 
--- one or more digits that write n
+-- the text is one or more digits, which write n
 pub record NamesNumber (text : List ℕ) (n : ℕ) : Type 0 where
   pub digits : AreDigits text
   pub some : 0 < length text
   pub value : n ≡ number text
 
--- the text is no number, or one above the greatest
+-- why the text is no number up to `max`: it is no number, or a greater one
 abbrev pub IsNumberFault : ℕ → List ℕ → ValueFault → Type 0
 IsNumberFault max text e = ((e ≡ Spelling) × ((n : ℕ) → NamesNumber text n → ⊥)) ⊎ ((e ≡ Range) × ((n : ℕ) × NamesNumber text n × (max < n)))
 
--- a sign or none, and one or more digits, that write z
+-- the text is a sign or none, and one or more digits, which write z
 pub record NamesWhole (text : List ℕ) (z : ℤ) : Type 0 where
   pub sign : Sign
   pub digits : List ℕ
@@ -27,15 +27,15 @@ pub record NamesWhole (text : List ℕ) (z : ℤ) : Type 0 where
   pub number_is : NamesNumber digits n
   pub value : z ≡ signed (is_minus sign) n
 
--- at least -below and at most above
+-- z is from -below to above
 abbrev pub IsBetween : ℕ → ℕ → ℤ → Type 0
 IsBetween below above z = (neg_ℤ (pos below) ≤ℤ z) × (z ≤ℤ pos above)
 
--- the range of a Long
+-- z is in the range of a Long
 abbrev pub FitsLong : ℤ → Type 0
 FitsLong z = IsBetween 2147483648 2147483647 z
 
--- the range of a Short
+-- z is in the range of a Short
 abbrev pub FitsShort : ℤ → Type 0
 FitsShort z = IsBetween 32768 32767 z
 
@@ -47,7 +47,7 @@ NamesNoWhole text = (z : ℤ) → NamesWhole text z → ⊥
 abbrev pub NamesWholeBeyond : ℕ → ℕ → List ℕ → Type 0
 NamesWholeBeyond below above text = (z : ℤ) × NamesWhole text z × (IsBetween below above z → ⊥)
 
--- the text is no whole number, or one that isn't between the two
+-- why the text is no whole number from -below to above: it is none, or one outside
 abbrev pub IsWholeFault : ℕ → ℕ → List ℕ → ValueFault → Type 0
 IsWholeFault below above text e = ((e ≡ Spelling) × NamesNoWhole text) ⊎ ((e ≡ Range) × NamesWholeBeyond below above text)
 

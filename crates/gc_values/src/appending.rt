@@ -8,7 +8,7 @@ ghost use Rattle.gc_values.specs.Written.{written};
 use crate::decimal::{Decimal, push_decimal};
 use arrayvec::ArrayVec;
 
-/// Appends the written form of a decimal that is rounded to at most this many places.
+/// Rounds a decimal to at most this many places, half away from zero, and appends its written form.
 pub fn push_rounded<const N: usize>(out: &mut ArrayVec<u8, N>, d: &Decimal, places: u8)
     requires room { array_vec_len out.old + 40 ≤ N }
     requires places { places ≤ 24 }

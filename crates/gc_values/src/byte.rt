@@ -10,7 +10,7 @@ use crate::fault::ValueFault;
 use arrayvec::ArrayVec;
 use hex::{decode_to_slice, encode_to_slice};
 
-/// The byte that two hexadecimal digits write.
+/// The byte that two hexadecimal digits write. `None`: the bytes aren't two such digits.
 fn hex_byte(digits: &[u8]) -> Option<u8>
     ensures { MatchResult (decode_sized digits.now 1)
         (λ bytes. IsSomeAnd result (λ b. bytes ≡ b ∷ []))
@@ -23,7 +23,7 @@ fn hex_byte(digits: &[u8]) -> Option<u8>
     }
 }
 
-/// The two bytes between single quotes.
+/// The two bytes that stand between single quotes. `None`: the item isn't two bytes between two single quotes.
 fn between_quotes(item: &[u8]) -> Option<(u8, u8)>
     ensures found { IfSome result (λ d. item.now ≡ 39 ∷ d.0 ∷ d.1 ∷ 39 ∷ []) }
     ensures none { IfNone result ((a b : ℕ) → item.now ≡ 39 ∷ a ∷ b ∷ 39 ∷ [] → ⊥) }

@@ -5,7 +5,7 @@ ghost use Rattle.gc_values.specs.Cut.{CutsDigits, CutsSign, StartsNoDigit, Start
 ghost use Rattle.gc_values.specs.Digits.{AreDigits, number};
 ghost use Rattle.gc_values.specs.Spelling.{Exponent, IsExponent, IsShort, exponent_text, mark};
 
-/// Cuts the longest run of digits off the front.
+/// Cuts the longest run of digits off the front, and returns it and the rest.
 pub fn cut_digits(text: &[u8]) -> (&[u8], &[u8])
     ensures { CutsDigits text.now result.0.now result.1.now }
 {
@@ -17,7 +17,7 @@ pub fn cut_digits(text: &[u8]) -> (&[u8], &[u8])
     (text, &[])
 }
 
-/// Cuts off a sign, and says whether it is a minus.
+/// Cuts off a sign, if one stands first. It returns whether that is a minus, and the rest.
 pub fn cut_sign(text: &[u8]) -> (bool, &[u8])
     ensures { CutsSign text.now result.0 result.1.now }
 {
@@ -28,7 +28,7 @@ pub fn cut_sign(text: &[u8]) -> (bool, &[u8])
     }
 }
 
-/// Cuts off `E` or `e`.
+/// Cuts off `E` or `e`, and returns the rest. `None`: neither stands first.
 fn cut_mark(text: &[u8]) -> Option<&[u8]>
     ensures found { IfSome result (λ rest. (capital : Bool) × (text.now ≡ mark capital ∷ rest.now)) }
     ensures none { IfNone result (StartsNoMark text.now) }
@@ -40,7 +40,7 @@ fn cut_mark(text: &[u8]) -> Option<&[u8]>
     }
 }
 
-/// The number that one to three digits write.
+/// The number that one to three digits write. `None`: the text is something else.
 fn short_number(text: &[u8]) -> Option<u16>
     ensures found { IfSome result (λ n. IsShort text.now × (n ≡ number text.now) × (n < 1000)) }
     ensures none { IfNone result (IsShort text.now → ⊥) }
@@ -58,7 +58,8 @@ fn short_number(text: &[u8]) -> Option<u16>
     Some(value)
 }
 
-/// Reads an exponent: how often it multiplies by ten, and how often it divides.
+/// Reads an exponent, or an empty text as none. It returns how often the exponent multiplies by ten, and how often it divides.
+/// `None`: the text is something else.
 pub fn exponent(text: &[u8]) -> Option<(u16, u16)>
     ensures found { IfSome result (λ r. ReadsExponent text.now r.0 r.1) }
     ensures small { IfSome result (λ r. (r.0 < 1000) × (r.1 < 1000)) }
@@ -74,7 +75,7 @@ pub fn exponent(text: &[u8]) -> Option<(u16, u16)>
     Some(if negative { (0, value) } else { (value, 0) })
 }
 
-/// Cuts off a point.
+/// Cuts off a point, and returns the rest. `None`: no point stands first.
 fn cut_point(text: &[u8]) -> Option<&[u8]>
     ensures found { IfSome result (λ rest. text.now ≡ 46 ∷ rest.now) }
     ensures none { IfNone result (StartsNoPoint text.now) }
@@ -85,7 +86,7 @@ fn cut_point(text: &[u8]) -> Option<&[u8]>
     }
 }
 
-/// Cuts off a point and the digits behind it.
+/// Cuts off a point and the digits behind it, and returns these digits and the rest. Without a point no digit is cut off.
 pub fn cut_fraction(text: &[u8]) -> (&[u8], &[u8])
     requires { StartsNoDigit text.now }
     ensures { CutsFraction text.now result.0.now result.1.now }

@@ -37,7 +37,7 @@ pub struct Decimal {
     pub ghost is_canonical: { IsCanonical digits scale },
 }
 
-/// Takes off the zeros behind the point, in 64 bits.
+/// `digits / 10^scale` with no place more than it needs, as its digits and its scale, in 64 bits.
 fn without_short_zeros(mut digits: u64, mut scale: u8) -> (u64, u8)
     ensures { WithoutZeros digits scale result.0 result.1 }
 {
@@ -48,7 +48,7 @@ fn without_short_zeros(mut digits: u64, mut scale: u8) -> (u64, u8)
     (digits, scale)
 }
 
-/// Takes off the zeros behind the point.
+/// `magnitude / 10^scale` with no place more than it needs, as its magnitude and its scale.
 fn without_zeros(mut magnitude: u128, mut scale: u8) -> (u128, u8)
     ensures { WithoutZeros magnitude scale result.0 result.1 }
 {
@@ -63,7 +63,7 @@ fn without_zeros(mut magnitude: u128, mut scale: u8) -> (u128, u8)
     (magnitude, scale)
 }
 
-/// `a / b`, rounded down. It divides in 64 bits where both fit, since a division of 128 bits is slow.
+/// `a / b`, rounded down. The division is one of 64 bits where both fit, because one of 128 bits is slow.
 fn quotient(a: u128, b: u128) -> u128
     requires { 0 < b }
     ensures { result ≡ a / b }
@@ -74,7 +74,7 @@ fn quotient(a: u128, b: u128) -> u128
     }
 }
 
-/// The whole number nearest to `a / b`, and of two that are as near the greater.
+/// The whole number nearest to `a / b`, and of two that are equally near the greater one.
 fn nearest(a: u128, b: u128) -> u128
     requires { 0 < b }
     ensures rounds { RoundsHalfUp a b result }
@@ -85,7 +85,7 @@ fn nearest(a: u128, b: u128) -> u128
     if rest >= b - rest { below + 1 } else { below }
 }
 
-/// Returns the integer part and writes the fraction's digits into `tail`.
+/// Writes the digits behind the point of `magnitude / 10^scale` into `tail`, and returns the integer part.
 fn put_places(tail: &mut Tail, magnitude: u128, scale: u8) -> u64
     requires empty { tail.old ≡ [] }
     requires places { scale ≤ 24 }
@@ -133,7 +133,7 @@ impl Decimal {
     ghost use Rattle.gc_values.specs.Decimals.{decimal, fraction, is_within, rounded, zero};
     ghost use Rattle.gc_values.specs.Written.{minus_text};
 
-    /// 0.0.
+    /// The decimal 0.0.
     pub fn zero() -> Decimal
         ensures { result ≡ zero }
     {
@@ -143,7 +143,7 @@ impl Decimal {
         }
     }
 
-    /// The decimal of a value that is known to be one, as `Decimal::literal(15, 1)` for 1.5.
+    /// The decimal `digits / 10^scale`, of which the caller has shown that it is one: `Decimal::literal(15, 1)` is 1.5.
     pub fn literal(digits: i128, scale: u8) -> Decimal
         requires { IsTrue (is_decimal digits scale) }
         ensures { (h : IsTrue (is_decimal digits scale)) → result ≡ decimal digits scale h }
@@ -165,7 +165,7 @@ impl Decimal {
         Decimal::in_range(digits < 0, digits.unsigned_abs(), scale)
     }
 
-    /// The decimal of these parts, unless it passes the bound.
+    /// The decimal of `magnitude / 10^scale` with this sign. It is refused as `Range` where it passes the bound.
     fn in_range(negative: bool, magnitude: u128, scale: u8) -> Result<Decimal, ValueFault>
         requires { scale ≤ 24 }
         ensures made { IfOk result (λ d. MadeOf negative magnitude scale d.digits d.scale) }
@@ -178,7 +178,7 @@ impl Decimal {
         Ok(Decimal::from_parts(negative, magnitude, scale))
     }
 
-    /// The decimal of these parts.
+    /// The decimal of `magnitude / 10^scale` with this sign.
     pub(crate) fn from_parts(negative: bool, magnitude: u128, scale: u8) -> Decimal
         requires places { scale ≤ 24 }
         requires range { magnitude ≤ 10 ^ 13 * 10 ^ scale }
@@ -213,7 +213,7 @@ impl Decimal {
 
     /// The value rounded to at most this many places, half away from zero.
     ///
-    /// This never leaves the range, since the bound is a whole number.
+    /// This never leaves the range, because the bound is a whole number.
     pub fn round(&self, places: u8) -> Decimal
         requires { places ≤ 24 }
         ensures rounding { IsRounded (fraction self.now) places result.digits result.scale }
@@ -270,7 +270,7 @@ impl Decimal {
         with_sign(negative, magnitude * power_of_ten(PLACES - self.scale))
     }
 
-    /// The digits as a sign and a magnitude.
+    /// Whether the value is below zero, and the magnitude of the digits.
     fn parts(&self) -> (bool, u128)
         ensures value { self.now.digits ≡ signed result.0 result.1 }
         ensures magnitude { result.1 ≡ unsigned_abs self.now.digits }

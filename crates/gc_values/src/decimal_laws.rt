@@ -66,7 +66,7 @@ pub fn rounding_is_unique()
         → IsRounded q p e.digits e.scale → d ≡ e }
 {}
 
-/// What the rounded decimal is computed to be is the rounding.
+/// The decimal that `rounded` computes is the rounding of the value.
 pub fn rounded_is_the_rounding()
     ensures { (d : Decimal) (p : ℕ)
         → IsRounded (fraction d) p (rounded d p).digits (rounded d p).scale }
@@ -78,24 +78,25 @@ pub fn order_is_that_of_the_values()
         (IsBelow (fraction a) (fraction b)) (a ≡ b) (IsBelow (fraction b) (fraction a)) }
 {}
 
-/// The test of an area tells whether two values are at most that far apart.
+/// The test of an area says whether two values are at most that far apart.
 pub fn area_test_is_the_distance()
     ensures { (a b area : Decimal)
         → IsTrue (is_within a b area) ↔ IsWithin (fraction a) (fraction b) (fraction area) }
 {}
 
-/// What `==` answers is whether two decimals are equal.
+/// `==` answers whether two decimals are equal.
 pub fn equality_is_that_of_decimals()
     ensures { (a b : Decimal) → IsTrue (decimal_eq a b) ↔ (a ≡ b) }
 {}
 
-/// The test of directions tells whether one is near the other: its vertical angle as face I has it is at most the tolerance away, and so is
-/// its horizontal direction once it was turned by at most two turns.
+/// The test of directions says whether one is near the other: its vertical angle as face I has it is at most the tolerance away, and so is
+/// its horizontal direction once that was turned by at most two turns.
 pub fn near_is_within_the_tolerance()
     ensures { NearIsWithinTheTolerance }
 {}
 
-/// What is near by the definition, and what isn't: on the circle, in face II, by one angle alone, and at the bound.
+/// Examples of directions that the definition calls near, and of some that it doesn't: on the circle, in face II, near by one angle alone,
+/// and at the bound.
 pub fn near_by_example()
     ensures { NearByExample }
 {}

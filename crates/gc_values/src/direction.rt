@@ -1,7 +1,7 @@
 //! Directions of a telescope, and whether one is near another: all arithmetic on directions is here, in whole numbers.
 
 ghost use Rattle.std.specs.Prelude.{◌≡◌, ◌≤◌, ◌*◌, ◌^◌, unsigned_abs};
-ghost use Rattle.gc_values.specs.Directions.{v_of, hz_of, is_apart, is_apart_turned, is_apart_on_circle, is_near, is_up_to, is_place, is_tolerance};
+ghost use Rattle.gc_values.specs.Directions.{v_of, hz_of, is_close, is_close_turned, is_close_on_circle, is_near, is_up_to, is_place, is_tolerance};
 
 use crate::decimal::Decimal;
 
@@ -20,39 +20,39 @@ pub struct Direction {
     pub v: Decimal,
 }
 
-// Whether two numbers are at most so far apart.
-fn is_apart(most: i128, x: i128, y: i128) -> bool
+// Whether x and y are at most `most` apart.
+fn is_close(most: i128, x: i128, y: i128) -> bool
     requires first { unsigned_abs x ≤ 3 * 10 ^ 37 }
     requires second { unsigned_abs y ≤ 10 ^ 37 }
-    ensures { result ≡ is_apart most x y }
+    ensures { result ≡ is_close most x y }
 {
     (x - y).abs() <= most
 }
 
-// The same once the first was turned so many times.
-fn is_apart_turned(most: i128, turns: i128, x: i128, y: i128) -> bool
+// Whether x plus `turns` whole turns and y are at most `most` apart.
+fn is_close_turned(most: i128, turns: i128, x: i128, y: i128) -> bool
     requires few { unsigned_abs turns ≤ 2 }
     requires first { unsigned_abs x ≤ 2 * 10 ^ 37 }
     requires second { unsigned_abs y ≤ 10 ^ 37 }
-    ensures { result ≡ is_apart_turned most turns x y }
+    ensures { result ≡ is_close_turned most turns x y }
 {
-    is_apart(most, x + turns * TURN, y)
+    is_close(most, x + turns * TURN, y)
 }
 
-// The same on the circle: two turns either way are enough.
-fn is_apart_on_circle(most: i128, x: i128, y: i128) -> bool
+// Whether x and y are at most `most` apart on the circle: for some number of turns from -2 to 2, which are enough.
+fn is_close_on_circle(most: i128, x: i128, y: i128) -> bool
     requires first { unsigned_abs x ≤ 2 * 10 ^ 37 }
     requires second { unsigned_abs y ≤ 10 ^ 37 }
-    ensures { result ≡ is_apart_on_circle most x y }
+    ensures { result ≡ is_close_on_circle most x y }
 {
-    is_apart_turned(most, -2, x, y)
-        || is_apart_turned(most, -1, x, y)
-        || is_apart_turned(most, 0, x, y)
-        || is_apart_turned(most, 1, x, y)
-        || is_apart_turned(most, 2, x, y)
+    is_close_turned(most, -2, x, y)
+        || is_close_turned(most, -1, x, y)
+        || is_close_turned(most, 0, x, y)
+        || is_close_turned(most, 1, x, y)
+        || is_close_turned(most, 2, x, y)
 }
 
-// Whether a number is from 0 to this one.
+// Whether x is from 0 to `most`, both included.
 fn is_up_to(most: i128, x: i128) -> bool
     ensures { result ≡ is_up_to most x }
 {
@@ -68,7 +68,7 @@ pub fn is_tolerance(tolerance: &Decimal) -> bool
 }
 
 impl Direction {
-    // The vertical angle in face I.
+    // The vertical angle as face I has it, in units of 10^-24 radians.
     fn v_in_face_one(&self) -> i128
         ensures is { result ≡ v_of self.now }
         ensures bound { unsigned_abs result ≤ 2 * 10 ^ 37 }
@@ -77,7 +77,7 @@ impl Direction {
         if v <= HALF_TURN { v } else { TURN - v }
     }
 
-    // The horizontal direction in face I.
+    // The horizontal direction as face I has it, in units of 10^-24 radians.
     fn hz_in_face_one(&self) -> i128
         ensures is { result ≡ hz_of self.now }
         ensures bound { unsigned_abs result ≤ 2 * 10 ^ 37 }
@@ -90,18 +90,18 @@ impl Direction {
         }
     }
 
-    /// Whether it is near a place, whichever face it was measured in: both of its angles are at most the tolerance away, the horizontal one on
-    /// the circle.
+    /// Whether the direction is near a place, whichever face it was measured in: both of its angles are at most the tolerance away, the
+    /// horizontal one on the circle.
     pub fn is_near(&self, place: &Direction, tolerance: &Decimal) -> bool
         ensures { result ≡ is_near self.now place.now tolerance.now }
     {
         let most = tolerance.units();
-        let v_is_near = is_apart(most, self.v_in_face_one(), place.v.units());
-        let hz_is_near = is_apart_on_circle(most, self.hz_in_face_one(), place.hz.units());
+        let v_is_near = is_close(most, self.v_in_face_one(), place.v.units());
+        let hz_is_near = is_close_on_circle(most, self.hz_in_face_one(), place.hz.units());
         v_is_near && hz_is_near
     }
 
-    /// Whether it is a place as face I has it: the horizontal direction from 0 to a turn, and the vertical angle from 0 to half a turn.
+    /// Whether this is a place as face I has it: the horizontal direction from 0 to a turn, and the vertical angle from 0 to half a turn.
     #[tactic(auto, unfolding(crate::specs::Directions::is_place))]
     pub fn is_place(&self) -> bool
         ensures { result ≡ is_place self.now }

@@ -1,5 +1,5 @@
 //! A number at the front of a list of parameters in the common spelling, read in one pass through its comma: few
-//! digits, and where it is a decimal a point and digits. It finds nothing else; other readers do.
+//! digits, and where it is a decimal a point and digits. Every other number is left to other readers.
 
 ghost use Rattle.std.specs.Prelude.{◌≡◌, ◌+◌, ◌*◌, ◌^◌, ◌≤◌, [], IfSome};
 ghost use Rattle.std.specs.Option.{option_copied};
@@ -30,7 +30,8 @@ fn counted(front: u64, text: &[u8], most: usize) -> (u64, usize)
     (value, text.len())
 }
 
-/// What follows an item: nothing at the end, or the bytes behind a comma.
+/// What follows an item, where `text` is all of the list behind that item: `Some(None)` at the end of the list, and else the bytes
+/// behind a comma. `None`: neither the end nor a comma follows the item.
 #[inline]
 fn behind_item(text: &[u8]) -> Option<Option<&[u8]>>
     ensures { IfSome result (λ rest. Stands text.now [] (option_copied rest)) }
@@ -42,7 +43,7 @@ fn behind_item(text: &[u8]) -> Option<Option<&[u8]>>
     }
 }
 
-/// The decimal at the front, and what follows its comma, if there is one.
+/// The decimal at the front, and what follows its comma, if there is one. `None`: no decimal in the common spelling stands there.
 pub fn front_decimal(text: &[u8]) -> Option<(Decimal, Option<&[u8]>)>
     ensures { IfSome result (λ r. CutsDecimal text.now r.0 (option_copied r.1)) }
 {
@@ -57,7 +58,7 @@ pub fn front_decimal(text: &[u8]) -> Option<(Decimal, Option<&[u8]>)>
     Some((decimal, rest))
 }
 
-/// The whole number at the front, and what follows its comma, if there is one.
+/// The whole number at the front, and what follows its comma, if there is one. `None`: no number of 1 to 18 digits stands there.
 #[inline]
 pub fn front_number(text: &[u8]) -> Option<(u64, Option<&[u8]>)>
     ensures { IfSome result (λ r. CutsNumber text.now r.0 (option_copied r.1)) }

@@ -37,7 +37,7 @@ impl<'a> Items<'a> {
         self.slices.len()
     }
 
-    /// The item at place `k`.
+    /// The item at place `k`, counted from 0.
     pub fn get(&self, k: usize) -> &'a [u8]
         requires { k < length self.now }
         ensures { result.now ≡ slice_index_or self.now k [] }
@@ -46,14 +46,14 @@ impl<'a> Items<'a> {
     }
 }
 
-/// Whether a double quote has no partner.
+/// Whether a double quote has no partner: their number is odd.
 fn has_open_quote(text: &[u8]) -> bool
     ensures { IsTrue result ↔ (quotes text.now % 2 ≡ 1) }
 {
     text.iter().filter(|byte| **byte == b'"').count() % 2 == 1
 }
 
-/// Cuts off what stands before the first comma outside quotes.
+/// The bytes before the first comma outside quotes, and those behind that comma. Without such a comma: all bytes, and `None`.
 fn cut_piece(text: &[u8]) -> (&[u8], Option<&[u8]>)
     ensures { CutsPiece text.now result.0.now (option_copied result.1) }
 {
@@ -70,7 +70,7 @@ fn cut_piece(text: &[u8]) -> (&[u8], Option<&[u8]>)
     (text, None)
 }
 
-/// Takes the spaces off the front.
+/// Returns the text without the spaces at its front.
 fn trim_front(text: &[u8]) -> &[u8]
     ensures { TrimsFront text.now result.now }
 {
@@ -82,7 +82,7 @@ fn trim_front(text: &[u8]) -> &[u8]
     &text[text.len()..]
 }
 
-/// Takes the spaces off the end.
+/// Returns the text without the spaces at its end.
 fn trim_back(text: &[u8]) -> &[u8]
     ensures { TrimsBack text.now result.now }
 {
@@ -93,7 +93,7 @@ fn trim_back(text: &[u8]) -> &[u8]
     &text[..end]
 }
 
-/// Takes the spaces off both ends.
+/// Returns the text without the spaces at its ends.
 fn trim(text: &[u8]) -> &[u8]
     ensures { IsTrimmed text.now result.now }
 {

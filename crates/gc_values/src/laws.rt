@@ -12,7 +12,7 @@ ghost use Rattle.gc_values.specs.declared.fault.ValueFault.{ValueFault};
 ghost use Rattle.gc_values.specs.declared.value.Kind.{Kind};
 ghost use Rattle.gc_values.specs.declared.value.Value.{Value};
 
-/// What is written is read.
+/// A value's written text reads as that value.
 pub fn written_is_read()
     ensures { (v : Value) → IsValue v → IsItem (text v) v }
 {}
@@ -24,13 +24,13 @@ pub fn one_text_has_the_form()
         ↔ (HasWholeForm text × NamesWhole text z) }
 {}
 
-/// An item is one value of a kind.
+/// An item is at most one value of a kind.
 pub fn one_value()
     ensures { (v w : Value) (item : List ℕ) → kind_of v ≡ kind_of w
         → IsItem item v → IsItem item w → v ≡ w }
 {}
 
-/// An item has one fault for a kind.
+/// An item has at most one fault for a kind.
 pub fn one_fault()
     ensures { (k : Kind) (item : List ℕ) (e f : ValueFault)
         → IsItemFault k item e → IsItemFault k item f → e ≡ f }
@@ -42,7 +42,7 @@ pub fn item_has_no_fault()
         → IsItem item v → IsItemFault (kind_of v) item e → ⊥ }
 {}
 
-/// A text is one parameter list.
+/// A text is at most one parameter list.
 pub fn one_list()
     ensures { (bytes : List ℕ) (xs ys : List (List ℕ))
         → IsParams bytes xs → IsParams bytes ys → xs ≡ ys }
@@ -65,7 +65,7 @@ pub fn text_is_short()
     ensures few { (v : Value) → IsValue v → length (text v) ≤ 66 }
 {}
 
-/// What an item is read as lies in its kind's range.
+/// A value that an item is read as lies in its kind's range.
 pub fn item_is_a_value()
     ensures { (v : Value) (item : List ℕ) → IsItem item v → IsValue v }
 {}

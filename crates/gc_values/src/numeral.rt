@@ -6,7 +6,7 @@ ghost use Rattle.gc_values.specs.Spelling.{Parts, IsNumeral, spelling};
 
 use crate::cutting::{cut_digits, cut_fraction, cut_sign, exponent};
 
-/// A number's text, cut into its parts.
+/// A number's text, cut into its parts. The exponent multiplies by ten `up` times and divides by it `down` times.
 #[derive(Clone, Copy)]
 pub struct Numeral<'a> {
     pub negative: bool,
@@ -16,7 +16,7 @@ pub struct Numeral<'a> {
     pub down: u16,
 }
 
-/// Reads a number's text.
+/// Cuts a number's text into its parts. `None`: the text is no number.
 pub fn cut_numeral(text: &[u8]) -> Option<Numeral<'_>>
     ensures found { IfSome result
         (λ n. ReadsNumeral text.now n.negative n.whole.now n.fraction.now n.up n.down) }

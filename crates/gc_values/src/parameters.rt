@@ -1,5 +1,5 @@
-//! Parameters that are asked for one after the other, from the left. Who knows a procedure asks for what it takes,
-//! and learns at the end whether the list was of just these kinds. That a list is refused for its quotes, its
+//! Parameters that are asked for one after the other, from the left. The code of a procedure asks for those that it
+//! takes, and learns at the end whether the list had just these kinds. That a list is refused for its quotes, its
 //! length, its count and its first faulty item, in this order, is this project's own.
 
 ghost use Rattle.std.specs.Prelude.{◌≡◌, ◌∷◌, [], ℕ, List, Some, IfErr, OnOk, MatchOption};
@@ -17,8 +17,8 @@ use crate::items::{Items, split};
 use crate::text::Text;
 use crate::value::{Kind, Value};
 
-/// Parameters that are asked for one after the other, from the left. One that is missing or doesn't read is a zero
-/// of its kind. The next one can be asked for all the same.
+/// Parameters that are asked for one after the other, from the left. Where one is missing or doesn't read, a zero of
+/// its kind is given (false, or an empty string), and the next one can be asked for all the same.
 pub trait Parameters {
     /// The parameters that are left are read as these values, and all went well so far.
     ghost reads: { Self → List Value → Type 0 };
@@ -62,7 +62,7 @@ pub trait Parameters {
 pub struct Listed<'a> {
     // The items, or why there are none.
     items: Result<Items<'a>, ValueFault>,
-    // How many items were asked for, and no more than one past the last.
+    // How many items were asked for; at most one more than there are.
     place: usize,
     // The fault of the first item that didn't read.
     fault: Option<ValueFault>,
@@ -81,7 +81,7 @@ impl<'a> Listed<'a> {
         }
     }
 
-    /// Whether just the parameters that were asked for are there, and each was read.
+    /// `Ok`: just the parameters that were asked for are there, and each was read.
     ///
     /// The faults come in this order: an odd number of double quotes, more than 16 items, another number of items
     /// than were asked for, and the fault of the first item from the left that isn't a value of its kind.
@@ -103,7 +103,7 @@ impl<'a> Listed<'a> {
         }
     }
 
-    /// The next item as a value of the kind, if there is one and it reads.
+    /// The next item as a value of the kind. `None`: there is no next item, or it doesn't read, and its fault is noted if it is the first.
     fn take(&mut self, kind: Kind) -> Option<Value>
         ensures reads { (vs : List Value) → ReadsFrom self.new.items self.new.place self.new.fault vs
             → MatchOption result ⊥ (λ v. (kind_of v ≡ kind) × ReadsFrom self.old.items self.old.place self.old.fault (v ∷ vs)) }

@@ -30,7 +30,7 @@ const POWERS: [u128; 25] = [
     1_000_000_000_000_000_000_000_000,
 ];
 
-/// Ten to a number of places.
+/// Ten to the power of `places`.
 #[inline]
 pub fn power_of_ten(places: u8) -> u128
     requires { places ≤ 24 }

@@ -23,6 +23,7 @@ use crate::whole::{read_bool, read_long, read_short};
 pub struct Quick<'a> {
     // What is left behind a comma, or nothing behind the end.
     rest: Option<&'a [u8]>,
+    // Whether all that was asked for so far was there and was read.
     good: bool,
 }
 
@@ -52,7 +53,7 @@ impl<'a> Quick<'a> {
         self.good && self.rest.is_none()
     }
 
-    // The next item. Where there is none in the common spelling, it is any bytes, and the list isn't good.
+    // The next item. Where there is none in the common spelling, it has no bytes, and the list isn't good.
     #[inline]
     fn item(&mut self) -> &'a [u8]
         ensures { (v : Value) (vs : List Value) → ReadsPlainly self.new.good (option_copied self.new.rest) vs → IsItem result.now v
@@ -68,7 +69,7 @@ impl<'a> Quick<'a> {
         &[]
     }
 
-    // The next whole number, if it has few digits and no sign. Else it is left where it is.
+    // The next whole number, if it has at most 18 digits and no sign. `None`: nothing was taken.
     #[inline]
     fn number(&mut self) -> Option<u64>
         ensures reads { IfSome result (λ n. (v : Value) (vs : List Value) → ((item : List ℕ) → NamesWhole item (pos n) → IsItem item v)
@@ -84,7 +85,7 @@ impl<'a> Quick<'a> {
         None
     }
 
-    // The next decimal, with a sign, an exponent or many digits.
+    // The next decimal, which may have a minus, an exponent or many digits. Where none reads: zero, and the list isn't good.
     #[inline(never)]
     fn longer_double(&mut self) -> Decimal
         ensures { (vs : List Value) → ReadsPlainly self.new.good (option_copied self.new.rest) vs
@@ -99,7 +100,7 @@ impl<'a> Quick<'a> {
         }
     }
 
-    // The next whole number of 32 bits, with a sign or many digits.
+    // The next whole number of 32 bits, which may have a minus or many digits. Where none reads: 0, and the list isn't good.
     #[inline(never)]
     fn longer_long(&mut self) -> i32
         ensures { (vs : List Value) → ReadsPlainly self.new.good (option_copied self.new.rest) vs
@@ -114,7 +115,7 @@ impl<'a> Quick<'a> {
         }
     }
 
-    // The next whole number of 16 bits, with a sign or many digits.
+    // The next whole number of 16 bits, which may have a minus or many digits. Where none reads: 0, and the list isn't good.
     #[inline(never)]
     fn longer_short(&mut self) -> i16
         ensures { (vs : List Value) → ReadsPlainly self.new.good (option_copied self.new.rest) vs
@@ -129,7 +130,7 @@ impl<'a> Quick<'a> {
         }
     }
 
-    // The next Boolean, with a sign or many digits.
+    // The next Boolean, which may have a minus or many digits. Where none reads: false, and the list isn't good.
     #[inline(never)]
     fn longer_boolean(&mut self) -> bool
         ensures { (vs : List Value) → ReadsPlainly self.new.good (option_copied self.new.rest) vs
@@ -223,7 +224,7 @@ impl<'a> Parameters for Quick<'a> {
     }
 }
 
-// Cuts off an item in the common spelling, and what follows its comma, if there is one.
+// The item at the front in the common spelling, and what follows its comma, if there is one. `None`: none stands there.
 #[inline]
 fn cut_plain(text: &[u8]) -> Option<(&[u8], Option<&[u8]>)>
     ensures { IfSome result (λ cut. CutsPlain text.now cut.0.now (option_copied cut.1)) }

@@ -1,5 +1,5 @@
 //! The end of a text, which grows at its front: numbers are written from their last digit to their first. The digits
-//! are made in 64 bits, since a division of 128 bits is slow.
+//! are made in 64 bits, because a division of 128 bits is slow.
 
 ghost use Rattle.std.specs.Prelude.{◌≡◌, ◌+◌, ◌^◌, ◌/◌, ◌<◌, ◌≤◌, ◌++◌, ◌∷◌, [], length};
 ghost use Rattle.gc_values.specs.Written.{whole_text, last_digits};
@@ -27,7 +27,7 @@ impl Model for Tail {
 }
 
 impl Tail {
-    /// The end before its first byte.
+    /// An end that has no byte yet.
     #[inline]
     pub fn new() -> Tail
         ensures { result ≡ [] }
@@ -48,7 +48,7 @@ impl Tail {
         self.bytes[self.start] = byte;
     }
 
-    /// Writes the last `count` digits of a number in front, and returns the number without them.
+    /// Puts the last `count` digits of a number in front, and returns the number without them.
     #[inline]
     pub fn put_last(&mut self, n: u64, count: u8) -> u64
         requires { length self.old + count ≤ 40 }
@@ -100,7 +100,7 @@ impl Tail {
         self.put_last(front as u64, count - 12);
     }
 
-    /// The bytes.
+    /// The bytes put so far, in the order of the text.
     #[inline]
     pub fn as_bytes(&self) -> &[u8]
         ensures value { result.now ≡ self.now }

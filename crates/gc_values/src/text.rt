@@ -56,7 +56,7 @@ fn are_string_bytes(bytes: &[u8]) -> bool
     true
 }
 
-/// The bytes, and zeros behind them.
+/// The bytes, and zeros behind them up to 64.
 fn filled_up(bytes: &[u8]) -> [u8; TEXT_BYTES]
     requires { length bytes.now ≤ 64 }
     ensures { result ≡ bytes.now ++ replicate (64 - length bytes.now) 0 }
@@ -108,7 +108,7 @@ impl Text {
     }
 }
 
-/// What stands between two double quotes.
+/// The bytes between two double quotes. `None`: the item doesn't begin with a double quote and end with another.
 fn between_quotes(item: &[u8]) -> Option<&[u8]>
     ensures found { IfSome result (λ bytes. item.now ≡ quoted bytes.now) }
     ensures none { IfNone result ((bytes : List ℕ) → item.now ≡ quoted bytes → ⊥) }

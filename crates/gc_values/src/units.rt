@@ -8,13 +8,13 @@ ghost use Rattle.gc_values.specs.Nearest.{IsCapped};
 
 use crate::limits::PLACES;
 
-/// One more than a decimal's greatest number of units of the last place: where a number stops to grow.
+/// One more than a decimal's greatest number of units of the last place. Every greater number is taken for this one.
 const CAP: u128 = 10_000_000_000_000_000_000_000_000_000_000_000_001;
 
 /// Any number of this many digits fits in 64 bits.
 const SHORT: usize = 18;
 
-/// The digit at a place of both runs in a row, and 0 behind the last one.
+/// The digit at a place of both runs of digits in a row, and 0 behind the last one.
 #[tactic(auto, using(crate::proofs::Kept::at_first, crate::proofs::Kept::at_second, crate::proofs::Kept::at_neither, crate::proofs::Kept::is_digit))]
 fn digit_at(whole: &[u8], fraction: &[u8], place: usize) -> u8
     requires whole { AreDigits whole.now }
@@ -31,7 +31,7 @@ fn digit_at(whole: &[u8], fraction: &[u8], place: usize) -> u8
     }
 }
 
-/// The number that the first `count` digits write.
+/// The number that the first `count` digits of both runs in a row write, with zeros for those behind the last one; at most the cap.
 fn kept_digits(whole: &[u8], fraction: &[u8], count: usize) -> u128
     requires whole { AreDigits whole.now }
     requires fraction { AreDigits fraction.now }
@@ -45,7 +45,7 @@ fn kept_digits(whole: &[u8], fraction: &[u8], count: usize) -> u128
     kept
 }
 
-/// The number that the first `count` digits write, with the next digit rounded in.
+/// What `kept_digits` gives, with the digit behind those rounded in: 1 more where that digit is 5 or above. At most the cap.
 fn rounded(whole: &[u8], fraction: &[u8], count: usize) -> u128
     requires whole { AreDigits whole.now }
     requires fraction { AreDigits fraction.now }
@@ -59,7 +59,7 @@ fn rounded(whole: &[u8], fraction: &[u8], count: usize) -> u128
     }
 }
 
-/// A number with zeros behind it, at most the cap.
+/// The number `kept` with `zeros` zeros behind it, at most the cap.
 fn with_zeros(kept: u128, zeros: usize) -> u128
     ensures { result ≡ min CAP (kept * 10 ^ zeros) }
 {
@@ -67,7 +67,7 @@ fn with_zeros(kept: u128, zeros: usize) -> u128
     kept.saturating_mul(power).min(CAP)
 }
 
-/// The number of `front` with these digits behind it, in 64 bits.
+/// The number that the digits of `front` and these behind them write, in 64 bits.
 fn followed_by(front: u64, digits: &[u8]) -> u64
     requires digits { AreDigits digits.now }
     requires small { (front + 1) * 10 ^ length digits.now ≤ 10 ^ 18 }
@@ -80,7 +80,7 @@ fn followed_by(front: u64, digits: &[u8]) -> u64
     value
 }
 
-/// The number that few digits write.
+/// The number that both runs in a row write, which have at most 18 digits together.
 fn short_number(whole: &[u8], fraction: &[u8]) -> u64
     requires whole { AreDigits whole.now }
     requires fraction { AreDigits fraction.now }
@@ -90,10 +90,9 @@ fn short_number(whole: &[u8], fraction: &[u8]) -> u64
     followed_by(followed_by(0, whole), fraction)
 }
 
-/// The number's value as a whole number over a power of ten: the digits in front of the point, and as many
-/// behind it as the last place and the exponent leave. No zero is appended that the value doesn't need, so
-/// this takes as many steps as there are digits, whatever the exponent is. At most 18 digits without an exponent are
-/// read in 64 bits.
+/// The value of the digits with a point between both runs, times 10^`up` and over 10^`down`, rounded to 24 places: as a whole
+/// number, at most the cap, and how many of its digits are places. No zero is appended that the value doesn't need, so this
+/// takes as many steps as there are digits, whatever the exponent is. At most 18 digits without an exponent are read in 64 bits.
 pub fn units(whole: &[u8], fraction: &[u8], up: u16, down: u16) -> (u128, u8)
     requires whole { AreDigits whole.now }
     requires fraction { AreDigits fraction.now }

@@ -71,7 +71,8 @@ impl Value {
         }
     }
 
-    /// Reads a double, with the faults of the table.
+    /// Reads an item as a decimal. It is refused as `Spelling` where it isn't a number's text, and as `Range` where its value is
+    /// out of a decimal's range.
     fn read_double(item: &[u8]) -> Result<Decimal, ValueFault>
         ensures value { IfOk result (λ d. Spells item.now d.digits d.scale) }
         ensures only { (d : Decimal) → Spells item.now d.digits d.scale → result ≡ Ok d }

@@ -122,7 +122,7 @@ pub fn push_bool<const N: usize>(out: &mut ArrayVec<u8, N>, v: bool)
     out.push(if v { b'1' } else { b'0' });
 }
 
-/// Writes a Long.
+/// Writes a Long: a minus where it is below zero, and digits without leading zeros.
 pub fn write_long(v: i32) -> ArrayVec<u8, 11>
     ensures text { result.items ≡ signed_text v }
     ensures reads_back { NamesWhole result.items v }
@@ -132,7 +132,7 @@ pub fn write_long(v: i32) -> ArrayVec<u8, 11>
     out
 }
 
-/// Writes a Short.
+/// Writes a Short: a minus where it is below zero, and digits without leading zeros.
 pub fn write_short(v: i16) -> ArrayVec<u8, 6>
     ensures text { result.items ≡ signed_text v }
     ensures reads_back { NamesWhole result.items v }

@@ -1,4 +1,4 @@
--- What a station is told, where its rows go into a file, and once its run begins: this project's own.
+-- The settings of a station whose rows go into a file, and of one whose run begins: this project's own.
 use Rattle.std.specs.Prelude.{ℕ, true}
 use Rattle.gc_rows.specs.declared.record.Form.{Form}
 use Rattle.gc_rows.specs.declared.record.Form.TheVariants.{Lines, Csv, Columns, Json}
@@ -11,7 +11,7 @@ form_of_rows Csv = Csv
 form_of_rows Columns = Columns
 form_of_rows Json = Json
 
--- a station whose rows stand behind those of a file
+-- a station with its records as rows of a file, in `form_of_rows`, and without a header, which the file has already
 abbrev pub appended : Station → Station
 appended station = record station { layout = record station.layout { form = form_of_rows station.layout.form; headed = true } }
 

@@ -40,7 +40,7 @@ pub const FLAG: Argument<'static> = Argument {
     help: "",
 };
 
-/// The place of an instrument.
+/// The argument that names the place of an instrument.
 pub const PLACE: Argument<'static> = Argument {
     name: "where",
     takes: Takes::Positional,
@@ -49,7 +49,7 @@ pub const PLACE: Argument<'static> = Argument {
     ..FLAG
 };
 
-/// The place that the words name.
+/// The place that the words name. `None`: they name none.
 pub fn named_place<'a>(words: &ArgMatches<'a>) -> Option<Place<'a>> {
     match words.get_str("where") {
         Some(word) => place_of(word),
@@ -57,7 +57,7 @@ pub fn named_place<'a>(words: &ArgMatches<'a>) -> Option<Place<'a>> {
     }
 }
 
-/// The file of a scene.
+/// The option that names the file of a scene.
 pub const SCENE: Argument<'static> = Argument {
     name: "scene",
     takes: Takes::Text,
@@ -67,7 +67,7 @@ pub const SCENE: Argument<'static> = Argument {
 };
 
 /// A subcommand with the arguments of a table.
-// They are made first: the proof of a `Command` that is alive across a `?` costs much.
+// The arguments are made first: the proof of a `Command` that is alive across a `?` costs much.
 pub fn command_of<'a>(
     alloc: Global,
     name: &'a str,
@@ -107,8 +107,8 @@ fn positional_of<'a>(alloc: Global, row: &Argument<'a>) -> Arg<'a> {
         .help(row.help)
 }
 
-// An argument with two hyphens in front. There is no branch, since a branch on a live builder makes its proof dear: an empty list adds
-// nothing.
+// An argument with two hyphens in front. There is no branch, because a branch on a live builder makes the proof costly: an
+// empty list adds nothing.
 fn option_of<'a>(alloc: Global, row: &Argument<'a>) -> Result<Arg<'a>, AllocError> {
     Arg::new(alloc, row.name)
         .long(row.name)
@@ -121,7 +121,7 @@ fn option_of<'a>(alloc: Global, row: &Argument<'a>) -> Result<Arg<'a>, AllocErro
         .conflicts_with_all(row.excludes)
 }
 
-// Whether an option only is there or not, or has a value.
+// How clap takes an option: as a flag, or with a value.
 fn action_of(takes: Takes) -> ArgAction {
     match takes {
         Takes::Nothing => ArgAction::SetTrue,

@@ -9,7 +9,7 @@ use clap::{ArgMatches, Command};
 use gc_rows::Form;
 use std::alloc::{AllocError, Global};
 
-// Its options. A default stands in its row alone: clap fills it in.
+// The options of `station`. A default stands in its row alone: clap fills it in.
 // The place comes first, which is no option.
 const OPTIONS: &[Argument<'static>] = &[
     PLACE,
@@ -110,7 +110,7 @@ const OPTIONS: &[Argument<'static>] = &[
     LOG_BYTES,
 ];
 
-/// The words of `station`.
+/// The subcommand `station` for clap: its help and its arguments.
 pub fn station_command<'a>(alloc: Global, name: &'a str) -> Result<Command<'a>, AllocError> {
     command_of(
         alloc,
@@ -121,10 +121,10 @@ pub fn station_command<'a>(alloc: Global, name: &'a str) -> Result<Command<'a>, 
     )
 }
 
-/// Who watches a station while it measures, and so which signs of life it tells.
+/// Who watches a station while it measures, and so which signs of life it prints.
 #[derive(Clone, Copy, Debug, PartialEq, Eq)]
 pub enum Watch {
-    /// Nobody: it tells none.
+    /// Nobody: it prints none.
     Nobody,
     /// Somebody who reads lines: at most one a minute of each kind.
     Lines,
@@ -179,7 +179,7 @@ pub fn station_of(matches: &ArgMatches) -> Option<Station> {
     })
 }
 
-// How records are written.
+// The form of records that the options ask for; without one, lines.
 fn form_of(matches: &ArgMatches) -> Form {
     if matches.get_flag("json") {
         Form::Json
@@ -192,7 +192,7 @@ fn form_of(matches: &ArgMatches) -> Form {
     }
 }
 
-// How many times in a row it connects anew: 0 stands for no end.
+// How many times in a row the station connects anew: the chosen number, or the greatest `u32` for 0, which stands for no end.
 fn retries_of(chosen: u32) -> u32 {
     match chosen {
         0 => u32::MAX,
@@ -200,7 +200,7 @@ fn retries_of(chosen: u32) -> u32 {
     }
 }
 
-// How many cycles are measured: 0 stands for no end.
+// How many cycles are measured: the chosen number, or the greatest `u64` for 0, which stands for no end.
 fn cycles_of(chosen: u64) -> u64 {
     match chosen {
         0 => u64::MAX,

@@ -11,7 +11,7 @@ pub struct Site<'a> {
     pub log: Option<LogPlace<'a>>,
 }
 
-/// The bound of a log.
+/// The option that bounds a log.
 pub(crate) const LOG_BYTES: Argument<'static> = Argument {
     name: "log-bytes",
     takes: Takes::Unsigned(1000, u64::MAX),
@@ -28,7 +28,7 @@ pub struct LogPlace<'a> {
     pub most: u64,
 }
 
-/// What the words of `station` say of its log.
+/// The log that the words of `station` ask for, if they ask for one.
 pub fn log_of<'a>(words: &ArgMatches<'a>) -> Option<LogPlace<'a>> {
     match words.get_str("log") {
         Some(path) => Some(LogPlace {
@@ -46,7 +46,7 @@ pub struct Recording<'a> {
     pub sync: bool,
 }
 
-/// What the words of `station` say of its records' file.
+/// The file of records that the words of `station` ask for, if they ask for one.
 pub fn recording_of<'a>(words: &ArgMatches<'a>) -> Option<Recording<'a>> {
     match words.get_str("append") {
         Some(path) => Some(Recording {

@@ -1,4 +1,4 @@
-//! What a station is told.
+//! The settings of a station.
 
 ghost use Rattle.std.specs.Prelude.{◌≡◌};
 ghost use Rattle.gc_words.specs.Stations.{form_of_rows, appended, begun_at};
@@ -8,7 +8,7 @@ use crate::layout::Layout;
 use gc_links::Moment;
 use gc_rows::Form;
 
-/// What a station is told, but where: how its records are laid out, and what an operator chose.
+/// The settings of a station, apart from its place: how its records are laid out, and what an operator chose.
 #[derive(Clone, Copy, Debug, PartialEq, Eq)]
 pub struct Station {
     pub layout: Layout,
@@ -16,8 +16,8 @@ pub struct Station {
 }
 
 impl Station {
-    /// This station; if its messages go to a terminal, it has a status line there below its signs of life, unless it gives
-    /// none.
+    /// This station, with a status line below its signs of life where its messages go to a terminal, unless it gives no signs of
+    /// life.
     pub fn watched(self, at_terminal: bool) -> Station {
         let mut station = self;
         if at_terminal && self.choice.watch == Watch::Lines {
@@ -37,7 +37,7 @@ impl Station {
         }
     }
 
-    /// This station with rows that are appended to a file, behind those that it holds.
+    /// This station with its records as rows of a file, in `form_of_rows`, and without a header, which the file has already.
     pub fn appended(self) -> Station
         ensures { result ≡ appended self }
     {

@@ -16,16 +16,19 @@ use Rattle.gc_world.proofs.Handed.{cut_long}
 abbrev behind : ℕ → Cut → Cut
 behind k c = record { lines = k + c.lines; gone = c.gone }
 
+-- no further line in front of a cut is the cut
 behind_none : (c : Cut) → behind 0 c ≡ c
 behind_none c = let e : 0 + c.lines ≡ c.lines = omega arith in ap (λ k. record { lines = k; gone = c.gone }) e
 
+-- one more line in front of k others is k + 1 in front
 behind_one : (k : ℕ) (c : Cut) → one_more (behind k c) ≡ behind (suc k) c
 behind_one k c = let e : suc (k + c.lines) ≡ suc k + c.lines = omega arith in ap (λ n. record { lines = n; gone = c.gone }) e
 
--- the cut of more bytes is the cut of those behind the lines that the first ones completed
+-- the cut of n further bytes behind a cut of the lines
 abbrev again : List (List ℕ) → ℕ → Cut → Cut
 again lines n c = behind c.lines (cut (drop c.lines lines) (c.gone + n))
 
+-- the cut of more bytes is the cut of the further ones behind that of the first ones
 cut_add : (lines : List (List ℕ)) (m n : ℕ) → cut lines (m + n) ≡ again lines n (cut lines m)
 cut_add [] m n = sym (behind_none (record { lines = 0; gone = 0 }))
 cut_add (line ∷ lines) m n = by_size (ltb m (length line)) refl (cut_add lines (m - length line) n)
@@ -51,50 +54,57 @@ cut_all (line ∷ lines) n e = by_size (ltb n (length line)) (cut_all lines (n -
     by_size true rest e = cc
     by_size false rest e = rest e
 
--- where all lines are cut off, further bytes change nothing
+-- where the first m bytes complete all lines, further bytes change nothing of the cut
 cut_end : (lines : List (List ℕ)) (m n : ℕ) → drop (cut lines m).lines lines ≡ [] → cut lines (m + n) ≡ cut lines m
 cut_end lines m n e =
     let c = cut lines m in
     let same : c.lines + 0 ≡ c.lines = omega arith in
     cut_add lines m n ∙ ap (λ q. behind c.lines (cut q (c.gone + n))) e ∙ ap₂ (λ k g. record { lines = k; gone = g }) same (sym (cut_all lines m e))
 
+-- k + l times a step are k times and l times
 replicate_add : (k l : ℕ) (step : Step) → replicate (k + l) step ≡ replicate k step ++ replicate l step
 replicate_add zero l step = let e : 0 + l ≡ l = omega arith in ap (λ n. replicate n step) e
 replicate_add (suc k) l step = let e : suc k + l ≡ suc (k + l) = omega arith in ap (λ n. replicate n step) e ∙ ap (λ s. step ∷ s) (replicate_add k l step)
 
+-- of the empty list nothing is left
 drop_none : {A : Type 0} (k : ℕ) (xs : List A) → xs ≡ [] → drop k xs ≡ []
 drop_none zero xs e = e
 drop_none (suc k) [] e = refl
 drop_none (suc k) (x ∷ xs) e = cc
 
+-- without one element and without k more is without k + 1
 drop_one : {A : Type 0} (k : ℕ) (xs : List A) → drop k (drop 1 xs) ≡ drop (suc k) xs
 drop_one k [] = drop_none k [] refl
 drop_one k (x ∷ xs) = refl
 
+-- a function over what is left is what is left of the function over all
 drop_map : {A B : Type 0} (f : A → B) (k : ℕ) (xs : List A) → map f (drop k xs) ≡ drop k (map f xs)
 drop_map f zero xs = refl
 drop_map f (suc k) [] = refl
 drop_map f (suc k) (x ∷ xs) = drop_map f k xs
 
 module _ {Client State : Type 0} (ends : Ends State) (rule : Rule Client) (d : Direction) where
+  -- delivering k lines of a direction leaves the texts behind them
   texts_left : (k : ℕ) (w : World Client State) → texts d (run ends rule (replicate k (deliver d)) w).wire ≡ drop k (texts d w.wire)
   texts_left zero w = refl
   texts_left (suc k) w = texts_left k (happens ends rule w (deliver d)) ∙ ap (drop k) (one_less ends rule d w) ∙ drop_one k (texts d w.wire)
 
+  -- delivering k lines of a direction leaves the lines behind them
   left : (k : ℕ) (w : World Client State) → lines d (run ends rule (replicate k (deliver d)) w).wire ≡ drop k (lines d w.wire)
   left k w = ap (map with_end) (texts_left k w) ∙ drop_map with_end k (texts d w.wire)
 
-  -- the bytes of lines that are under way
+  -- where a line is under way, n + 1 bytes lead to the cut of the lines at these bytes
   some_pass : (v : Streams Client State) (n : ℕ) (q : List (List ℕ)) → 0 < length q → passing ends rule d v q (n + 1) ≡ to ends rule d v (cut q (gone d v + (n + 1)))
   some_pass v n [] some = absurd (omega (arith, some))
   some_pass v n (line ∷ q) some =
       let next : n + 1 ≡ suc n = omega arith in
       ap (passing ends rule d v (line ∷ q)) next ∙ ap (λ k. to ends rule d v (cut (line ∷ q) (gone d v + k))) (sym next)
 
+  -- where a line is under way, an event of n + 1 bytes leads to the cut of the lines at these bytes
   some_bytes : (v : Streams Client State) (n : ℕ) → 0 < length (lines d v.world.wire) → flows ends rule v (bytes d (n + 1)) ≡ to ends rule d v (cut (lines d v.world.wire) (gone d v + (n + 1)))
   some_bytes v n some = bytes_pass ends rule d v (n + 1) ∙ some_pass v n (lines d v.world.wire) some
 
-  -- more lines behind some
+  -- going to a cut with more lines in front is going to those lines, and then to the cut
   to_behind : (v : Streams Client State) (b : Cut) (c : Cut) → to ends rule d v (behind b.lines c) ≡ to ends rule d (to ends rule d v b) c
   to_behind v b c =
       let w = run ends rule (replicate b.lines (deliver d)) v.world in
@@ -102,13 +112,14 @@ module _ {Client State : Type 0} (ends : Ends State) (rule : Rule Client) (d : D
       ∙ run_append ends rule (replicate b.lines (deliver d)) (replicate c.lines (deliver d)) v.world)
       ∙ sym (reaches_again d v w b.gone (run ends rule (replicate c.lines (deliver d)) w) c.gone)
 
-  -- what is under way behind bytes, also where they aren't possible
+  -- where bytes leave lines under way, there were lines under way
   rest : (v : Streams Client State) (n : ℕ) (q : List (List ℕ)) → lines d v.world.wire ≡ q → 0 < length (lines d (passing ends rule d v q n).world.wire) → 0 < length q
   rest v n [] e some =
       let same : lines d (idle v.world.wire) ≡ [] = ap (map with_end) (idle_leaves d v.world.wire) ∙ e in
       absurd (omega (arith, some, ap length same))
   rest v n (line ∷ q) e some = omega arith
 
+  -- bytes in one event leave what they leave in two, where a line is under way between the two
   pub adds : (v : Streams Client State) (m n : ℕ) → 0 < length (lines d (flows ends rule v (bytes d (m + 1))).world.wire)
       → flows ends rule v (bytes d (m + 1 + (n + 1))) ≡ flows ends rule (flows ends rule v (bytes d (m + 1))) (bytes d (n + 1))
   adds v m n some =
@@ -129,7 +140,7 @@ module _ {Client State : Type 0} (ends : Ends State) (rule : Rule Client) (d : D
       ∙ sym (some_bytes u n under_u)
       ∙ ap (λ x. flows ends rule x (bytes d (n + 1))) (sym first)
 
-  -- where none are under way any more, all went over
+  -- where bytes leave no line under way, further bytes of these lines change nothing
   stops : (v : Streams Client State) (m n : ℕ) (q : List (List ℕ)) → lines d v.world.wire ≡ q → lines d (flows ends rule v (bytes d (m + 1))).world.wire ≡ []
       → flows ends rule v (bytes d (m + 1 + n)) ≡ flows ends rule v (bytes d (m + 1))
   stops v m n [] e none =
@@ -146,5 +157,6 @@ module _ {Client State : Type 0} (ends : Ends State) (rule : Rule Client) (d : D
       ap (λ k. flows ends rule v (bytes d k)) sum ∙ some_bytes v (m + n) under ∙ ap (λ k. to ends rule d v (cut all k)) total
       ∙ ap (to ends rule d v) (cut_end all (gone d v + (m + 1)) n done) ∙ sym first
 
+  -- where bytes leave no line under way, further bytes in the same event change nothing
   pub stays : (v : Streams Client State) (m n : ℕ) → lines d (flows ends rule v (bytes d (m + 1))).world.wire ≡ [] → flows ends rule v (bytes d (m + 1 + n)) ≡ flows ends rule v (bytes d (m + 1))
   stays v m n none = stops v m n (lines d v.world.wire) refl none

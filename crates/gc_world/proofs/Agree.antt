@@ -15,16 +15,17 @@ use Rattle.gc_world.specs.Order.{Each, Rising, numbers, under_way, IsOrderly}
 use Rattle.gc_world.proofs.Ids.{place_within, place_before}
 use Rattle.gc_world.proofs.Sound.{IsComing, Sound, length_expired, all_sent, sound_step, sound_all, sound_open}
 
--- the two clients stand for the same
+-- the two clients are alike: they have the same next id, and the same requests wait
 pub record Alike (a : ById) (b : ByNumber) : Type 0 where
   pub window : a.waiting ≡ drop b.count b.requests
   pub next : a.next ≡ (length b.requests - b.since) % 8
 
--- the two clients did the same
+-- two sends gave one id, and left clients that are alike
 pub record SameSending (a : Sending ById) (b : Sending ByNumber) : Type 0 where
   pub id : a.id ≡ b.id
   pub client : Alike a.client b.client
 
+-- two sends were both refused, or both gave one id and clients that are alike
 abbrev SameSend : Option (Sending ById) → Option (Sending ByNumber) → Type 0
 SameSend None None = Unit {0}
 SameSend (Some x) (Some y) = SameSending x y
@@ -36,9 +37,11 @@ pub record SameSettled (a : Settled ById) (b : Settled ByNumber) : Type 0 where
   pub settlements : a.settlements ≡ b.settlements
   pub client : Alike a.client b.client
 
+-- of clients that are alike the one has as many requests that wait as the other
 waiting_count : (a : ById) (b : ByNumber) → Alike a b → length a.waiting ≡ length b.requests - b.count
 waiting_count a b h = ap length h.window ∙ length-drop b.count b.requests
 
+-- clients that are alike both refuse a send, or both send it with one id and are alike then
 same_send : (a : ById) (b : ByNumber) (target : ℕ) (call : Call) (deadline : ℕ) (full : Bool) → b.since ≤ b.count → b.count ≤ length b.requests → Alike a b
     → SameSend (id_send a target call deadline full) (number_send b target call deadline full)
 same_send a b target call deadline true h1 h2 h = tt
@@ -52,17 +55,19 @@ same_send a b target call deadline false h1 h2 h =
       };
     }
 
+-- a moment that the waiting requests get changes those that wait behind the count, and no others
 drop_expired : (now k : ℕ) (ps : List Pending) → map (expired now) (drop k ps) ≡ drop k (take k ps ++ map (expired now) (drop k ps))
 drop_expired now zero ps = refl
 drop_expired now (suc k) [] = refl
 drop_expired now (suc k) (p ∷ ps) = drop_expired now k ps
 
 module _ {State : Type 0} (width : ℕ) (narrow : width ≤ 7) (ends : Ends State) (Good : State → Type 0) where
-  -- the two worlds have the same wire, and clients that stand for the same
+  -- the two worlds have the same wire, and clients that are alike
   pub record Agree (a : World ById State) (b : World ByNumber State) : Type 0 where
     pub wire : a.wire ≡ b.wire
     pub client : Alike a.client b.client
 
+  -- a reply under way settles the same for both clients
   same_reply : (a : ById) (b : ByNumber) (x : Numbered (List ℕ)) (old : Bool) → ltb x.number b.count ≡ old → b.since ≤ b.count → b.count ≤ length b.requests
       → length b.requests ≤ b.count + width → b.count ≤ x.number + 1 → IsComing width ends Good b.since (length b.requests) x → Alike a b
       → SameSettled (hears a x.line (Some ((x.number - b.since) % 8))) (number_reply b x old)
@@ -94,6 +99,7 @@ module _ {State : Type 0} (width : ℕ) (narrow : width ≤ 7) (ends : Ends Stat
         };
       }))
 
+  -- worlds that agree do so, too, after both clients refused a send, or sent it with one id
   same_requested : (a : World ById State) (b : World ByNumber State) (target : ℕ) (call : Call) (o : Option (Sending ById)) (o' : Option (Sending ByNumber))
       → SameSend o o' → Agree a b → Agree (requested a target call o) (requested b target call o')
   same_requested a b target call None None s h = record { wire = ap (λ (w : Wire State). record w { refused = w.refused + 1 }) h.wire; client = h.client }
@@ -109,10 +115,12 @@ module _ {State : Type 0} (width : ℕ) (narrow : width ≤ 7) (ends : Ends Stat
   same_requested a b target call None (Some y) s h = absurd s
   same_requested a b target call (Some x) None s h = absurd s
 
+  -- on one wire, once both clients settled the same and are alike, the worlds agree
   same_booked : (v w : Wire State) (x : Settled ById) (y : Settled ByNumber) → v ≡ w → SameSettled x y → Agree (with_settled v x) (with_settled w y)
   same_booked v w x y e s =
       record { wire = ap₂ (λ (u : Wire State) (l : List _). record u { settled = u.settled ++ l }) e s.settlements; client = s.client }
 
+  -- delivering the reply in front keeps worlds in agreement
   agree_down : (a : World ById State) (b : World ByNumber State) (q : List (Numbered (List ℕ))) → b.wire.down ≡ q → Sound width ends Good b → Agree a b
       → Agree (down_delivered (by_ids width ends) a q) (down_delivered (by_numbers width) b q)
   agree_down a b [] e s h = record { wire = ap idle h.wire; client = h.client }
@@ -124,6 +132,7 @@ module _ {State : Type 0} (width : ℕ) (narrow : width ≤ 7) (ends : Ends Stat
       (subst (λ o. SameSettled (hears a.client x.line o) (number_reply c x (ltb x.number c.count))) (sym coming.id)
       (same_reply a.client c x (ltb x.number c.count) refl s.begun s.within s.few order coming h.client))
 
+  -- a moment keeps clients alike
   agree_expire : (now : ℕ) (a : ById) (b : ByNumber) → Alike a b → Alike ((by_ids width ends).expire a now) ((by_numbers width).expire b now)
   agree_expire now a b h =
       record {
@@ -131,6 +140,7 @@ module _ {State : Type 0} (width : ℕ) (narrow : width ≤ 7) (ends : Ends Stat
         next = h.next ∙ ap (λ n. (n - b.since) % 8) (sym (length_expired now b.count b.requests));
       }
 
+  -- a restart settles the same for both clients
   agree_lost : (a : ById) (b : ByNumber) → Alike a b → SameSettled ((by_ids width ends).restart a) ((by_numbers width).restart b)
   agree_lost a b h =
       record {
@@ -138,16 +148,18 @@ module _ {State : Type 0} (width : ℕ) (narrow : width ≤ 7) (ends : Ends Stat
         client = record { window = sym (drop_all (length b.requests) b.requests (omega arith)); next = omega arith };
       }
 
+  -- a restart of the client keeps worlds in agreement
   agree_restart_client : (a : World ById State) (b : World ByNumber State) (up : List (Numbered Request)) (down : List (Numbered (List ℕ))) → Agree a b
       → Agree (client_restarted ends (by_ids width ends) a up down) (client_restarted ends (by_numbers width) b up down)
   agree_restart_client a b [] [] h = same_booked _ _ _ _ (ap (λ w. started ends w ends.joint) h.wire) (agree_lost a.client b.client h.client)
   agree_restart_client a b [] (y ∷ down) h = record { wire = ap idle h.wire; client = h.client }
   agree_restart_client a b (x ∷ up) down h = record { wire = ap idle h.wire; client = h.client }
 
-  -- an event that the client has no part in
+  -- a step that leaves the client alone keeps worlds in agreement
   agree_wire : (f : Wire State → Wire State) (a : World ById State) (b : World ByNumber State) → Agree a b → Agree (on_wire a (f a.wire)) (on_wire b (f b.wire))
   agree_wire f a b h = record { wire = ap f h.wire; client = h.client }
 
+  -- each step keeps worlds in agreement
   pub agrees : (a : World ById State) (b : World ByNumber State) (e : Step) → Sound width ends Good b → Agree a b → Agree (happens ends (by_ids width ends) a e) (happens ends (by_numbers width) b e)
   agrees a b (Send target call deadline) s h =
       same_requested a b target call _ _
@@ -169,14 +181,17 @@ module _ {State : Type 0} (width : ℕ) (narrow : width ≤ 7) (ends : Ends Stat
   agrees a b Restart_instrument s h = agree_wire (λ w. instrument_restarted ends w w.up w.down) a b h
   agrees a b Nothing s h = agree_wire idle a b h
 
+  -- a run keeps worlds in agreement
   pub agrees_all : IsExchange ends Good → (es : List Step) (a : World ById State) (b : World ByNumber State) → Sound width ends Good b → Agree a b
       → Agree (run ends (by_ids width ends) es a) (run ends (by_numbers width) es b)
   agrees_all ex [] a b s h = h
   agrees_all ex (e ∷ es) a b s h = agrees_all ex es _ _ (sound_step width ends Good ex b e s) (agrees a b e s h)
 
+  -- the worlds before the first event agree
   agree_open : (state : State) → Agree (ids_open state) (numbers_open state)
   agree_open state = record { wire = refl; client = record { window = refl; next = omega arith } }
 
+  -- the line of a sound world keeps its order
   orderly : (w : World ByNumber State) → Sound width ends Good w → IsOrderly width w.wire
   orderly w s =
       record {
@@ -186,15 +201,18 @@ module _ {State : Type 0} (width : ℕ) (narrow : width ≤ 7) (ends : Ends Stat
         sent = subst (λ n. Each (λ m. m < n) (under_way w.wire)) s.counted (all_sent width ends Good w.client.since (length w.client.requests) w.wire.down w.wire.up s.coming s.going);
       }
 
-  -- what the two runs have at their ends
+  -- the two runs end in worlds that agree
   pub agree_at : IsExchange ends Good → (es : List Step) (state : State) → Good state → Agree (run_by_ids width ends es state) (run_by_numbers width ends es state)
   agree_at ex es state g = agrees_all ex es (ids_open state) (numbers_open state) (sound_open width ends Good state g) (agree_open state)
 
+  -- the run by numbers ends in a sound world
   pub sound_at : IsExchange ends Good → (es : List Step) (state : State) → Good state → Sound width ends Good (run_by_numbers width ends es state)
   sound_at ex es state g = sound_all width ends Good ex es (numbers_open state) (sound_open width ends Good state g)
 
+  -- the two runs end with the same wire
   pub same_wire : IsExchange ends Good → (es : List Step) (state : State) → Good state → (run_by_ids width ends es state).wire ≡ (run_by_numbers width ends es state).wire
   same_wire ex es state g = (agree_at ex es state g).wire
 
+  -- the run by ids ends with a line that kept its order
   pub orderly_at : IsExchange ends Good → (es : List Step) (state : State) → Good state → IsOrderly width (run_by_ids width ends es state).wire
   orderly_at ex es state g = subst (λ w. IsOrderly width w) (sym (same_wire ex es state g)) (orderly _ (sound_at ex es state g))

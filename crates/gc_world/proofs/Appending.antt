@@ -4,11 +4,12 @@ use Rattle.std.specs.Prelude.{slice_set}
 use Rattle.std.proofs.Math.Seq.{set-append_seam}
 use Rattle.arrayvec.specs.ArrayVec.{ArrayVec}
 
+-- the last element of a list with one appended is that one
 last_of : {A : Type 0} (xs : List A) (x d : A) → get_or (xs ++ x ∷ []) (length xs) d ≡ x
 last_of [] x d = refl
 last_of (y ∷ xs) x d = last_of xs x d
 
--- what stands there
+-- the element at the place of the one that was appended is that one
 pub at_last : {A : Type 0} (xs items : List A) (n : ℕ) (blank now : A) → items ≡ xs ++ blank ∷ [] → n ≡ length xs → now ≡ get_or items n now → now ≡ blank
 at_last xs items n blank now are at is = is ∙ ap (λ l. get_or l n now) are ∙ ap (λ k. get_or (xs ++ blank ∷ []) k now) at ∙ last_of xs blank now
 
@@ -17,10 +18,11 @@ pub set_last : {A : Type 0} (xs items : List A) (n : ℕ) (blank new entry : A) 
 set_last xs items n blank new entry are at is =
     ap (λ l. slice_set l n new) are ∙ ap (λ k. slice_set (xs ++ blank ∷ []) k new) at ∙ set-append_seam xs blank [] new ∙ ap (λ e. xs ++ e ∷ []) is
 
--- a line that was appended to one of no bytes
+-- lines with the same bytes are one
 line_of : (xs ys : List ℕ) → xs ≡ ys → ◌≡◌ {A = ArrayVec ℕ} (record { items = xs }) (record { items = ys })
 line_of xs ys e = ap {A = List ℕ} {B = ArrayVec ℕ} (λ l. record { items = l }) e
 
+-- a line of no bytes, to which another line's bytes were appended, is that line
 pub line_put : (blank to line : ArrayVec ℕ) (bytes : List ℕ) → blank.items ≡ [] → to.items ≡ blank.items ++ bytes → bytes ≡ line.items → to ≡ line
 line_put blank to line bytes empty put are = line_of to.items line.items (put ∙ ap (λ l. l ++ bytes) empty ∙ are)
 

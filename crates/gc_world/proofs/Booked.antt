@@ -13,20 +13,23 @@ use Rattle.gc_world.proofs.Rows.{each_append, each_more, each_without, each_doub
 use Rattle.gc_world.proofs.Sound.{Sound, keeps, sound_open}
 use Rattle.gc_world.proofs.Stable.{IsStable, stable_all}
 
--- one of the elements is this
+-- a list has this element
 abbrev pub Has : {A : Type 0} → A → List A → Type 0
 Has a [] = ⊥
 Has a (x ∷ xs) = (x ≡ a) ⊎ Has a xs
 
+-- a list has an element also with others behind it
 pub has_more : {A : Type 0} (a : A) (xs ys : List A) → Has a xs → Has a (xs ++ ys)
 has_more a [] ys h = absurd h
 has_more a (x ∷ xs) ys (inl e) = inl e
 has_more a (x ∷ xs) ys (inr h) = inr (has_more a xs ys h)
 
+-- a list has the element that was appended
 pub has_push : {A : Type 0} (a : A) (xs : List A) → Has a (xs ++ a ∷ [])
 has_push a [] = inl refl
 has_push a (x ∷ xs) = inr (has_push a xs)
 
+-- an element that a list has stands at some place
 pub has_at : {A : Type 0} (a : A) (xs : List A) → Has a xs → (j : ℕ) × (slice_get xs j ≡ Some a)
 has_at a [] h = absurd h
 has_at a (x ∷ xs) (inl e) = (0, ap Some e)
@@ -43,29 +46,34 @@ abbrev pub AllMade : List (Numbered (List ℕ)) → ℕ → List Settlement → 
 AllMade made n [] = Unit {0}
 AllMade made n (s ∷ ss) = IsMade made n s.outcome × AllMade made (n + 1) ss
 
+-- an answer that was made for a request stays so when more replies are made
 made_more : (made more : List (Numbered (List ℕ))) (n : ℕ) (o : Outcome) → IsMade made n o → IsMade (made ++ more) n o
 made_more made more n (Answered line) h = has_more _ made more h
 made_more made more n Late h = tt
 made_more made more n Lost h = tt
 
+-- answers that were made for their requests stay so when more replies are made
 all_made_more : (made more : List (Numbered (List ℕ))) (n : ℕ) (ss : List Settlement) → AllMade made n ss → AllMade (made ++ more) n ss
 all_made_more made more n [] h = tt
 all_made_more made more n (s ∷ ss) h = (made_more made more n s.outcome h.0, all_made_more made more (n + 1) ss h.1)
 
+-- where the answers of two lists of settlements were made for their requests, those of both lists in a row were
 all_made_append : (made : List (Numbered (List ℕ))) (n m : ℕ) (ss ts : List Settlement) → n + length ss ≡ m → AllMade made n ss → AllMade made m ts → AllMade made n (ss ++ ts)
 all_made_append made n m [] ts e h g = let e' : m ≡ n = omega arith in subst (λ k. AllMade made k ts) e' g
 all_made_append made n m (s ∷ ss) ts e h g = (h.0, all_made_append made (n + 1) m ss ts (omega arith) h.1 g)
 
+-- lost requests have no answer to vouch for
 all_made_lost : (made : List (Numbered (List ℕ))) (n : ℕ) (ps : List Pending) → AllMade made n (map lost ps)
 all_made_lost made n [] = tt
 all_made_lost made n (p ∷ ps) = (tt, all_made_lost made (n + 1) ps)
 
--- one that is late has no answer to vouch for
+-- a reply that was made for request n settles that request with an answer that was made for it, or as late
 made_met : (made : List (Numbered (List ℕ))) (n : ℕ) (line : List ℕ) (p : Pending) (given_up : Bool) → p.given_up ≡ given_up
     → Has (record { number = n; line = line }) made → IsMade made n (met p line).outcome
 made_met made n line p true e h = subst (λ b. IsMade made n (met (record p { given_up = b }) line).outcome) (sym e) tt
 made_met made n line p false e h = subst (λ b. IsMade made n (met (record p { given_up = b }) line).outcome) (sym e) h
 
+-- settling through the place of a reply that was made for its request leaves answers that were
 all_made_settle : (made : List (Numbered (List ℕ))) (n m k : ℕ) (line : List ℕ) (ps : List Pending) → n + k ≡ m → Has (record { number = m; line = line }) made → AllMade made n (settle k line ps)
 all_made_settle made n m k line [] e h = tt
 all_made_settle made n m zero line (p ∷ ps) e h =
@@ -73,17 +81,18 @@ all_made_settle made n m zero line (p ∷ ps) e h =
     (made_met made n line p p.given_up refl (subst (λ i. Has (record { number = i; line = line }) made) e' h), tt)
 all_made_settle made n m (suc k) line (p ∷ ps) e h = (tt, all_made_settle made (n + 1) m k line ps (omega arith) h)
 
--- each reply in flight and each answer that was booked was made for its request
+-- each reply under way and each answer that was booked was made for its request
 pub record IsBacked (made down : List (Numbered (List ℕ))) (settled : List Settlement) : Type 0 where
   pub under_way : Each (λ x. Has x made) down
   pub booked : AllMade made 0 settled
 
 module _ {State : Type 0} (width : ℕ) (ends : Ends State) (Good : State → Type 0) where
-  -- the line is as it has to be, and each reply under way and each answer was made for its request
+  -- the line keeps its order, and each reply under way and each answer was made for its request
   pub record Backed (w : World ByNumber State) : Type 0 where
     pub sound : Sound width ends Good w
     pub backed : IsBacked w.wire.made w.wire.down w.wire.settled
 
+  -- an instrument's reply keeps the replies and answers backed
   backed_answer : (w : Wire State) (n : ℕ) (rest : List (Numbered Request)) (hd : Handed State) → IsBacked w.made w.down w.settled → (let v = replied w n rest hd in IsBacked v.made v.down v.settled)
   backed_answer w n rest hd h =
       let x : Numbered (List ℕ) = record { number = n; line = hd.reply } in
@@ -95,6 +104,7 @@ module _ {State : Type 0} (width : ℕ) (ends : Ends State) (Good : State → Ty
         booked = all_made_more w.made _ 0 w.settled h.booked;
       }
 
+  -- delivering a reply keeps the replies and answers backed
   backed_reply : (w : World ByNumber State) (x : Numbered (List ℕ)) (rest : List (Numbered (List ℕ))) (old : Bool) → ltb x.number w.client.count ≡ old
       → w.wire.down ≡ x ∷ rest → length w.wire.settled ≡ w.client.count → IsBacked w.wire.made w.wire.down w.wire.settled
       → IsBacked w.wire.made rest (w.wire.settled ++ (number_reply w.client x old).settlements)
@@ -111,6 +121,7 @@ module _ {State : Type 0} (width : ℕ) (ends : Ends State) (Good : State → Ty
             (all_made_settle w.wire.made w.client.count x.number (x.number - w.client.count) x.line (drop w.client.count w.client.requests) (omega (arith, ge)) g.0);
       }
 
+  -- a restart of the client keeps the replies and answers backed
   backed_restart : (w : World ByNumber State) (b : Bool) → length w.wire.settled ≡ w.client.count → IsBacked w.wire.made w.wire.down w.wire.settled
       → (let v = (with_settled (started ends w.wire b) ((by_numbers width).restart w.client)).wire in IsBacked v.made v.down v.settled)
   backed_restart w false s h =
@@ -126,6 +137,7 @@ module _ {State : Type 0} (width : ℕ) (ends : Ends State) (Good : State → Ty
             (all_made_lost w.wire.made w.client.count (drop w.client.count w.client.requests));
       }
 
+  -- each step keeps a world backed
   keeps_backed : IsExchange ends Good → IsStable ends (by_numbers width) Backed
   keeps_backed ex =
       let k = keeps width ends Good ex in
@@ -144,6 +156,7 @@ module _ {State : Type 0} (width : ℕ) (ends : Ends State) (Good : State → Ty
         starts = λ w u d h. record { sound = k.starts w u d h.sound; backed = h.backed };
       }
 
+  -- the run by numbers ends in a backed world
   pub backed_at : IsExchange ends Good → (es : List Step) (state : State) → Good state → Backed (run_by_numbers width ends es state)
   backed_at ex es state g = stable_all ends (by_numbers width) Backed (keeps_backed ex) es (numbers_open state)
       (record { sound = sound_open width ends Good state g; backed = record { under_way = tt; booked = tt } })

@@ -25,11 +25,13 @@ pub record IsWithin {State : Type 0} (n : ℕ) (w : Wire State) : Type 0 where
   pub refused : w.refused ≤ n
   pub idle : w.idle ≤ n
 
+-- a loss makes a list no longer
 few_left : {A : Type 0} (k : ℕ) (xs : List A) → length (without k xs) ≤ length xs + 1
 few_left k [] = omega arith
 few_left zero (x ∷ xs) = omega arith
 few_left (suc k) (x ∷ xs) = omega (arith, few_left k xs)
 
+-- a repeat makes a list longer by at most one
 one_longer : {A : Type 0} (k : ℕ) (xs : List A) → length (doubled k xs) ≤ length xs + 1
 one_longer k [] = omega arith
 one_longer zero (x ∷ xs) = omega arith
@@ -45,7 +47,7 @@ cut_few (line ∷ lines) n = by_size (ltb n (length line)) (cut_few lines (n - l
     by_size false few = omega (arith, few)
 
 module _ {Client State : Type 0} (ends : Ends State) (rule : Rule Client) (n : ℕ) where
-  -- the same of one more
+  -- what is within n is within n + 1
   more : (w : Wire State) → IsWithin n w → IsWithin (n + 1) w
   more w h = record {
     sent = omega (arith, h.sent);
@@ -57,6 +59,7 @@ module _ {Client State : Type 0} (ends : Ends State) (rule : Rule Client) (n : �
     idle = omega (arith, h.idle);
   }
 
+  -- an event that is not possible raises the bound by at most one
   idles : (w : Wire State) → IsWithin n w → IsWithin (n + 1) (idle w)
   idles w h = record {
     sent = omega (arith, h.sent);
@@ -68,6 +71,7 @@ module _ {Client State : Type 0} (ends : Ends State) (rule : Rule Client) (n : �
     idle = omega (arith, h.idle);
   }
 
+  -- a send raises the bound by at most one
   sends : (w : World Client State) (target : ℕ) (call : Call) (o : Option (Sending Client)) → IsWithin n w.wire → IsWithin (n + 1) (requested w target call o).wire
   sends w target call None h = record {
     sent = omega (arith, h.sent);
@@ -91,11 +95,12 @@ module _ {Client State : Type 0} (ends : Ends State) (rule : Rule Client) (n : �
         idle = omega (arith, h.idle);
       }
 
+  -- a request that is no longer under way adds at most one execution
   executes : (executed : List ℕ) (k more : ℕ) (b : Bool) → length executed + suc more ≤ n → length (cond b (executed ++ k ∷ []) executed) + more ≤ n
   executes executed k more true h = omega (arith, h, length_push executed k)
   executes executed k more false h = omega (arith, h)
 
-  -- a request that is executed is no longer under way
+  -- a request that is answered moves from those under way to the executions and replies
   answers : (w : Wire State) (x : Numbered Request) (rest : List (Numbered Request)) (hd : Handed State) → w.up ≡ x ∷ rest → IsWithin n w → IsWithin n (replied w x.number rest hd)
   answers w x rest hd e h =
       let m : Numbered (List ℕ) = record { number = x.number; line = hd.reply } in
@@ -110,10 +115,12 @@ module _ {Client State : Type 0} (ends : Ends State) (rule : Rule Client) (n : �
         idle = h.idle;
       }
 
+  -- a delivery to the instrument raises the bound by at most one
   delivers : (w : Wire State) (q : List (Numbered Request)) → w.up ≡ q → IsWithin n w → IsWithin (n + 1) (up_delivered ends w q)
   delivers w [] e h = idles w h
   delivers w (x ∷ rest) e h = more (replied w x.number rest (ends.handed w.state x.line.id x.line.call)) (answers w x rest (ends.handed w.state x.line.id x.line.call) e h)
 
+  -- an upward queue that is longer by at most one raises the bound by at most one
   changes_up : (w : Wire State) (up : List (Numbered Request)) (b : Bool) → length up ≤ length w.up + 1 → IsWithin n w → IsWithin (n + 1) (with_up w up b)
   changes_up w up false le h = idles w h
   changes_up w up true le h = record {
@@ -126,6 +133,7 @@ module _ {Client State : Type 0} (ends : Ends State) (rule : Rule Client) (n : �
     idle = omega (arith, h.idle);
   }
 
+  -- another downward queue raises the bound by at most one
   changes_down : (w : Wire State) (down : List (Numbered (List ℕ))) (b : Bool) → IsWithin n w → IsWithin (n + 1) (with_down w down b)
   changes_down w down false h = idles w h
   changes_down w down true h = record {
@@ -138,6 +146,7 @@ module _ {Client State : Type 0} (ends : Ends State) (rule : Rule Client) (n : �
     idle = omega (arith, h.idle);
   }
 
+  -- a delivery to the client raises the bound by at most one
   hears : (w : World Client State) (q : List (Numbered (List ℕ))) → IsWithin n w.wire → IsWithin (n + 1) (down_delivered rule w q).wire
   hears w [] h = idles w.wire h
   hears w (x ∷ rest) h = record {
@@ -150,6 +159,7 @@ module _ {Client State : Type 0} (ends : Ends State) (rule : Rule Client) (n : �
     idle = omega (arith, h.idle);
   }
 
+  -- a start of the instrument raises the bound by at most one
   starts : (w : Wire State) (b : Bool) → IsWithin n w → IsWithin (n + 1) (started ends w b)
   starts w false h = more w h
   starts w true h = record {
@@ -162,17 +172,19 @@ module _ {Client State : Type 0} (ends : Ends State) (rule : Rule Client) (n : �
     idle = omega (arith, h.idle);
   }
 
+  -- a restart of the instrument raises the bound by at most one
   restarts_instrument : (w : Wire State) (up : List (Numbered Request)) (down : List (Numbered (List ℕ))) → IsWithin n w → IsWithin (n + 1) (instrument_restarted ends w up down)
   restarts_instrument w [] [] h = starts w true h
   restarts_instrument w [] (y ∷ down) h = idles w h
   restarts_instrument w (x ∷ up) down h = idles w h
 
+  -- a restart of the client raises the bound by at most one
   restarts_client : (w : World Client State) (up : List (Numbered Request)) (down : List (Numbered (List ℕ))) → IsWithin n w.wire → IsWithin (n + 1) (client_restarted ends rule w up down).wire
   restarts_client w [] [] h = let s = starts w.wire ends.joint h in record { sent = s.sent; executed = s.executed; made = s.made; starts = s.starts; refused = s.refused; idle = s.idle }
   restarts_client w [] (y ∷ down) h = idles w.wire h
   restarts_client w (x ∷ up) down h = idles w.wire h
 
-  -- a step brings at most one of each
+  -- each step raises the bound by at most one
   pub one_step : (w : World Client State) (e : Step) → IsWithin n w.wire → IsWithin (n + 1) (happens ends rule w e).wire
   one_step w (Send target call deadline) h = sends w target call (rule.send w.client target call deadline) h
   one_step w Up_deliver h = delivers w.wire w.wire.up refl h
@@ -186,25 +198,29 @@ module _ {Client State : Type 0} (ends : Ends State) (rule : Rule Client) (n : �
   one_step w Restart_instrument h = restarts_instrument w.wire w.wire.up w.wire.down h
   one_step w Nothing h = idles w.wire h
 
+  -- a delivery of a request that is under way doesn't raise the bound
   up_once : (w : Wire State) (q : List (Numbered Request)) → w.up ≡ q → 0 < length (map (λ x. request_line (Some x.line.id) x.line.call) q) → IsWithin n w → IsWithin n (up_delivered ends w q)
   up_once w [] e some h = absurd (omega (arith, some))
   up_once w (x ∷ rest) e some h = answers w x rest (ends.handed w.state x.line.id x.line.call) e h
 
+  -- a delivery of a reply that is under way doesn't raise the bound
   down_once : (w : World Client State) (q : List (Numbered (List ℕ))) → 0 < length (map (λ x. x.line) q) → IsWithin n w.wire → IsWithin n (down_delivered rule w q).wire
   down_once w [] some h = absurd (omega (arith, some))
   down_once w (x ∷ rest) some h = record { sent = h.sent; executed = h.executed; made = h.made; starts = h.starts; refused = h.refused; idle = h.idle }
 
+  -- a delivery of a line that is under way doesn't raise the bound
   once : (d : Direction) (w : World Client State) → 0 < length (texts d w.wire) → IsWithin n w.wire → IsWithin n (happens ends rule w (deliver d)).wire
   once Up w some h = up_once w.wire w.wire.up refl some h
   once Down w some h = down_once w w.wire.down some h
 
-  -- however many lines bytes complete
+  -- deliveries of lines that are under way don't raise the bound, however many they are
   all : (d : Direction) (k : ℕ) (w : World Client State) → k ≤ length (texts d w.wire) → IsWithin n w.wire → IsWithin n (run ends rule (replicate k (deliver d)) w).wire
   all d zero w le h = h
   all d (suc k) w le h =
       let less : length (texts d (happens ends rule w (deliver d)).wire) ≡ length (texts d w.wire) - 1 = ap length (one_less ends rule d w) ∙ length-drop 1 (texts d w.wire) in
       all d k (happens ends rule w (deliver d)) (omega (arith, le, less)) (once d w (omega (arith, le)) h)
 
+  -- the bytes of an event raise the bound by at most one
   passes : (d : Direction) (lines : List (List ℕ)) (gone k : ℕ) (w : World Client State) → length lines ≡ length (texts d w.wire) → IsWithin n w.wire
       → IsWithin (n + 1) (run ends rule (passed (deliver d) lines gone k) w).wire
   passes d [] gone k w e h = idles w.wire h
@@ -213,7 +229,7 @@ module _ {Client State : Type 0} (ends : Ends State) (rule : Rule Client) (n : �
       let c = (cut (line ∷ lines) (gone + suc k)).lines in
       more (run ends rule (replicate c (deliver d)) w).wire (all d c w (omega (arith, cut_few (line ∷ lines) (gone + suc k), e)) h)
 
-  -- so does an event
+  -- each event raises the bound by at most one
   pub one_event : (v : Streams Client State) (e : Event) → IsWithin n v.world.wire → IsWithin (n + 1) (flows ends rule v e).world.wire
   one_event v (event.Send target call deadline) h = one_step v.world (Send target call deadline) h
   one_event v event.UpDeliver h = one_step v.world Up_deliver h
@@ -229,7 +245,7 @@ module _ {Client State : Type 0} (ends : Ends State) (rule : Rule Client) (n : �
   one_event v event.RestartInstrument h = one_step v.world Restart_instrument h
 
 module _ {Client State : Type 0} (ends : Ends State) (rule : Rule Client) where
-  -- so many events bring at most as many of each
+  -- n events raise the bound by at most n
   pub within_all : (es : List Event) (v : Streams Client State) (n : ℕ) → IsWithin n v.world.wire → IsWithin (n + length es) (flow ends rule es v).world.wire
   within_all [] v n h = let z : n ≡ n + 0 = omega arith in subst (λ m. IsWithin m v.world.wire) z h
   within_all (e ∷ es) v n h = let z : n + 1 + length es ≡ n + length (e ∷ es) = omega arith in

@@ -14,7 +14,7 @@ use Rattle.gc_world.proofs.Directions.{passing, to}
 use Rattle.gc_world.proofs.Handed.{cut_long, in_front}
 use Rattle.gc_world.proofs.Pieces.{end_length}
 
--- no byte completes no line
+-- 0 bytes complete no line
 cut_zero : (texts : List (List ℕ)) → cut (map with_end texts) 0 ≡ record { lines = 0; gone = 0 }
 cut_zero [] = refl
 cut_zero (text ∷ texts) =
@@ -22,6 +22,7 @@ cut_zero (text ∷ texts) =
     (lt-ltb 0 (length (with_end text)) (omega (arith, end_length text)))
 
 module _ (ends : Ends State) (rule : Rule ById) (v : Streams ById State) where
+  -- the bytes that remain of the reply in front are its delivery
   exactly : (n : ℕ) → remaining v.down_gone (down_lines v.world.wire) ≡ n + 1 → flows ends rule v (DownBytes (n + 1)) ≡ flows ends rule v DownDeliver
   exactly n e =
       let g = v.down_gone in
@@ -33,6 +34,7 @@ module _ (ends : Ends State) (rule : Rule ById) (v : Streams ById State) where
       cut_long (with_end f.0) (map with_end f.1) (g + suc n) (omega (arith, size)) ∙ ap (λ k. one_more (cut (map with_end f.1) k)) none ∙ ap one_more (cut_zero f.1) in
       ap (λ q. passing ends rule Down v (map with_end q) (n + 1)) f.2 ∙ ap (passing ends rule Down v (map with_end (f.0 ∷ f.1))) next ∙ ap (to ends rule Down v) one
 
+  -- an event that hands over the last byte of the reply in front does what `DownDeliver` does
   pub delivery_is : (e : Event) → IsDelivery v e → flows ends rule v e ≡ flows ends rule v DownDeliver
   delivery_is e (inl is) = ap (flows ends rule v) is
   delivery_is e (inr (n, is, last)) = ap (flows ends rule v) is ∙ exactly n last

@@ -11,14 +11,17 @@ use Rattle.gc_world.specs.World.{Request, Numbered, Ends, Rule, Wire, World, idl
 module _ {Client State : Type 0} where
   -- What has gone.
 
+  -- what has gone of the front line is what was put there
   pub gone_reached : (d : Direction) (v : Streams Client State) (w : World Client State) (n : ℕ) → gone d (reaches d v w n) ≡ n
   gone_reached Up v w n = refl
   gone_reached Down v w n = refl
 
+  -- putting a world and what has gone twice is putting the second
   pub reaches_again : (d : Direction) (v : Streams Client State) (w : World Client State) (n : ℕ) (w' : World Client State) (n' : ℕ) → reaches d (reaches d v w n) w' n' ≡ reaches d v w' n'
   reaches_again Up v w n w' n' = refl
   reaches_again Down v w n w' n' = refl
 
+  -- putting what stands there changes nothing
   pub reaches_same : (d : Direction) (v : Streams Client State) → reaches d v v.world (gone d v) ≡ v
   reaches_same Up v = refl
   reaches_same Down v = refl
@@ -26,47 +29,53 @@ module _ {Client State : Type 0} where
   module _ (ends : Ends State) (rule : Rule Client) where
     -- The events of a direction.
 
+    -- delivering a line is the step of the world, and nothing has gone of the next line
     pub delivered : (d : Direction) (v : Streams Client State) → flows ends rule v (delivery d) ≡ reaches d v (happens ends rule v.world (deliver d)) 0
     delivered Up v = refl
     delivered Down v = refl
 
-    -- the streams behind so many bytes, where these lines are under way
+    -- the streams behind n bytes of a direction, where these lines are under way
     abbrev pub passing : Direction → Streams Client State → List (List ℕ) → ℕ → Streams Client State
     passing d v q n = reaches d v (run ends rule (passed (deliver d) q (gone d v) n) v.world) (left_gone q (gone d v) n)
 
+    -- the event of n bytes passes them over the lines under way
     pub bytes_pass : (d : Direction) (v : Streams Client State) (n : ℕ) → flows ends rule v (bytes d n) ≡ passing d v (lines d v.world.wire) n
     bytes_pass Up v n = refl
     bytes_pass Down v n = refl
 
-    -- so many lines of these streams, and what has gone behind them
+    -- the streams after as many deliveries in a direction as the cut has lines, and with as much gone of the next line as it says
     abbrev pub to : Direction → Streams Client State → Cut → Streams Client State
     to d v c = reaches d v (run ends rule (replicate c.lines (deliver d)) v.world) c.gone
 
     -- What is under way behind a step.
 
+    -- delivering a request takes its line out of those under way
     up_less : (w : Wire State) (q : List (Numbered Request)) → w.up ≡ q
         → map (λ x. request_line (Some x.line.id) x.line.call) (up_delivered ends w q).up ≡ drop 1 (map (λ x. request_line (Some x.line.id) x.line.call) q)
     up_less w [] e = ap (map (λ x. request_line (Some x.line.id) x.line.call)) e
     up_less w (x ∷ rest) e = refl
 
+    -- delivering a reply takes its line out of those under way
     down_less : (w : World Client State) (q : List (Numbered (List ℕ))) → w.wire.down ≡ q → map (λ x. x.line) (down_delivered rule w q).wire.down ≡ drop 1 (map (λ x. x.line) q)
     down_less w [] e = ap (map (λ x. x.line)) e
     down_less w (x ∷ rest) e = refl
 
-    -- a delivery takes the front line
+    -- a delivery takes the front line out of those under way
     pub one_less : (d : Direction) (w : World Client State) → texts d (happens ends rule w (deliver d)).wire ≡ drop 1 (texts d w.wire)
     one_less Up w = up_less w.wire w.wire.up refl
     one_less Down w = down_less w w.wire.down refl
 
+    -- delivering a request that is under way is no idle event
     up_counts : (w : Wire State) (q : List (Numbered Request)) → 0 < length (map (λ x. request_line (Some x.line.id) x.line.call) q) → (up_delivered ends w q).idle ≡ w.idle
     up_counts w [] some = absurd (omega (arith, some))
     up_counts w (x ∷ rest) some = refl
 
+    -- delivering a reply that is under way is no idle event
     down_counts : (w : World Client State) (q : List (Numbered (List ℕ))) → 0 < length (map (λ x. x.line) q) → (down_delivered rule w q).wire.idle ≡ w.wire.idle
     down_counts w [] some = absurd (omega (arith, some))
     down_counts w (x ∷ rest) some = refl
 
-    -- where there is one, it isn't idle
+    -- delivering a line that is under way is no idle event
     pub not_idle : (d : Direction) (w : World Client State) → 0 < length (texts d w.wire) → (happens ends rule w (deliver d)).wire.idle ≡ w.wire.idle
     not_idle Up w some = up_counts w.wire w.wire.up some
     not_idle Down w some = down_counts w w.wire.down some

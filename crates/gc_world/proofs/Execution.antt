@@ -16,6 +16,7 @@ use Rattle.gc_world.proofs.Replay.{IsReply, Replays}
 use Rattle.gc_world.proofs.Options.{some_is, none_is_not}
 use Rattle.gc_world.proofs.Places.{each_get, in_range, below}
 
+-- what each element of a list has, an element of it has
 pub each_has : {A : Type 0} (P : A → Type 0) (xs : List A) (x : A) → Each P xs → Has x xs → P x
 each_has P [] x h e = absurd e
 each_has P (y ∷ xs) x h (inl e) = subst P e h.0
@@ -38,6 +39,7 @@ module _ {State : Type 0} (ends : Ends State) where
   before_in sent starts j s [] (m ∷ ms) t h k = absurd h
   before_in sent starts j s (n ∷ ns) [] t h k = absurd h
 
+  -- the state before the first execution is the one that the run begins with
   before_first : (sent : List Sent) (starts : List ℕ) (j : ℕ) (s : State) (ns : List ℕ) (ms : List (Numbered (List ℕ))) (t : State)
       (h : Replays ends sent starts j s ns ms t) → before_in sent starts j s ns ms t h 0 ≡ s
   unfolding before_in
@@ -46,6 +48,7 @@ module _ {State : Type 0} (ends : Ends State) where
   before_first sent starts j s [] (m ∷ ms) t h = absurd h
   before_first sent starts j s (n ∷ ns) [] t h = absurd h
 
+  -- the state behind the last execution is the one that the run ends with
   before_last : (sent : List Sent) (starts : List ℕ) (j : ℕ) (s : State) (ns : List ℕ) (ms : List (Numbered (List ℕ))) (t : State)
       (h : Replays ends sent starts j s ns ms t) → t ≡ before_in sent starts j s ns ms t h (length ns)
   unfolding before_in
@@ -54,6 +57,7 @@ module _ {State : Type 0} (ends : Ends State) where
   before_last sent starts j s [] (m ∷ ms) t h = absurd h
   before_last sent starts j s (n ∷ ns) [] t h = absurd h
 
+  -- there are as many replies as executions
   replays_entries : (sent : List Sent) (starts : List ℕ) (j : ℕ) (s : State) (ns : List ℕ) (ms : List (Numbered (List ℕ))) (t : State) → Replays ends sent starts j s ns ms t → length ms ≡ length ns
   replays_entries sent starts j s [] [] t h = refl
   replays_entries sent starts j s (n ∷ ns) (m ∷ ms) t h = ap suc (replays_entries sent starts (j + 1) _ ns ms t h.2)
@@ -71,6 +75,7 @@ module _ {State : Type 0} (ends : Ends State) where
     made : entry ≡ Some (record { number = n; line = (ends.handed state id request.call).reply })
     next_is : next ≡ begun ends.restarted (has_number i starts) (ends.handed state id request.call).state
 
+  -- execution k of a replay is that of the request at place k, with the reply at place k
   step_at : (sent : List Sent) (starts : List ℕ) (j : ℕ) (s : State) (ns : List ℕ) (ms : List (Numbered (List ℕ))) (t : State)
       (h : Replays ends sent starts j s ns ms t) (k n : ℕ) → slice_get ns k ≡ Some n
       → IsStep sent starts (j + k + 1) (before_in sent starts j s ns ms t h k) (before_in sent starts j s ns ms t h (suc k)) (slice_get ms k) n
@@ -165,6 +170,7 @@ module _ {State : Type 0} (ends : Ends State) (Good : State → Type 0) (ex : Is
     pub found : slice_get sent m.number ≡ Some request
     pub reply : IsReplyTo ends Good request.call m.line
 
+  -- the reply of an execution is one to the call of the request of its number
   answer_at : (sent : List Sent) (s : State) (n : ℕ) (m : Numbered (List ℕ)) (t : State) → Good s → IsReply ends sent s n m t → IsAnswerAt sent m
   answer_at sent s n m t good h =
       record {
@@ -173,10 +179,12 @@ module _ {State : Type 0} (ends : Ends State) (Good : State → Type 0) (ex : Is
         reply = record { state = s; good = good; id = h.id; small = h.small; executed = h.executed; reply = h.line };
       }
 
+  -- an execution, with a restart behind it or without, leads to a good state
   good_next : (sent : List Sent) (s : State) (n : ℕ) (m : Numbered (List ℕ)) (t : State) (b : Bool) → Good s → IsReply ends sent s n m t → Good (begun ends.restarted b t)
   good_next sent s n m t false good h = subst Good h.leads (ex.stays_good s h.id h.request.call good h.small)
   good_next sent s n m t true good h = ex.restart_good t (subst Good h.leads (ex.stays_good s h.id h.request.call good h.small))
 
+  -- each reply of a replay is one to the call of the request of its number
   pub answers_at : (sent : List Sent) (starts : List ℕ) (j : ℕ) (s : State) (ns : List ℕ) (ms : List (Numbered (List ℕ))) (t : State) → Good s
       → Replays ends sent starts j s ns ms t → Each (IsAnswerAt sent) ms
   answers_at sent starts j s [] [] t good h = tt
@@ -188,6 +196,7 @@ module _ {State : Type 0} (ends : Ends State) (Good : State → Type 0) (ex : Is
   answers_at sent starts j s [] (m ∷ ms) t good h = absurd h
   answers_at sent starts j s (n ∷ ns) [] t good h = absurd h
 
+  -- an answer at place m, among settlements made for their requests, was made for request n + m
   made_get : (made : List (Numbered (List ℕ))) (n : ℕ) (ss : List Settlement) (m : ℕ) (s : Settlement) → AllMade made n ss → slice_get ss m ≡ Some s → IsMade made (n + m) s.outcome
   made_get made n [] m s h e = absurd (none_is_not s e)
   made_get made n (x ∷ ss) zero s h e =
@@ -197,6 +206,7 @@ module _ {State : Type 0} (ends : Ends State) (Good : State → Type 0) (ex : Is
       let i : n + 1 + m ≡ n + suc m = omega arith in
       subst (λ k. IsMade made k s.outcome) i (made_get made (n + 1) ss m s h.1 e)
 
+  -- an answer that is booked was made for that very request
   pub booked : (sent : List Sent) (made : List (Numbered (List ℕ))) (settled : List Settlement) → IsOneForOne sent settled → AllMade made 0 settled
       → Each (IsAnswerAt sent) made → (m : ℕ) (s : Settlement) → slice_get settled m ≡ Some s → IsBooked ends Good made m s
   booked sent made settled one all at m s e bytes answered =

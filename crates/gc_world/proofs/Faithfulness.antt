@@ -16,9 +16,11 @@ use Rattle.gc_world.proofs.Turns.{played_within}
 use Rattle.gc_world.proofs.Runs.{one_for_one_at, execution_at, booked_at}
 
 module _ (width : ℕ) (narrow : width ≤ 7) (opening : State) (events : List Event) where
+  -- the two runs of these events are level
   level : AreLevel width narrow ends KeptFits reads (restarted opening) tt (streams_by_ids width ends events (restarted opening)) (streams_by_numbers width ends events (restarted opening))
   level = level_at width narrow ends KeptFits reads (restarted opening) tt events
 
+  -- a report of the run by ids is faithful
   pub faithful : (r : Report) (up down : List ℕ) (client : Windowed) → IsFittingState (restarted opening) → AreOf width r up down client (played width opening events) → Faithful width opening events r
   faithful r up down client good shows =
       let es = level.steps in
@@ -35,6 +37,7 @@ module _ (width : ℕ) (narrow : width ≤ 7) (opening : State) (events : List E
             (streams_by_numbers width ends events (restarted opening)) level);
       }
 
+  -- by a report of the run by ids each request acted once
   pub once : (r : Report) (up down : List ℕ) (client : Windowed) → IsFittingState (restarted opening) → AreOf width r up down client (played width opening events) → ActsOnce opening r
   once r up down client good shows =
       let es = level.steps in
@@ -42,6 +45,7 @@ module _ (width : ℕ) (narrow : width ≤ 7) (opening : State) (events : List E
       let h : IsReport r w = subst (λ (v : World ById State). IsReport r v.wire) level.ids shows.reports in
       acts_once r w h opening (execution_at width narrow ends IsFittingState exchange kept_of keeper refl es opening good)
 
+  -- no list of a report of the run by ids is longer than the list of events
   pub no_longer_than : (r : Report) (up down : List ℕ) (client : Windowed) → AreOf width r up down client (played width opening events) → IsNoLongerThan (length events) r
   no_longer_than r up down client shows =
       let es = level.steps in

@@ -33,25 +33,28 @@ use Rattle.gc_world.proofs.Sound.{Sound, sound_step}
 
 -- Lists.
 
+-- an element behind the first k is the one at that place of the whole list
 slice_drop : {A : Type 0} (k : ℕ) (xs : List A) (n : ℕ) → k ≤ n → slice_get (drop k xs) (n - k) ≡ slice_get xs n
 slice_drop zero xs n le = let e : n - 0 ≡ n = omega arith in ap (slice_get xs) e
 slice_drop (suc k) [] n le = refl
 slice_drop (suc k) (x ∷ xs) zero le = absurd (omega (arith, le))
 slice_drop (suc k) (x ∷ xs) (suc n) le = let e : suc n - suc k ≡ n - k = omega arith in ap (slice_get (drop k xs)) e ∙ slice_drop k xs n (omega (arith, le))
 
--- one of the one list at a place, where the two lists are seen alike
+-- where two lists are seen alike, each element of the one has an element of the other at its place that is seen alike
 matched : {A B C : Type 0} (f : A → C) (g : B → C) (xs : List A) (ys : List B) (n : ℕ) (x : A) → map f xs ≡ map g ys → slice_get xs n ≡ Some x → (y : B) × (slice_get ys n ≡ Some y) × (g y ≡ f x)
 matched f g xs ys n x e h = get_seen g ys n (f x) (ap (λ l. slice_get l n) (sym e) ∙ get_map f xs n x h)
 
+-- settling through place k loses the first k and meets the one at place k
 settle_at : (k : ℕ) (line : List ℕ) (ps : List Pending) (p : Pending) → slice_get ps k ≡ Some p → settle k line ps ≡ map lost (take k ps) ++ met p line ∷ []
 settle_at k line [] p h = absurd (none_is_not p h)
 settle_at zero line (q ∷ ps) p h = ap (λ r. met r line ∷ []) (some_is q p h)
 settle_at (suc k) line (q ∷ ps) p h = ap (λ l. lost q ∷ l) (settle_at k line ps p h)
 
--- requests that wait and requests that were sent, seen alike
+-- a settlement with this outcome of a request as asked
 abbrev ended_as : Outcome → Asked → Settlement
 ended_as outcome a = record { target = a.target; call = a.call; outcome = outcome }
 
+-- requests that wait are lost as the requests that were sent are, where both asked the same
 lost_alike : (ps : List Pending) (rs : List Sent) → map of_pending ps ≡ map of_sent rs → map lost ps ≡ map (ended Lost) rs
 lost_alike [] [] e = refl
 lost_alike [] (r ∷ rs) e = cc
@@ -61,14 +64,14 @@ lost_alike (p ∷ ps) (r ∷ rs) e =
     let tail : map of_pending ps ≡ map of_sent rs = cc in
     ap₂ (λ (a : Asked) (l : List Settlement). ended_as Lost a ∷ l) front (lost_alike ps rs tail)
 
--- what wait are the requests behind those that are settled
+-- the requests that wait are those that were sent, behind those that are settled
 waiting_alike : (settled : List Settlement) (waiting : List Pending) (sent : List Sent) → map of_settled settled ++ map of_pending waiting ≡ map of_sent sent
     → map of_pending waiting ≡ map of_sent (drop (length settled) sent)
 waiting_alike settled waiting sent e =
     sym (drop-append_seam (map of_settled settled) (map of_pending waiting)) ∙ ap (drop (length (map of_settled settled))) e ∙ ap (λ k. drop k (map of_sent sent)) (length-map settled of_settled)
     ∙ drop-map of_sent (length settled) sent
 
--- the end of the request that the reply belongs to
+-- the outcome that a reply line gives a request that waits: late where it was given up, else the answer
 abbrev outcome_of : Pending → List ℕ → Outcome
 outcome_of p line = cond p.given_up Late (Answered line)
 
@@ -78,6 +81,7 @@ pub record IsGained (settled : List Settlement) (waiting : List Pending) (sent :
   pub found : slice_get sent n ≡ Some request
   pub gained : settle (n - length settled) line waiting ≡ map (ended Lost) (between (length settled) n sent) ++ ended (outcome_of p line) request ∷ []
 
+-- `IsGained` holds where the settlements and those that wait are the requests that were sent, and p waits as request n
 gained : (settled : List Settlement) (waiting : List Pending) (sent : List Sent) (n : ℕ) (line : List ℕ) (p : Pending)
     → map of_settled settled ++ map of_pending waiting ≡ map of_sent sent → length settled ≤ n → slice_get waiting (n - length settled) ≡ Some p
     → IsGained settled waiting sent n line p
@@ -98,6 +102,7 @@ gained settled waiting sent n line p whole le h =
 -- The run by numbers.
 
 module _ (width : ℕ) where
+  -- delivering a reply to a request that isn't settled settles it and those before it
   delivered : (w : World ByNumber State) (x : Numbered (List ℕ)) (rest : List (Numbered (List ℕ))) → w.wire.down ≡ x ∷ rest → w.client.count ≤ x.number
       → (happens ends (by_numbers width) w Down_deliver).wire.settled ≡ w.wire.settled ++ settle (x.number - w.client.count) x.line
       (drop w.client.count w.client.requests)
@@ -105,12 +110,14 @@ module _ (width : ℕ) where
       ap (λ q. (down_delivered (by_numbers width) w q).wire.settled) e
       ∙ ap (λ old. w.wire.settled ++ (number_reply w.client x old).settlements) (le-ltb x.number w.client.count le)
 
+  -- delivering a reply to a request that is settled settles nothing
   delivered_again : (w : World ByNumber State) (x : Numbered (List ℕ)) (rest : List (Numbered (List ℕ))) → w.wire.down ≡ x ∷ rest → x.number < w.client.count
       → (happens ends (by_numbers width) w Down_deliver).wire.settled ≡ w.wire.settled
   delivered_again w x rest e lt =
       ap (λ q. (down_delivered (by_numbers width) w q).wire.settled) e
       ∙ ap (λ old. w.wire.settled ++ (number_reply w.client x old).settlements) (lt-ltb x.number w.client.count lt) ∙ append-nil w.wire.settled
 
+  -- a send adds one request, which is the one sent
   sent_entry : (w : World ByNumber State) (target : ℕ) (call : Call) (deadline : ℕ) (full : Bool) → length w.client.requests ≡ length w.wire.sent
       → length (requested w target call (number_send w.client target call deadline full)).wire.sent ≡ length w.wire.sent + 1
       → slice_get (requested w target call (number_send w.client target call deadline full)).client.requests (length w.wire.sent) ≡ Some
@@ -120,32 +127,39 @@ module _ (width : ℕ) where
       ap (λ k. slice_get (w.client.requests ++ pending_of target call deadline ∷ []) k) (sym counted) ∙ get_push w.client.requests (pending_of target call deadline)
 
 module _ (width : ℕ) (narrow : width ≤ WINDOW) (opening : State) where
+  -- the streams that the run by ids of these events leaves
   abbrev seen_by : List Event → Streams ById State
   seen_by events = streams_by_ids width ends events (restarted opening)
 
+  -- the streams that the run by numbers of these events leaves
   abbrev counted_by : List Event → Streams ByNumber State
   counted_by events = streams_by_numbers width ends events (restarted opening)
 
+  -- the two runs of these events are level
   level : (events : List Event) → AreLevel width narrow ends KeptFits reads (restarted opening) tt (seen_by events) (counted_by events)
   level events = level_at width narrow ends KeptFits reads (restarted opening) tt events
 
+  -- the run by numbers of these events ends in a sound world
   sound_in : (events : List Event) → Sound width ends KeptFits (counted_by events).world
   sound_in events = subst (Sound width ends KeptFits) (sym (level events).numbers) (sound_at width narrow ends KeptFits reads (level events).steps (restarted opening) tt)
 
+  -- the two runs of these events leave the same wire
   wire_in : (events : List Event) → left_by_ids width opening events ≡ (counted_by events).world.wire
   wire_in events = level_wire width narrow ends KeptFits reads (restarted opening) tt (seen_by events) (counted_by events) (level events)
 
+  -- the run of one more event is that of the others, and then the event
   counted_more : (events : List Event) (e : Event) → counted_by (events ++ e ∷ []) ≡ flows ends (by_numbers width) (counted_by events) e
   counted_more events e = flow_append ends (by_numbers width) events (e ∷ []) (untouched (numbers_open (restarted opening)))
 
-  -- what the client that is told the numbers has of request n, while it isn't settled
-  -- the streams behind the send of a request
+  -- the streams behind the send of a request, by numbers
   abbrev behind : (earlier : List Event) (target : ℕ) (call : Call) (deadline : ℕ) → Streams ByNumber State
   behind earlier target call deadline = flows ends (by_numbers width) (counted_by earlier) (event.Send target call deadline)
 
+  -- the request that this send made, as the client that is told the numbers has it after these later events, while it isn't settled
   abbrev mark_of : (earlier : List Event) (target : ℕ) (call : Call) (deadline : ℕ) (later : List Event) → Pending
   mark_of earlier target call deadline later = marked_all ends (by_numbers width) later (behind earlier target call deadline) (pending_of target call deadline)
 
+  -- while request n isn't settled, the client that is told the numbers has it at place n as `mark_of` says
   entry : (events : List Event) (n deadline : ℕ) (later : List Event) (s : IsSentBefore width opening events n deadline later)
       → length (left_by_ids width opening events).settled ≤ n → slice_get (counted_by events).world.client.requests n ≡ Some
       (mark_of s.earlier s.target s.call deadline later)
@@ -171,7 +185,7 @@ module _ (width : ℕ) (narrow : width ≤ WINDOW) (opening : State) where
       (entry_all width ends KeptFits reads steps w n (pending_of s.target s.call deadline)
       (sound_step width ends KeptFits reads v (Send s.target s.call deadline) (sound_in s.earlier)) at (subst (λ (u : World ByNumber State). u.client.count ≤ n) whole unsettled))
 
-  -- what is settled behind a delivery
+  -- what a delivery leaves settled is what the step of the run by numbers leaves
   delivered_by : (events : List Event) (delivery : Event) → IsDelivery (seen_by events) delivery → (x : Numbered (List ℕ)) (rest : List (Numbered (List ℕ)))
       → (left_by_ids width opening events).down ≡ x ∷ rest → (left_by_ids width opening (events ++ delivery ∷ [])).settled ≡
       (happens ends (by_numbers width) (counted_by events).world Down_deliver).wire.settled
@@ -183,7 +197,8 @@ module _ (width : ℕ) (narrow : width ≤ WINDOW) (opening : State) where
       ∙ sym (flow_append ends (by_ids width ends) events (DownDeliver ∷ []) (untouched (ids_open (restarted opening))))) in
       ap (λ (u : Wire State). u.settled) (one ∙ wire_in (events ++ DownDeliver ∷ [])) ∙ ap (λ (u : Streams ByNumber State). u.world.wire.settled) (counted_more events DownDeliver)
 
-  -- the delivery settles the request as its mark says
+  -- where the client that is told the numbers has p as request n, the delivery of the reply settles the request: as late where p was given
+  -- up, else as answered
   settled_at : (events : List Event) (n : ℕ) (line : List ℕ) (p : Pending) → slice_get (counted_by events).world.client.requests n ≡ Some p
       → DeliverySettles width opening events n line (outcome_of p line)
   settled_at events n line p h delivery is next =
@@ -215,6 +230,7 @@ module _ (width : ℕ) (narrow : width ≤ WINDOW) (opening : State) where
             ∙ sym (append_assoc a.wire.settled (map (ended Lost) (between (length a.wire.settled) n a.wire.sent)) (ended (outcome_of p line) gain.request ∷ []));
       })
 
+  -- a first reply in time is booked
   pub books : (events : List Event) (n : ℕ) (line : List ℕ) → IsInTime width opening events n → DeliverySettles width opening events n line (Answered line)
   books events n line t delivery is next =
       let s = t.sent in
@@ -223,6 +239,7 @@ module _ (width : ℕ) (narrow : width ≤ WINDOW) (opening : State) where
       (in_time ends (by_numbers width) t.later (behind s.earlier s.target s.call t.deadline) (pending_of s.target s.call t.deadline) refl t.early)
       (settled_at events n line p (entry events n t.deadline t.later s next.unsettled) delivery is next)
 
+  -- a first reply that comes too late settles its request as late
   pub is_late : (events : List Event) (n : ℕ) (line : List ℕ) → IsTooLate width opening events n → DeliverySettles width opening events n line Late
   is_late events n line t delivery is next =
       let s = t.sent in
@@ -231,6 +248,7 @@ module _ (width : ℕ) (narrow : width ≤ WINDOW) (opening : State) where
       (too_late ends (by_numbers width) t.later (behind s.earlier s.target s.call t.deadline) (pending_of s.target s.call t.deadline) t.now t.told t.reached)
       (settled_at events n line p (entry events n t.deadline t.later s next.unsettled) delivery is next)
 
+  -- a further reply settles nothing
   pub no_second : (events : List Event) (n : ℕ) (line : List ℕ) (rest : List (Numbered (List ℕ))) (delivery : Event) → IsDelivery (seen_by events) delivery
       → (left_by_ids width opening events).down ≡ record { number = n; line = line } ∷ rest → n < length (left_by_ids width opening events).settled
       → (left_by_ids width opening (events ++ delivery ∷ [])).settled ≡ (left_by_ids width opening events).settled

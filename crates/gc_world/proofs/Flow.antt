@@ -10,21 +10,22 @@ use Rattle.gc_world.specs.World.{Ends, Rule, Step, Wire, World, happens, run}
 use Rattle.gc_world.proofs.Agree.{same_wire}
 
 module _ {Client State : Type 0} (ends : Ends State) (rule : Rule Client) where
-  -- one list of steps behind another
+  -- running steps, and then others, is running all of them
   pub run_append : (xs ys : List Step) (w : World Client State) → run ends rule (xs ++ ys) w ≡ run ends rule ys (run ends rule xs w)
   run_append [] ys w = refl
   run_append (x ∷ xs) ys w = run_append xs ys (happens ends rule w x)
 
-  -- the steps that these events are
+  -- the steps that these events make on these streams
   abbrev pub taken : List Event → Streams Client State → List Step
   taken [] v = []
   taken (e ∷ es) v = (course_on v e).steps ++ taken es (flows ends rule v e)
 
+  -- the world behind events is that behind their steps
   pub flow_run : (es : List Event) (v : Streams Client State) → (flow ends rule es v).world ≡ run ends rule (taken es v) v.world
   flow_run [] v = refl
   flow_run (e ∷ es) v = flow_run es (flows ends rule v e) ∙ sym (run_append (course_on v e).steps (taken es (flows ends rule v e)) v.world)
 
-  -- one list of events behind another
+  -- events, and then others, are all of them
   pub flow_append : (xs ys : List Event) (v : Streams Client State) → flow ends rule (xs ++ ys) v ≡ flow ends rule ys (flow ends rule xs v)
   flow_append [] ys v = refl
   flow_append (x ∷ xs) ys v = flow_append xs ys (flows ends rule v x)
@@ -32,7 +33,7 @@ module _ {Client State : Type 0} (ends : Ends State) (rule : Rule Client) where
 -- Both runs take the same steps.
 
 module _ {State : Type 0} (width : ℕ) (narrow : width ≤ 7) (ends : Ends State) (Good : State → Type 0) (ex : IsExchange ends Good) (state : State) (good : Good state) where
-  -- the two are the runs of these steps, and as much has gone
+  -- the two streams come of the same steps, by ids and by numbers, and as much has gone of each front line
   pub record AreLevel (a : Streams ById State) (b : Streams ByNumber State) : Type 0 where
     pub steps : List Step
     pub ids : a.world ≡ run_by_ids width ends steps state
@@ -40,16 +41,19 @@ module _ {State : Type 0} (width : ℕ) (narrow : width ≤ 7) (ends : Ends Stat
     pub up_gone : a.up_gone ≡ b.up_gone
     pub down_gone : a.down_gone ≡ b.down_gone
 
+  -- level streams have the same wire
   pub level_wire : (a : Streams ById State) (b : Streams ByNumber State) → AreLevel a b → a.world.wire ≡ b.world.wire
   level_wire a b h =
       ap (λ (w : World ById State). w.wire) h.ids ∙ same_wire width narrow ends Good ex h.steps state good
       ∙ sym (ap (λ (w : World ByNumber State). w.wire) h.numbers)
 
+  -- an event takes the same course on level streams
   same_course : (a : Streams ById State) (b : Streams ByNumber State) (e : Event) → AreLevel a b → course_on a e ≡ course_on b e
   same_course a b e h =
       ap (λ (w : Wire State). course (up_lines w) (down_lines w) a.up_gone a.down_gone e) (level_wire a b h)
       ∙ ap₂ (λ n m. course (up_lines b.world.wire) (down_lines b.world.wire) n m e) h.up_gone h.down_gone
 
+  -- each event keeps streams level
   level : (a : Streams ById State) (b : Streams ByNumber State) (e : Event) → AreLevel a b → AreLevel (flows ends (by_ids width ends) a e) (flows ends (by_numbers width) b e)
   level a b e h =
       let c = course_on b e in
@@ -63,9 +67,11 @@ module _ {State : Type 0} (width : ℕ) (narrow : width ≤ 7) (ends : Ends Stat
         down_gone = refl;
       })
 
+  -- events keep streams level
   levels : (es : List Event) (a : Streams ById State) (b : Streams ByNumber State) → AreLevel a b → AreLevel (flow ends (by_ids width ends) es a) (flow ends (by_numbers width) es b)
   levels [] a b h = h
   levels (e ∷ es) a b h = levels es (flows ends (by_ids width ends) a e) (flows ends (by_numbers width) b e) (level a b e h)
 
+  -- the two runs of the same events are level
   pub level_at : (es : List Event) → AreLevel (streams_by_ids width ends es state) (streams_by_numbers width ends es state)
   level_at es = levels es (untouched (ids_open state)) (untouched (numbers_open state)) (record { steps = []; ids = refl; numbers = refl; up_gone = refl; down_gone = refl })

@@ -18,7 +18,7 @@ use Rattle.gc_world.specs.World.{Numbered, Down_deliver, down_delivered, run}
 use Rattle.gc_world.proofs.Directions.{gone_reached, reaches_again, reaches_same, delivered, passing, bytes_pass, to, one_less, not_idle}
 use Rattle.gc_world.proofs.Shown.{part}
 
--- bytes that complete the front line
+-- bytes that reach past the front line complete it, and then cut the lines behind it
 pub cut_long : (line : List ℕ) (lines : List (List ℕ)) (n : ℕ) → length line ≤ n → cut (line ∷ lines) n ≡ one_more (cut lines (n - length line))
 cut_long line lines n le = ap (λ b. cond {A = Cut} b (record { lines = 0; gone = n }) (one_more (cut lines (n - length line)))) (le-ltb n (length line) le)
 
@@ -47,6 +47,7 @@ module _ (width : ℕ) (d : Direction) (v : Streams ById State) where
     cut_is : cut (lines d v.world.wire) (gone d v + n) ≡ one_more (cut (map with_end behind) (n - used))
     tail : behind ≡ texts d (does width v.world (deliver d)).wire
 
+  -- `IsNext` holds where the front line takes what remains of it, which is some bytes and no more than n
   next : (n used : ℕ) → used ≡ remaining (gone d v) (lines d v.world.wire) → 0 < used → used ≤ n → IsNext n used
   next n used e some le =
       let f = in_front (gone d v) (texts d v.world.wire) (subst (λ k. 0 < k) e some) in
@@ -61,10 +62,11 @@ module _ (width : ℕ) (d : Direction) (v : Streams ById State) where
         tail = sym (one_less ends (by_ids width ends) d v.world ∙ ap (drop 1) f.2);
       }
 
-  -- the streams behind it
+  -- the streams behind the delivery of the front line
   abbrev after : Streams ById State
   after = reaches d v (does width v.world (deliver d)) 0
 
+  -- handing over n bytes is delivering the front line, and handing over the others
   next_same : (n used : ℕ) → IsNext n used → handed width d v n ≡ handed width d (goes_on width v (delivery d)) (n - used)
   next_same n used h =
       let rule = by_ids width ends in
@@ -76,12 +78,13 @@ module _ (width : ℕ) (d : Direction) (v : Streams ById State) where
       ∙ ap₂ (λ q k. to ends rule d after (cut (map with_end q) k)) h.tail more
       ∙ ap (λ x. handed width d x (n - used)) (sym (delivered ends rule d v))
 
+  -- the delivery of the front line is no idle event
   next_idle : (n used : ℕ) → IsNext n used → (goes_on width v (delivery d)).world.wire.idle ≡ v.world.wire.idle
   next_idle n used h =
       let some : length (texts d v.world.wire) ≡ suc (length h.behind) = ap length h.front in
       ap (λ (x : Streams ById State). x.world.wire.idle) (delivered ends (by_ids width ends) d v) ∙ not_idle ends (by_ids width ends) d v.world (omega (arith, some))
 
-  -- no byte is under way
+  -- where no byte is under way, handing over bytes changes nothing
   ended : (n : ℕ) → IsPart (gone d v) (lines d v.world.wire) → remaining (gone d v) (lines d v.world.wire) ≡ 0 → handed width d v n ≡ v
   ended n part e =
       let none = none_under_way (gone d v) (lines d v.world.wire) part e in
@@ -89,11 +92,13 @@ module _ (width : ℕ) (d : Direction) (v : Streams ById State) where
 
 -- A delivery that takes no memory: upward there is none, and downward it is one of a stray.
 module _ (width : ℕ) (v : Streams ById State) where
+  -- bytes upward that take no memory complete no line
   next_takes : (n used : ℕ) → IsNext width Up v n used → TakesNone width v (bytes Up n) → ⊥
   next_takes n used h z =
       let s : suc (cut (map with_end h.behind) (n - used)).lines ≡ 0 = sym (ap (λ (c : Cut). c.lines) h.cut_is) ∙ z in
       absurd (omega (arith, s))
 
+  -- where bytes downward take no memory, neither the delivery of the front line nor the other bytes do
   next_strays : (n used : ℕ) → IsNext width Down v n used → (q : List (Numbered (List ℕ))) → v.world.wire.down ≡ q → TakesNone width v (bytes Down n)
       → TakesNone width v (delivery Down) × TakesNone width (goes_on width v (delivery Down)) (bytes Down (n - used))
   next_strays n used h [] e t = let wrong : [] ≡ h.text ∷ h.behind = sym (ap (map (λ x. x.line)) e) ∙ h.front in cc
@@ -110,6 +115,7 @@ module _ (width : ℕ) (v : Streams ById State) where
             (subst (λ j. AreStrays v.world.client j w.wire.down) count (subst (λ q. AreStrays v.world.client k q) tail all.1)),
       )
 
+-- where the bytes of an event take no memory, neither does the delivery of the front line nor do the other bytes, in either direction
 spared : (width : ℕ) (d : Direction) (v : Streams ById State) (n used : ℕ) → IsNext width d v n used → TakesNone width v (bytes d n)
     → TakesNone width v (delivery d) × TakesNone width (goes_on width v (delivery d)) (bytes d (n - used))
 spared width Up v n used h t = absurd (next_takes width v n used h t)
@@ -123,11 +129,12 @@ pub record IsReached (width : ℕ) (d : Direction) (s : Seen) (v : Streams ById 
   pub spare : TakesNone width v (bytes d n) → TakesNone width now (bytes d left)
   pub idle : now.world.wire.idle ≡ v.world.wire.idle
 
+-- `IsReached` holds before any byte was handed over
 pub reached : (width : ℕ) (d : Direction) (s : Seen) (v : Streams ById State) (n : ℕ) → AreStreamsOf width s v → IsReached width d s v n n
 reached width d s v n h = record { now = v; shows = h; same = refl; spare = λ t. t; idle = refl }
 
 module _ (width : ℕ) (d : Direction) (s : Seen) (v : Streams ById State) (n left : ℕ) (h : IsReached width d s v n left) where
-  -- a line more
+  -- `IsReached` holds also once one more line was delivered
   pub reaches_next : (t : Seen) (used : ℕ) → used ≡ remaining (gone d h.now) (lines d h.now.world.wire) → 0 < used → used ≤ left
       → AreStreamsOf width t (goes_on width h.now (delivery d)) → IsReached width d t v n (left - used)
   reaches_next t used e some le shows =
@@ -140,22 +147,23 @@ module _ (width : ℕ) (d : Direction) (s : Seen) (v : Streams ById State) (n le
         idle = next_idle width d h.now left used one ∙ h.idle;
       }
 
-  -- it takes no memory, where the bytes take none
+  -- the delivery of the front line takes no memory, where the bytes take none
   pub next_spares : (used : ℕ) → used ≡ remaining (gone d h.now) (lines d h.now.world.wire) → 0 < used → used ≤ left → TakesNone width v (bytes d n) → TakesNone width h.now (delivery d)
   next_spares used e some le t = (spared width d h.now left used (next width d h.now left used e some le) (h.spare t)).0
 
-  -- the last bytes complete no line
+  -- where the bytes that are left complete no line, handing them over leads where all n lead
   pub reaches_end : (t : Seen) → AreStreamsOf width t (handed width d h.now left) → AreStreamsOf width t (handed width d v n)
   reaches_end t shows = subst (λ x. AreStreamsOf width t x) h.same shows
 
-  -- no byte is under way any more
+  -- where no byte is under way any more, the streams are those that all n bytes lead to
   pub runs_dry : remaining (gone d h.now) (lines d h.now.world.wire) ≡ 0 → AreStreamsOf width s (handed width d v n)
   runs_dry e = subst (λ x. AreStreamsOf width s x) (sym (ended width d h.now left (part width s h.now h.shows d) e) ∙ h.same) h.shows
 
+-- a test doesn't both hold and fail
 pub is_not : (b : Bool) → b ≡ true → b ≡ false → ⊥
 is_not b t f = let wrong : true ≡ false = sym t ∙ f in cc
 
--- bytes that don't complete a line of which none remain
+-- where bytes neither complete a line nor are fewer than remain of it, none remain
 pub runs_out : (b : Bool) (r l : ℕ) → IsTrue b ↔ ((0 < r) × (r ≤ l)) → b ≡ false → (l < r → ⊥) → r ≡ 0
 runs_out b zero l iff e le = refl
 runs_out b (suc r) l iff e le = absurd (is_not b (iff.1 (omega arith, least (suc r) l le)) e)
@@ -167,7 +175,7 @@ runs_out b (suc r) l iff e le = absurd (is_not b (iff.1 (omega arith, least (suc
         by_either (inl lt) = absurd (no_less lt)
         by_either (inr le1) = le1
 
--- some bytes of lines that are under way are the event
+-- an event of some bytes, where some are under way, hands them over
 pub under_way : (width : ℕ) (d : Direction) (v : Streams ById State) (n r : ℕ) → r ≡ remaining (gone d v) (lines d v.world.wire) → (n ≡ 0 → ⊥) → (r ≡ 0 → ⊥)
     → goes_on width v (bytes d n) ≡ handed width d v n
 under_way width d v n r e not none = bytes_pass ends (by_ids width ends) d v n ∙ by_cases n (lines d v.world.wire) not (λ z. none (e ∙ z))

@@ -32,20 +32,23 @@ use Rattle.gc_world.proofs.Options.{some_is}
 abbrev pub KeptFits : State → Type 0
 KeptFits s = IsFittingKept s.kept
 
+-- where a choice gives a line, its test holds, and the line is the one that it names
 chosen : (b : Bool) (l line : List ℕ) → cond b (Some l) None ≡ Some line → (b ≡ true) × (l ≡ line)
 chosen true l line e = (refl, (cc))
 chosen false l line e = let never : ⊥ = cc in absurd never
 
+-- a kept line that is given for an id is heard with that id
 kept_heard : (k : Option KeptReply) (id : ℕ) (line : List ℕ) → kept_line k (Some id) ≡ Some line → IsFittingKept k → heard line ≡ Some id
 kept_heard None id line e h = let never : ⊥ = cc in absurd never
 kept_heard (Some k) id line e h =
     let c = chosen (eqb k.id id) k.line line e in
     ap heard (sym c.1) ∙ ap id_in (reply_again k.line h.fields h.is_reply) ∙ h.same_id ∙ ap Some (eqb-true k.id id c.0)
 
--- the line of what was executed
+-- the line of carrying out a call reads as the reply with its id
 new_read : (s : State) (id : ℕ) (call : Call) → id < 8 → (let x = exec s call in reply_at (executed_line id x) ≡ Ok (reply_of id x.rc x.answer x.state.precision))
 new_read s id call digit = let x = exec s call in reply_back (reply_of id x.rc x.answer x.state.precision) (record { rc_com = lit< tt; id = digit; rc = (exec_outcome s call).code })
 
+-- the line of carrying out a call may be kept with its id
 new_kept : (s : State) (id : ℕ) (call : Call) → id < 8 → IsFittingReply (record { id = id; line = executed_line id (exec s call) })
 new_kept s id call digit =
     let x = exec s call in
@@ -83,10 +86,11 @@ exchange =
       restart_good = restarted_fits;
     }
 
--- what the instrument keeps
+-- the reply that the instrument keeps
 abbrev pub kept_of : State → Option KeptReply
 kept_of s = s.kept
 
+-- the instrument keeps its last reply as the world's laws ask
 pub keeper : IsKeeper ends kept_of
 keeper =
     record {
@@ -97,33 +101,35 @@ keeper =
       keeps = λ s id call e. subst (λ (x : Handed State). x.state.kept ≡ Some (record { id = id; line = x.reply })) (sym (handed_new s id call e)) refl;
     }
 
--- what was executed didn't have the kept id
+-- a request that was executed didn't have the kept id
 new_id : (s : State) (id : ℕ) (call : Call) → (handed s id call).executed ≡ true → kept_line s.kept (Some id) ≡ None
 new_id s id call e = elim (kept_or_not (kept_line s.kept (Some id))) [
   | inl h ↦ let wrong : false ≡ true = sym (ap (λ (x : Handed State). x.executed) (handed_again s id call h.0 h.1)) ∙ e in let never : ⊥ = cc in absurd never
   | inr none ↦ none
 ]
 
--- the state apart from what is kept
+-- the state with nothing kept
 abbrev pub bare : State → State
 bare s = with_kept None s
 
--- executing a call there
+-- apart from what is kept, executing a request is carrying out its call
 pub bare_after : (s : State) (id : ℕ) (call : Call) → (handed s id call).executed ≡ true → bare (handed s id call).state ≡ (exec (bare s) call).state
 bare_after s id call e =
     ap (λ (x : Handed State). bare x.state) (handed_new s id call (new_id s id call e))
     ∙ sym (ap (λ (x : Executed). x.state) (executes_apart s None call))
 
+-- the reply to a request that was executed is the line of carrying out its call apart from what is kept
 pub bare_line : (s : State) (id : ℕ) (call : Call) → (handed s id call).executed ≡ true → (handed s id call).reply ≡ executed_line id (exec (bare s) call)
 bare_line s id call e =
     ap (λ (x : Handed State). x.reply) (handed_new s id call (new_id s id call e))
     ∙ sym (ap (λ (x : Executed). executed_line id x) (executes_apart s None call))
 
+-- where a state is t apart from what is kept, the state restarted, or as it is, is t restarted, or as it is, apart from what is kept
 pub bare_begun : (b : Bool) (s t : State) → bare s ≡ t → bare (begun restarted b s) ≡ begun restarted b t
 bare_begun false s t e = e
 bare_begun true s t e = ap restarted e
 
--- the id that is kept tells whether a request was executed
+-- where the kept id changed, the request was executed
 pub executed_by_id : (s : State) (id : ℕ) (call : Call) → (option_map (λ (k : KeptReply). k.id) s.kept ≡ option_map (λ (k : KeptReply). k.id)
     (handed s id call).state.kept → ⊥) → (handed s id call).executed ≡ true
 executed_by_id s id call other = elim (kept_or_not (kept_line s.kept (Some id))) [
@@ -131,12 +137,14 @@ executed_by_id s id call other = elim (kept_or_not (kept_line s.kept (Some id)))
   | inr e ↦ ap (λ (x : Handed State). x.executed) (handed_new s id call e)
 ]
 
+-- where no line is kept for an id, the kept id is another
 not_kept : (k : Option KeptReply) (id : ℕ) → kept_line k (Some id) ≡ None → option_map (λ (k : KeptReply). k.id) k ≡ Some id → ⊥
 not_kept None id e same = cc
 not_kept (Some k) id e same =
     let own : k.id ≡ id = some_is k.id id same in
     let wrong : Some k.line ≡ None = sym (ap (λ b. cond b (Some k.line) None) (eq-eqb k.id id own)) ∙ e in cc
 
+-- where the kept id is as before, the request was a repeat
 pub repeated_by_id : (s : State) (id : ℕ) (call : Call) → option_map (λ (k : KeptReply). k.id) s.kept ≡ option_map (λ (k : KeptReply). k.id)
     (handed s id call).state.kept → (handed s id call).executed ≡ false
 repeated_by_id s id call same = elim (kept_or_not (kept_line s.kept (Some id))) [
@@ -144,10 +152,12 @@ repeated_by_id s id call same = elim (kept_or_not (kept_line s.kept (Some id))) 
   | inr e ↦ absurd (not_kept s.kept id e (same ∙ ap (λ (x : Handed State). option_map (λ (k : KeptReply). k.id) x.state.kept) (handed_new s id call e)))
 ]
 
+-- a choice of two fine readings is fine
 fine_if : (b : Bool) (value refusal : Reading) → IsValueOrRefusal value → IsValueOrRefusal refusal → IsValueOrRefusal (cond b value refusal)
 fine_if true value refusal v r = v
 fine_if false value refusal v r = r
 
+-- the reading of an execution is a value or a refusal
 fine_reading : (x : Executed) → IsValueOrRefusal (reading_of x)
 fine_reading x = fine_if (eqb x.rc 0) (Value (rounded_answer x.state.precision x.answer)) (Refused x.rc) tt tt
 

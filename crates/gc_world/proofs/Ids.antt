@@ -2,11 +2,11 @@
 use Rattle.std.proofs.Common.{◌≡◌, ℕ, ◌+◌, ◌-◌, ◌%◌, ◌<◌, ◌≤◌, arith}
 use Rattle.gc_client.specs.Rule.{place}
 
--- the place of a number under way that is not settled
+-- the id of a number under way that isn't settled has as its place how far the number is above the count of settled requests
 pub place_within : (since count total number : ℕ) → since ≤ count → count ≤ number → number < total → total ≤ count + 7
     → place ((total - since) % 8) (total - count) ((number - since) % 8) ≡ number - count
 place_within since count total number h1 h2 h3 h4 = omega arith
 
--- the place of the last settled one, which no window reaches
+-- the place of the id of the last request settled is 7, which no window reaches
 pub place_before : (since count total number : ℕ) → since ≤ number → number + 1 ≡ count → count ≤ total → total ≤ count + 7 → place ((total - since) % 8) (total - count) ((number - since) % 8) ≡ 7
 place_before since count total number h1 h2 h3 h4 = omega arith

@@ -13,11 +13,12 @@ use Rattle.gc_world.proofs.Options.{none_is_not}
 use Rattle.gc_world.proofs.Places.{get_map, get_more}
 use Rattle.gc_world.proofs.Sound.{Sound, sound_step}
 
--- what a step does to a request that waits
+-- what a step makes of a request that waits
 abbrev pub touched : Step → Pending → Pending
 touched (Expire now) p = expired now p
 touched e p = p
 
+-- what steps make of a request that waits
 abbrev pub touched_all : List Step → Pending → Pending
 touched_all [] p = p
 touched_all (e ∷ es) p = touched_all es (touched e p)
@@ -27,30 +28,36 @@ pub record IsOnward (e : Step) (c d : ByNumber) : Type 0 where
   pub count : c.count ≤ d.count
   pub entries : (n : ℕ) (p : Pending) → slice_get c.requests n ≡ Some p → d.count ≤ n → slice_get d.requests n ≡ Some (touched e p)
 
+-- a client that a step leaves as it is goes onward, where the step touches no request
 stays : (e : Step) (c : ByNumber) → ((p : Pending) → touched e p ≡ p) → IsOnward e c c
 stays e c t = record { count = omega arith; entries = λ n p h le. h ∙ ap Some (sym (t p)) }
 
+-- a moment marks request n, which waits
 expired_at : (now k : ℕ) (ps : List Pending) (n : ℕ) (p : Pending) → k ≤ n → slice_get ps n ≡ Some p → slice_get (take k ps ++ map (expired now) (drop k ps)) n ≡ Some (expired now p)
 expired_at now zero ps n p le h = get_map (expired now) ps n p h
 expired_at now (suc k) [] n p le h = absurd (none_is_not p h)
 expired_at now (suc k) (q ∷ ps) zero p le h = absurd (omega (arith, le))
 expired_at now (suc k) (q ∷ ps) (suc n) p le h = expired_at now k ps n p (omega (arith, le)) h
 
+-- `IsOnward` holds of a delivery to the client, by the reply
 onward_reply : (c : ByNumber) (x : Numbered (List ℕ)) (old : Bool) → ltb x.number c.count ≡ old → IsOnward Down_deliver c (number_reply c x old).client
 onward_reply c x true t = stays Down_deliver c (λ p. refl)
 onward_reply c x false t = record { count = omega (arith, ltb-false _ _ t); entries = λ n p h le. h }
 
 module _ {State : Type 0} (width : ℕ) (ends : Ends State) where
+  -- `IsOnward` holds of a send
   onward_send : (w : World ByNumber State) (target : ℕ) (call : Call) (deadline : ℕ) (full : Bool)
       → IsOnward (Send target call deadline) w.client (requested w target call (number_send w.client target call deadline full)).client
   onward_send w target call deadline true = stays (Send target call deadline) w.client (λ p. refl)
   onward_send w target call deadline false =
       record { count = omega arith; entries = λ n p h le. get_more w.client.requests (pending_of target call deadline ∷ []) n p h }
 
+  -- `IsOnward` holds of a delivery to the client
   onward_down : (w : World ByNumber State) (q : List (Numbered (List ℕ))) → IsOnward Down_deliver w.client (down_delivered (by_numbers width) w q).client
   onward_down w [] = stays Down_deliver w.client (λ p. refl)
   onward_down w (x ∷ rest) = onward_reply w.client x (ltb x.number w.client.count) refl
 
+  -- `IsOnward` holds of a restart of the client
   onward_restart : (w : World ByNumber State) (up : List (Numbered Request)) (down : List (Numbered (List ℕ))) → w.client.count ≤ length w.client.requests
       → IsOnward Restart_client w.client (client_restarted ends (by_numbers width) w up down).client
   onward_restart w [] [] within =
@@ -58,6 +65,7 @@ module _ {State : Type 0} (width : ℕ) (ends : Ends State) where
   onward_restart w [] (y ∷ down) within = stays Restart_client w.client (λ p. refl)
   onward_restart w (x ∷ up) down within = stays Restart_client w.client (λ p. refl)
 
+  -- `IsOnward` holds of each step
   onward : (w : World ByNumber State) (e : Step) → w.client.count ≤ length w.client.requests → IsOnward e w.client (happens ends (by_numbers width) w e).client
   onward w (Send target call deadline) within = onward_send w target call deadline (eqb (length w.client.requests - w.client.count) width)
   onward w Up_deliver within = stays Up_deliver w.client (λ p. refl)
@@ -72,6 +80,7 @@ module _ {State : Type 0} (width : ℕ) (ends : Ends State) where
   onward w Nothing within = stays Nothing w.client (λ p. refl)
 
   module _ (Good : State → Type 0) (ex : IsExchange ends Good) where
+    -- a run settles no fewer
     count_grows : (es : List Step) (w : World ByNumber State) → Sound width ends Good w → w.client.count ≤ (run ends (by_numbers width) es w).client.count
     count_grows [] w s = omega arith
     count_grows (e ∷ es) w s =

@@ -11,48 +11,57 @@ use Rattle.gc_world.specs.World.{Ends, Rule, Step, Up_deliver, Up_lose, Up_repea
 use Rattle.gc_world.proofs.Flow.{taken}
 use Rattle.gc_world.proofs.Marks.{touched, touched_all}
 
--- what an event does to the mark of a request that waits
+-- what an event does to a request that waits: its deadline stays, and it is given up by a moment at or past that, or before
 pub record IsTouched (e : Event) (p q : Pending) : Type 0 where
   pub deadline : q.deadline ≡ p.deadline
   pub stays : p.given_up ≡ true → q.given_up ≡ true
   pub early : p.given_up ≡ false → ((now : ℕ) → e ≡ Expire now → now < p.deadline) → q.given_up ≡ false
   pub reached : (now : ℕ) → e ≡ Expire now → p.deadline ≤ now → q.given_up ≡ true
 
+-- an event that is no moment leaves a request as it is
 tells_none : (e : Event) (p : Pending) → ((now : ℕ) → e ≡ Expire now → ⊥) → IsTouched e p p
 tells_none e p none = record { deadline = refl; stays = λ g. g; early = λ g h. g; reached = λ now is le. absurd (none now is) }
 
+-- an event is one moment
 moment_is : (a b : ℕ) → Expire a ≡ Expire b → a ≡ b
 moment_is a b e = cc
 
+-- anything or true is true
 or_true : (b : Bool) → b || true ≡ true
 or_true true = refl
 or_true false = refl
 
+-- a test or false is the test
 or_false : (b : Bool) → b || false ≡ b
 or_false true = refl
 or_false false = refl
 
--- steps that touch nothing
+-- a step leaves every request that waits as it is
 abbrev IsQuiet : Step → Type 0
 IsQuiet step = (p : Pending) → touched step p ≡ p
 
+-- a quiet step, if it is possible, leaves requests as they are
 quiet_line : (k gone : ℕ) (step : Step) (p : Pending) (b : Bool) → IsQuiet step → touched_all (cond b World.Nothing step ∷ []) p ≡ p
 quiet_line k gone step p true q = refl
 quiet_line k gone step p false q = q p
 
+-- a quiet step made k times leaves requests as they are
 quiet_all : (step : Step) (k : ℕ) (p : Pending) → IsQuiet step → touched_all (replicate k step) p ≡ p
 quiet_all step zero p q = refl
 quiet_all step (suc k) p q = ap (touched_all (replicate k step)) (q p) ∙ quiet_all step k p q
 
+-- the bytes of an event whose step is quiet leave requests as they are
 quiet_passed : (step : Step) (lines : List (List ℕ)) (gone k : ℕ) (p : Pending) → IsQuiet step → touched_all (passed step lines gone k) p ≡ p
 quiet_passed step [] gone k p q = refl
 quiet_passed step (line ∷ lines) gone zero p q = refl
 quiet_passed step (line ∷ lines) gone (suc k) p q = quiet_all step (cut (line ∷ lines) (gone + suc k)).lines p q
 
+-- what steps and then others make of a request is what all of them make
 touched_append : (xs ys : List Step) (p : Pending) → touched_all (xs ++ ys) p ≡ touched_all ys (touched_all xs p)
 touched_append [] ys p = refl
 touched_append (x ∷ xs) ys p = touched_append xs ys (touched x p)
 
+-- an event that leaves a request as it is touches it so
 still : (e : Event) (p q : Pending) → q ≡ p → IsTouched e p p → IsTouched e p q
 still e p q is h = subst (λ x. IsTouched e p x) (sym is) h
 
@@ -61,6 +70,7 @@ module _ {Client State : Type 0} (ends : Ends State) (rule : Rule Client) where
   abbrev pub marked : Streams Client State → Event → Pending → Pending
   marked v e p = touched_all (course_on v e).steps p
 
+  -- each event touches a request as `IsTouched` says
   touch : (v : Streams Client State) (e : Event) (p : Pending) → IsTouched e p (marked v e p)
   touch v (Expire now) p =
       record {
@@ -82,32 +92,38 @@ module _ {Client State : Type 0} (ends : Ends State) (rule : Rule Client) where
   touch v RestartInstrument p = tells_none RestartInstrument p (λ now is. cc)
 
 module _ {A : Type 0} where
+  -- a list has its first element
   at_head : (x y : A) (xs : List A) → x ≡ y → Contains (x ∷ xs) y
   at_head x y xs e = (zero, omega arith, e)
 
+  -- a list has what its rest has
   at_tail : (x y : A) (xs : List A) → Contains xs y → Contains (x ∷ xs) y
   at_tail x y xs (k, lt, is) = (suc k, omega (arith, lt), is)
 
+  -- what a list has is its first element or in its rest
   head_or_tail : (x y : A) (xs : List A) → Contains (x ∷ xs) y → (x ≡ y) ⊎ Contains xs y
   head_or_tail x y xs (zero, lt, is) = inl is
   head_or_tail x y xs (suc k, lt, is) = inr (k, omega (arith, lt), is)
 
+  -- the empty list has no element
   none_in : (y : A) → Contains [] y → ⊥
   none_in y (k, lt, is) = absurd (omega (arith, lt))
 
 module _ {Client State : Type 0} (ends : Ends State) (rule : Rule Client) where
-  -- what these events leave of it
+  -- what these events leave of a request that waits
   abbrev pub marked_all : List Event → Streams Client State → Pending → Pending
   marked_all es v p = touched_all (taken ends rule es v) p
 
+  -- what events with one more in front leave of a request is what they leave of what that one left
   marked_more : (e : Event) (es : List Event) (v : Streams Client State) (p : Pending) → marked_all (e ∷ es) v p ≡ marked_all es (flows ends rule v e) (marked ends rule v e p)
   marked_more e es v p = touched_append (course_on v e).steps (taken ends rule es (flows ends rule v e)) p
 
+  -- a request that was given up stays so
   stays_marked : (es : List Event) (v : Streams Client State) (p : Pending) → p.given_up ≡ true → (marked_all es v p).given_up ≡ true
   stays_marked [] v p g = g
   stays_marked (e ∷ es) v p g = ap (λ (q : Pending). q.given_up) (marked_more e es v p) ∙ stays_marked es (flows ends rule v e) (marked ends rule v e p) ((touch ends rule v e p).stays g)
 
-  -- no moment reached the deadline
+  -- where no moment among the events reached its deadline, a request isn't given up
   pub in_time : (es : List Event) (v : Streams Client State) (p : Pending) → p.given_up ≡ false → ((now : ℕ) → Contains es (Expire now) → now < p.deadline) → (marked_all es v p).given_up ≡ false
   in_time [] v p g h = g
   in_time (e ∷ es) v p g h =
@@ -116,13 +132,14 @@ module _ {Client State : Type 0} (ends : Ends State) (rule : Rule Client) where
       ∙ in_time es (flows ends rule v e) (marked ends rule v e p) (t.early g (λ now is. h now (at_head e (Expire now) es is)))
       (λ now has. subst (λ d. now < d) (sym t.deadline) (h now (at_tail e (Expire now) es has)))
 
+  -- where a moment at or past its deadline is the first event or among the others, a request is given up
   late_by : (e : Event) (es : List Event) (v : Streams Client State) (p : Pending) (now : ℕ) → p.deadline ≤ now
       → (Contains es (Expire now) → (marked_all es (flows ends rule v e) (marked ends rule v e p)).given_up ≡ true)
       → (e ≡ Expire now) ⊎ Contains es (Expire now) → (marked_all es (flows ends rule v e) (marked ends rule v e p)).given_up ≡ true
   late_by e es v p now le rest (inl is) = stays_marked es (flows ends rule v e) (marked ends rule v e p) ((touch ends rule v e p).reached now is le)
   late_by e es v p now le rest (inr has) = rest has
 
-  -- one did
+  -- where a moment among the events reached its deadline, a request is given up
   pub too_late : (es : List Event) (v : Streams Client State) (p : Pending) (now : ℕ) → Contains es (Expire now) → p.deadline ≤ now → (marked_all es v p).given_up ≡ true
   too_late [] v p now has le = absurd (none_in (Expire now) has)
   too_late (e ∷ es) v p now has le =
@@ -131,17 +148,20 @@ module _ {Client State : Type 0} (ends : Ends State) (rule : Rule Client) where
       (λ more. too_late es (flows ends rule v e) (marked ends rule v e p) now more (subst (λ d. d ≤ now) (sym (touch ends rule v e p).deadline) le))
       (head_or_tail e (Expire now) es has)
 
--- an event by itself
+-- an event is no moment at or past the deadline
 abbrev Early : ℕ → Event → Type 0
 Early deadline e = (now : ℕ) → e ≡ Expire now → now < deadline
 
+-- an event is a moment at or past the deadline
 abbrev Reaches : ℕ → Event → Type 0
 Reaches deadline e = (now : ℕ) × (e ≡ Expire now) × (deadline ≤ now)
 
+-- a moment lies before a deadline, or reaches it
 moment_tells : (deadline now : ℕ) (b : Bool) → leb deadline now ≡ b → Early deadline (Expire now) ⊎ Reaches deadline (Expire now)
 moment_tells deadline now true t = inr (now, refl, leb-true _ _ t)
 moment_tells deadline now false t = inl (λ m is. omega (arith, moment_is now m is, leb-false _ _ t))
 
+-- an event is early, or reaches the deadline
 event_tells : (deadline : ℕ) (e : Event) → Early deadline e ⊎ Reaches deadline e
 event_tells deadline (Expire now) = moment_tells deadline now (leb deadline now) refl
 event_tells deadline (Send target call d) = inl (λ now is. cc)
@@ -156,18 +176,20 @@ event_tells deadline (DownRepeat k) = inl (λ now is. cc)
 event_tells deadline RestartClient = inl (λ now is. cc)
 event_tells deadline RestartInstrument = inl (λ now is. cc)
 
--- each moment lay before the deadline
+-- each moment among the events lies before the deadline
 abbrev pub AllEarly : ℕ → List Event → Type 0
 AllEarly deadline es = (now : ℕ) → Contains es (Expire now) → now < deadline
 
--- one lay at or past it
+-- a moment among the events is at or past the deadline
 abbrev pub OneReaches : ℕ → List Event → Type 0
 OneReaches deadline es = (now : ℕ) × Contains es (Expire now) × (deadline ≤ now)
 
+-- with an early event in front of early ones, each moment lies before the deadline
 earlier_or : (deadline now : ℕ) (e : Event) (es : List Event) → Early deadline e → AllEarly deadline es → (e ≡ Expire now) ⊎ Contains es (Expire now) → now < deadline
 earlier_or deadline now e es h hs (inl is) = h now is
 earlier_or deadline now e es h hs (inr has) = hs now has
 
+-- with one more event in front, all are early or one reaches the deadline
 either_tells : (deadline : ℕ) (e : Event) (es : List Event) → Early deadline e ⊎ Reaches deadline e → AllEarly deadline es ⊎ OneReaches deadline es
     → AllEarly deadline (e ∷ es) ⊎ OneReaches deadline (e ∷ es)
 either_tells deadline e es (inr (now, is, le)) rest = inr (now, at_head e (Expire now) es is, le)

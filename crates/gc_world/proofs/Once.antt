@@ -20,6 +20,7 @@ use Rattle.gc_world.proofs.Rows.{each_append, each_more, each_number, each_witho
 use Rattle.gc_world.proofs.Sound.{IsGoing, Sound, keeps, sound_open, length_expired}
 use Rattle.gc_world.proofs.Stable.{IsStable, stable_all}
 
+-- increasing numbers with one above them all appended increase
 increasing_push : (low n : ℕ) (xs : List ℕ) → low ≤ n → Each (λ x. x < n) xs → Increasing low xs → Increasing low (xs ++ n ∷ [])
 increasing_push low n [] le b h = (le, tt)
 increasing_push low n (x ∷ xs) le b h = (h.0, increasing_push (x + 1) n xs (omega (arith, b.0)) b.1 h.1)
@@ -29,6 +30,7 @@ rising_each : (low : ℕ) (xs : List (Numbered Request)) → Rising low (numbers
 rising_each low [] h = tt
 rising_each low (x ∷ xs) h = (h.0, each_more (λ y. x.number + 1 ≤ y.number + 1) (λ y. low ≤ y.number + 1) (λ y k. omega (arith, k, h.0)) xs (rising_each (x.number + 1) xs h.1))
 
+-- in numbers that never fall, those behind one of them don't fall below it
 rising_tail : (low n : ℕ) (xs ys : List ℕ) → Rising low (xs ++ n ∷ ys) → (low ≤ n + 1) × Rising (n + 1) ys
 rising_tail low n [] ys h = h
 rising_tail low n (x ∷ xs) ys h = let r = rising_tail (x + 1) n xs ys h.1 in (omega (arith, h.0, r.0), r.1)
@@ -38,39 +40,47 @@ abbrev Above : Option KeptReply → ℕ → ℕ → ℕ → List (Numbered Reque
 Above None since count top up = Each (λ x. top ≤ x.number) up
 Above (Some k) since count top up = (since < top) × (k.id ≡ (top - 1 - since) % 8) × (count ≤ top) × Each (λ x. top ≤ x.number + 1) up
 
+-- `Above` holds where no request is under way and nothing is kept
 above_none : (since count top : ℕ) (up : List (Numbered Request)) (kept : Option KeptReply) → up ≡ [] → kept ≡ None → Above kept since count top up
 above_none since count top up kept e none = subst (λ k. Above k since count top up) (sym none) (subst (λ q. Each (λ x. top ≤ x.number) q) (sym e) tt)
 
+-- `Above` holds also with a request at the back whose number is the top or more
 above_push : (kept : Option KeptReply) (since count top : ℕ) (up : List (Numbered Request)) (x : Numbered Request) → top ≤ x.number
     → Above kept since count top up → Above kept since count top (up ++ x ∷ [])
 above_push None since count top up x le h = each_append _ up (x ∷ []) h (le, tt)
 above_push (Some k) since count top up x le h = (h.0, h.1, h.2, each_append _ up (x ∷ []) h.3 (omega arith, tt))
 
+-- `Above` holds also once a request is lost
 above_without : (kept : Option KeptReply) (since count top k : ℕ) (up : List (Numbered Request)) → Above kept since count top up → Above kept since count top (without k up)
 above_without None since count top k up h = each_without _ k up h
 above_without (Some q) since count top k up h = (h.0, h.1, h.2, each_without _ k up h.3)
 
+-- `Above` holds also once a request is repeated
 above_doubled : (kept : Option KeptReply) (since count top k : ℕ) (up : List (Numbered Request)) → Above kept since count top up → Above kept since count top (doubled k up)
 above_doubled None since count top k up h = each_doubled _ k up h
 above_doubled (Some q) since count top k up h = (h.0, h.1, h.2, each_doubled _ k up h.3)
 
+-- `Above` holds also once the request in front is handed over
 above_tail : (kept : Option KeptReply) (since count top : ℕ) (x : Numbered Request) (up : List (Numbered Request)) → Above kept since count top (x ∷ up) → Above kept since count top up
 above_tail None since count top x up h = h.1
 above_tail (Some q) since count top x up h = (h.0, h.1, h.2, h.3.1)
 
+-- `Above` holds also with another count that is at most the top
 above_count : (kept : Option KeptReply) (since count count' top : ℕ) (up : List (Numbered Request)) → count' ≤ top → Above kept since count top up → Above kept since count' top up
 above_count None since count count' top up le h = h
 above_count (Some q) since count count' top up le h = (h.0, h.1, le, h.3)
 
+-- where a choice gives a line, its test holds
 chosen : (b : Bool) (l line : List ℕ) → (cond b (Some l) None ≡ Some line) → b ≡ true
 chosen true l line e = refl
 chosen false l line e = cc
 
+-- where a choice gives no line, its test fails
 not_chosen : (b : Bool) (l : List ℕ) → (cond b (Some l) None ≡ None) → b ≡ false
 not_chosen true l e = cc
 not_chosen false l e = refl
 
--- a request that is not known again is above all that were executed
+-- a request with another id than the kept one has a number above all that were executed
 is_new : (kept : Option KeptReply) (since count top : ℕ) (x : Numbered Request) (up : List (Numbered Request))
     → kept_line kept (Some ((x.number - since) % 8)) ≡ None → Above kept since count top (x ∷ up) → top ≤ x.number
 is_new None since count top x up e h = h.0
@@ -81,7 +91,7 @@ is_new (Some k) since count top x up e h =
       | inr other ↦ omega (arith, h.3.0, other)
     ]
 
--- one that is known again is the last that was executed
+-- a request with the kept id is the last that was executed
 is_last : (width : ℕ) (kept : Option KeptReply) (since count top total : ℕ) (x : Numbered Request) (up : List (Numbered Request)) (line : List ℕ) → width ≤ 7
     → kept_line kept (Some ((x.number - since) % 8)) ≡ Some line → since ≤ x.number → x.number < total → total ≤ count + width
     → Above kept since count top (x ∷ up) → x.number + 1 ≡ top
@@ -95,10 +105,11 @@ abbrev Held : Option KeptReply → ℕ → List (Numbered (List ℕ)) → Type 0
 Held None top replies = Unit {0}
 Held (Some k) top replies = Has (record { number = top - 1; line = k.line }) replies
 
+-- `Held` holds where nothing is kept
 held_none : (top : ℕ) (replies : List (Numbered (List ℕ))) (kept : Option KeptReply) → kept ≡ None → Held kept top replies
 held_none top replies kept none = subst (λ k. Held k top replies) (sym none) tt
 
--- the kept line is the reply to that request
+-- where n is the number executed last, the kept line is among the replies as the one to request n
 held_line : (kept : Option KeptReply) (id n top : ℕ) (line : List ℕ) (replies : List (Numbered (List ℕ))) → kept_line kept (Some id) ≡ Some line → n + 1 ≡ top
     → Held kept top replies → Has (record { number = n; line = line }) replies
 held_line None id n top line replies e t h = cc
@@ -109,14 +120,16 @@ held_line (Some k) id n top line replies e t h =
     let m : top - 1 ≡ n = omega arith in
     subst (λ i. Has (record { number = i; line = line }) replies) m (subst (λ (q : List ℕ). Has (record { number = top - 1; line = q }) replies) l h)
 
--- the number last executed, while its reply is kept
+-- while a reply is kept, the number below the top was executed last
 abbrev IsLast : Option KeptReply → ℕ → List ℕ → Type 0
 IsLast None top executed = Unit {0}
 IsLast (Some k) top executed = (earlier : List ℕ) × (executed ≡ earlier ++ (top - 1) ∷ [])
 
+-- `IsLast` holds where nothing is kept
 last_none : (top : ℕ) (executed : List ℕ) (kept : Option KeptReply) → kept ≡ None → IsLast kept top executed
 last_none top executed kept none = subst (λ k. IsLast k top executed) (sym none) tt
 
+-- while a reply is kept, requests under way have the number executed last or one of the `width` above it
 recent_row : (width since count top total : ℕ) (k : KeptReply) (executed earlier : List ℕ) (up : List (Numbered Request))
     → executed ≡ earlier ++ (top - 1) ∷ [] → since < top → count ≤ top → total ≤ count + width
     → Each (λ x. top ≤ x.number + 1) up → Each (IsGoing since total) up → IsRecent width (Some k) executed (numbers up)
@@ -127,6 +140,7 @@ recent_row width since count top total k executed earlier up is some counted few
     both [] a g = tt
     both (x ∷ xs) a g = ((omega (arith, a.0), omega (arith, g.0.sent, some, counted, few)), both xs a.1 g.1)
 
+-- `IsRecent` holds where `Above` and `IsLast` do, whether a reply is kept or not
 recent_of : (width since count top total : ℕ) (kept : Option KeptReply) (executed : List ℕ) (up : List (Numbered Request)) → Above kept since count top up
     → IsLast kept top executed → total ≤ count + width → Each (IsGoing since total) up → IsRecent width kept executed (numbers up)
 recent_of width since count top total None executed up above last few going = tt
@@ -144,6 +158,8 @@ module _ {State : Type 0} (width : ℕ) (narrow : width ≤ 7) (ends : Ends Stat
     pub held : Held (kept w.state) top replies
     pub lines : Each (IsOf w.sent) w.up
 
+  -- each request was executed once: the executed numbers increase, they and those of the replies under way are below `top`, and `Above`,
+  -- `IsLast` and `IsTold` hold of the wire with this `top`
   pub record IsOnce (c : ByNumber) (w : Wire State) : Type 0 where
     pub top : ℕ
     pub climbs : Increasing 0 w.executed
@@ -159,7 +175,7 @@ module _ {State : Type 0} (width : ℕ) (narrow : width ≤ 7) (ends : Ends Stat
     pub sound : Sound width ends Good w
     pub once : IsOnce w.client w.wire
 
-  -- one more is executed
+  -- `IsTold` holds also once the front request, whose id isn't the kept one, was executed
   told_new : (w : Wire State) (x : Numbered Request) (rest : List (Numbered Request)) (top : ℕ) → w.up ≡ x ∷ rest → (hd : Handed State)
       → ends.handed w.state x.line.id x.line.call ≡ hd → kept_line (kept w.state) (Some x.line.id) ≡ None → IsTold w top → hd.executed ≡ true
       → IsTold (replied w x.number rest (record hd { executed = true })) (x.number + 1)
@@ -194,6 +210,7 @@ module _ {State : Type 0} (width : ℕ) (narrow : width ≤ 7) (ends : Ends Stat
         lines = of.1;
       }
 
+  -- `IsOnce` holds also once the front request, whose id isn't the kept one, was executed
   once_new : (w : World ByNumber State) (x : Numbered Request) (rest : List (Numbered Request)) (hd : Handed State) → w.wire.up ≡ x ∷ rest
       → ends.handed w.wire.state x.line.id x.line.call ≡ hd → kept_line (kept w.wire.state) (Some x.line.id) ≡ None → hd.executed ≡ true
       → Sound width ends Good w → IsOnce w.client w.wire → IsOnce w.client (replied w.wire x.number rest (record hd { executed = true }))
@@ -218,7 +235,7 @@ module _ {State : Type 0} (width : ℕ) (narrow : width ≤ 7) (ends : Ends Stat
         told = told_new w.wire x rest h.top q hd is none h.told exe;
       }
 
-  -- the last one comes again
+  -- `IsOnce` holds also once the front request, whose id is the kept one, got the kept line again
   once_again : (w : World ByNumber State) (x : Numbered Request) (rest : List (Numbered Request)) (line : List ℕ) → w.wire.up ≡ x ∷ rest
       → kept_line (kept w.wire.state) (Some x.line.id) ≡ Some line → Sound width ends Good w → IsOnce w.client w.wire
       → IsOnce w.client (replied w.wire x.number rest (record { state = w.wire.state; reply = line; executed = false }))
@@ -249,6 +266,7 @@ module _ {State : Type 0} (width : ℕ) (narrow : width ≤ 7) (ends : Ends Stat
         };
       }
 
+  -- `IsOnce` holds also once the front request was handed to the instrument
   once_handed : (w : World ByNumber State) (x : Numbered Request) (rest : List (Numbered Request)) (hd : Handed State) (b : Bool) (o : Option (List ℕ))
       → hd.executed ≡ b → w.wire.up ≡ x ∷ rest → ends.handed w.wire.state x.line.id x.line.call ≡ hd → kept_line (kept w.wire.state) (Some x.line.id) ≡ o
       → Sound width ends Good w → IsOnce w.client w.wire → IsOnce w.client (replied w.wire x.number rest hd)
@@ -258,6 +276,7 @@ module _ {State : Type 0} (width : ℕ) (narrow : width ≤ 7) (ends : Ends Stat
       let exe : hd.executed ≡ true = sym (ap (λ (k : Handed State). k.executed) is) ∙ keeper.executes w.wire.state x.line.id x.line.call o in
       subst (λ v. IsOnce w.client (replied w.wire x.number rest (record hd { executed = v }))) (sym exe) (once_new w x rest hd q is o exe s h)
 
+  -- `IsOnce` holds also once a client sent one more request
   once_sent : (w : World ByNumber State) (target : ℕ) (call : Call) (deadline : ℕ) (x : Sending ByNumber) → x.id < 8
       → length x.client.requests ≡ length w.client.requests + 1 → x.client.since ≡ w.client.since → x.client.count ≡ w.client.count → Sound width ends Good w
       → IsOnce w.client w.wire → IsOnce x.client (requested w target call (Some x)).wire
@@ -288,6 +307,7 @@ module _ {State : Type 0} (width : ℕ) (narrow : width ≤ 7) (ends : Ends Stat
         };
       }
 
+  -- `IsOnce` holds also once the client that is told the numbers sent a request
   once_send : (w : World ByNumber State) (target : ℕ) (call : Call) (deadline : ℕ) (full : Bool) (x : Sending ByNumber)
       → number_send w.client target call deadline full ≡ Some x → Sound width ends Good w → IsOnce w.client w.wire
       → IsOnce x.client (requested w target call (Some x)).wire
@@ -302,18 +322,20 @@ module _ {State : Type 0} (width : ℕ) (narrow : width ≤ 7) (ends : Ends Stat
       subst (λ z. IsOnce z.client (requested w target call (Some z)).wire) (some_is y x e)
       (once_sent w target call deadline y (omega arith) (length_push c.requests (pending_of target call deadline)) refl refl s h)
 
-  -- the upward queue is another one
+  -- `IsTold` holds also with other queues, where each upward request is the one that was sent with its number
   told_up : (w : Wire State) (top : ℕ) (up : List (Numbered Request)) (down : List (Numbered (List ℕ))) → Each (IsOf w.sent) up → IsTold w top → IsTold (record w { up = up; down = down }) top
   told_up w top up down u t = record { replies = t.replies; replays = t.replays; among = t.among; each = t.each; begins = t.begins; held = t.held; lines = u }
 
+  -- `IsOnce` holds also with other queues, of which its clauses hold
   once_queues : (c : ByNumber) (w : Wire State) (up : List (Numbered Request)) (down : List (Numbered (List ℕ))) (h : IsOnce c w)
       → Each (λ x. x.number < h.top) down → Above (kept w.state) c.since c.count h.top up → Each (IsOf w.sent) up → IsOnce c (record w { up = up; down = down })
   once_queues c w up down h d u l = record { top = h.top; last = h.last; climbs = h.climbs; below = h.below; sent = h.sent; made = d; above = u; told = told_up w h.top up down l h.told }
 
-  -- settlements, replies under way and the two counts may change
+  -- `IsTold` holds also with other settlements, replies under way and counts
   told_else : (w : Wire State) (top : ℕ) (settled : _) (down : _) (refused idle : ℕ) → IsTold w top → IsTold (record w { settled = settled; down = down; refused = refused; idle = idle }) top
   told_else w top settled down refused idle t = record { replies = t.replies; replays = t.replays; among = t.among; each = t.each; begins = t.begins; held = t.held; lines = t.lines }
 
+  -- `IsOnce` holds also with other settlements and counts
   once_else : (c : ByNumber) (w : Wire State) (settled : _) (refused idle : ℕ) → IsOnce c w → IsOnce c (record w { settled = settled; refused = refused; idle = idle })
   once_else c w settled refused idle h = record {
     top = h.top;
@@ -327,6 +349,7 @@ module _ {State : Type 0} (width : ℕ) (narrow : width ≤ 7) (ends : Ends Stat
     told = told_else w h.top settled w.down refused idle h.told;
   }
 
+  -- `IsOnce` holds also once the front reply was delivered
   once_reply : (w : World ByNumber State) (x : Numbered (List ℕ)) (rest : List (Numbered (List ℕ))) (old : Bool) → w.wire.down ≡ x ∷ rest
       → IsOnce w.client w.wire → IsOnce (number_reply w.client x old).client (with_settled (record w.wire { down = rest }) (number_reply w.client x old)).wire
   once_reply w x rest true e h =
@@ -347,7 +370,7 @@ module _ {State : Type 0} (width : ℕ) (narrow : width ≤ 7) (ends : Ends Stat
             told_else w.wire h.top _ rest w.wire.refused w.wire.idle h.told;
       }
 
-  -- the instrument forgets what it kept
+  -- `IsOnce` holds also once the instrument restarted while no request was under way, which makes it forget what it kept
   once_forgotten : (c : ByNumber) (w : Wire State) (count since : ℕ) → w.up ≡ [] → IsOnce c w → IsOnce (record c { count = count; since = since }) (started ends w true)
   once_forgotten c w count since e h =
       let t = h.told in
@@ -370,6 +393,7 @@ module _ {State : Type 0} (width : ℕ) (narrow : width ≤ 7) (ends : Ends Stat
         };
       }
 
+  -- `IsOnce` holds also once the client got a moment
   once_expired : (w : World ByNumber State) (now : ℕ) → IsOnce w.client w.wire → IsOnce ((by_numbers width).expire w.client now) w.wire
   once_expired w now h = record {
     top = h.top;
@@ -383,7 +407,7 @@ module _ {State : Type 0} (width : ℕ) (narrow : width ≤ 7) (ends : Ends Stat
     told = h.told;
   }
 
-  -- a restart of the client restarts the instrument too
+  -- `IsOnce` holds also once the client was restarted, and the instrument with it, while no request was under way
   once_restarted : (w : World ByNumber State) → ends.joint ≡ true → w.wire.up ≡ [] → IsOnce w.client w.wire
       → IsOnce ((by_numbers width).restart w.client).client (with_settled (started ends w.wire ends.joint) ((by_numbers width).restart w.client)).wire
   once_restarted w joint e h =
@@ -392,6 +416,7 @@ module _ {State : Type 0} (width : ℕ) (narrow : width ≤ 7) (ends : Ends Stat
       subst (λ b. IsOnce ((by_numbers width).restart w.client).client (with_settled (started ends w.wire b) ((by_numbers width).restart w.client)).wire) (sym joint)
       (once_else (record w.client { count = total; since = total }) v _ v.refused v.idle (once_forgotten w.client w.wire total total e h))
 
+  -- each elementary change keeps `Once`
   keeps_once : ends.joint ≡ true → IsStable ends (by_numbers width) Once
   keeps_once joint =
       let k = keeps width ends Good ex in
@@ -436,6 +461,7 @@ module _ {State : Type 0} (width : ℕ) (narrow : width ≤ 7) (ends : Ends Stat
         starts = λ w u d h. record { sound = k.starts w u d h.sound; once = once_forgotten w.client w.wire w.client.count w.client.since u h.once };
       }
 
+  -- the run by numbers ends in a world of which `Once` holds
   pub once_at : ends.joint ≡ true → Good (ends.restarted opening) → (es : List Step) → Once (run ends (by_numbers width) es (numbers_open (ends.restarted opening)))
   once_at joint good es =
       stable_all ends (by_numbers width) Once (keeps_once joint) es (numbers_open (ends.restarted opening)) (record {
@@ -452,6 +478,6 @@ module _ {State : Type 0} (width : ℕ) (narrow : width ≤ 7) (ends : Ends Stat
         };
       })
 
-  -- what is under way upward, while a reply is kept
+  -- while a reply is kept, each request under way upward has the number executed last or one of the `width` above it
   pub recent : (w : World ByNumber State) → Once w → IsRecent width (kept w.wire.state) w.wire.executed (numbers w.wire.up)
   recent w h = recent_of width w.client.since w.client.count h.once.top (length w.client.requests) (kept w.wire.state) w.wire.executed w.wire.up h.once.above h.once.last h.sound.few h.sound.going

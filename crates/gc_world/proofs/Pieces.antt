@@ -15,17 +15,20 @@ use Rattle.gc_lines.specs.Frames.{is_line_feed, frame_of}
 use Rattle.gc_lines.specs.Lines.{IsPlain, with_end}
 use Rattle.gc_lines.proofs.Keeping.{line_frame, last-append}
 
+-- a byte is neither CR nor LF
 abbrev Plain : ℕ → Type 0
 Plain b = (b ≢ 10) × (b ≢ 13)
 
 -- Plain bytes have no line feed.
 
+-- plain bytes are a run without a line feed
 goes_on : (bs : List ℕ) → AllByRecursion Plain bs → prefix_len (λ b. not (is_line_feed b)) bs ≡ length bs
 goes_on [] h = refl
 goes_on (b ∷ bs) h =
     ap (λ v. cond (Rattle.std.specs.Prelude.not v) (1 + prefix_len (λ c. not (is_line_feed c)) bs) 0) (ne_eqb b 10 h.0.0)
     ∙ ap (λ n. 1 + n) (goes_on bs h.1) ∙ omega arith
 
+-- plain bytes have no line feed
 pub no_feed : (bs : List ℕ) → IsPlain bs → position is_line_feed bs ≡ None
 no_feed bs h =
     ap (λ n. cond (ltb n (length bs)) (Some n) None) (goes_on bs (recursion_from_All Plain bs h))
@@ -33,6 +36,7 @@ no_feed bs h =
 
 -- Pieces of a list.
 
+-- the first g elements, and those from there to place m, are the first m
 pub take_pieces : {A : Type 0} (g m : ℕ) (xs : List A) → g ≤ m → take g xs ++ take (m - g) (drop g xs) ≡ take m xs
 take_pieces zero m xs le = let e : m - 0 ≡ m = omega arith in ap (λ k. take k xs) e
 take_pieces (suc g) zero xs le = absurd (omega (arith, le))
@@ -41,19 +45,22 @@ take_pieces (suc g) (suc m) (x ∷ xs) le =
     let e : suc m - suc g ≡ m - g = omega arith in
     ap (λ l. x ∷ l) (ap (λ k. take g xs ++ take k (drop g xs)) e ∙ take_pieces g m xs (omega (arith, le)))
 
--- the first bytes of a line with its end
+-- of a list with another behind it, the first bytes are those of the list
 take_front : {A : Type 0} (m : ℕ) (xs ys : List A) → m ≤ length xs → take m (xs ++ ys) ≡ take m xs
 take_front zero xs ys le = refl
 take_front (suc m) [] ys le = absurd (omega (arith, le))
 take_front (suc m) (x ∷ xs) ys le = ap (λ l. x ∷ l) (take_front m xs ys (omega (arith, le)))
 
+-- a line with its CR LF is two bytes longer
 pub end_length : (line : List ℕ) → length (with_end line) ≡ length line + 2
 end_length line = length-append line (13 ∷ 10 ∷ [])
 
+-- all but the last byte of a line with its CR LF are the line and the CR
 with_return : (line : List ℕ) (m : ℕ) → m ≡ length line + 1 → take m (with_end line) ≡ line ++ 13 ∷ []
 with_return line m e =
     ap (take m) (sym (append_assoc line (13 ∷ []) (10 ∷ []))) ∙ take_at (line ++ 13 ∷ []) (10 ∷ []) m (length-append line (13 ∷ []) ∙ sym e)
 
+-- at most 512 bytes and a CR are the frame of these bytes as a line
 return_frame : (line : List ℕ) → length line ≤ 512 → frame_of (line ++ 13 ∷ []) ≡ Line (record { items = line })
 return_frame line fits =
     let long : length (line ++ 13 ∷ []) ≡ length line + 1 = length-append line (13 ∷ []) in
@@ -65,7 +72,7 @@ return_frame line fits =
 -- What an assembler stands for behind a piece of a line.
 
 module _ {P Q : Type 0} (old new : Kept) (line : List ℕ) (plain : IsPlain line) where
-  -- a piece that ends within the line
+  -- feeding a piece that ends within the line stands for the line's bytes up to there
   pub fed_within : (g m : ℕ) → g ≤ m → m ≤ length line
       → (position is_line_feed (take (m - g) (drop g line)) ≡ None → P × Q × ((rest : List ℕ) → StandsFor old rest → StandsFor new (rest ++ take (m - g) (drop g line))))
       → StandsFor old (take g (with_end line)) → StandsFor new (take m (with_end line))
@@ -74,33 +81,35 @@ module _ {P Q : Type 0} (old new : Kept) (line : List ℕ) (plain : IsPlain line
       (subst (StandsFor old) (take_front g line (13 ∷ 10 ∷ []) (omega (arith, le, within))) stands) in
       subst (StandsFor new) (take_pieces g m line le ∙ sym (take_front m line (13 ∷ 10 ∷ []) within)) fed
 
-  -- all that remains of the line
+  -- feeding what remains of the line, without CR LF, stands for the line
   pub fed_line : (g : ℕ) → g ≤ length line
       → (position is_line_feed (take (length line - g) (drop g line)) ≡ None → P × Q × ((rest : List ℕ) → StandsFor old rest → StandsFor new (rest ++ take (length line - g) (drop g line))))
       → StandsFor old (take g (with_end line)) → StandsFor new line
   fed_line g le next stands = subst (StandsFor new) (take_at line (13 ∷ 10 ∷ []) (length line) refl) (fed_within g (length line) le (omega arith) next stands)
 
--- what an assembler stands for once a line and its CR were fed
+-- feeding a CR behind the line stands for the line and the CR
 pub fed_return : {P Q : Type 0} (old new : Kept) (line : List ℕ) (m : ℕ) → m ≡ length line + 1
     → (position is_line_feed (13 ∷ []) ≡ None → P × Q × ((rest : List ℕ) → StandsFor old rest → StandsFor new (rest ++ 13 ∷ [])))
     → StandsFor old line → StandsFor new (take m (with_end line))
 fed_return old new line m e next stands = subst (StandsFor new) (sym (with_return line m e)) ((next refl).2 line stands)
 
--- once a line and its CR LF were fed, the line comes out
+-- behind a line and its CR, a line feed makes the line
 pub fed_end : (line : List ℕ) → length line ≤ 512 → frame_of (line ++ 13 ∷ []) ≡ Line (record { items = line })
 fed_end line fits = return_frame line fits
 
+-- behind all bytes of a line but the last, a line feed makes the line
 pub fed_feed : (line : List ℕ) (g : ℕ) → g ≡ length line + 1 → length line ≤ 512 → frame_of (take g (with_end line) ++ []) ≡ Line (record { items = line })
 fed_feed line g e fits = ap frame_of (append-nil (take g (with_end line)) ∙ with_return line g e) ∙ return_frame line fits
 
+-- frames of one line have one line's bytes
 line_items : (xs ys : List ℕ) → ◌≡◌ {A = Frame} (Line (record { items = xs })) (Line (record { items = ys })) → xs ≡ ys
 line_items xs ys e = let same : ◌≡◌ {A = ArrayVec ℕ} (record { items = xs }) (record { items = ys }) = cc in ap (λ (v : ArrayVec ℕ). v.items) same
 
--- a line that came out
+-- a lent line that shows these bytes has them
 pub came_out : (f : Lent) (l : _) (items : List ℕ) → f ≡ lent.Line l → lent_seen f ≡ Line (record { items = items }) → l.now ≡ items
 came_out f l items is seen = let e : Line (record { items = l.now }) ≡ Line (record { items = items }) = ap lent_seen (sym is) ∙ seen in line_items l.now items e
 
--- a frame that shows a line is one
+-- a lent frame that shows a line is a line
 pub none_else : (f : Lent) (items : List ℕ) → lent_seen f ≡ Line (record { items = items }) → ((l : _) → f ≡ lent.Line l → ⊥) → ⊥
 none_else (lent.Line l) items seen not = not l refl
 none_else lent.Cleared items seen not = cc

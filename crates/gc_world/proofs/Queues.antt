@@ -5,41 +5,49 @@ use Rattle.std.specs.List.{remove, insert}
 use Rattle.std.proofs.lemmas.Bool.{cases_lt}
 use Rattle.gc_world.specs.World.{without, doubled}
 
+-- removing element k is the list without it
 pub without_is : {A : Type 0} (xs : List A) (k : ℕ) → k < length xs → remove xs k ≡ without k xs
 without_is [] k h = absurd (omega arith)
 without_is (x ∷ xs) zero h = refl
 without_is (x ∷ xs) (suc k) h = ap (λ l. x ∷ l) (without_is xs k (omega arith))
 
+-- inserting element k at its own place is the list with it twice
 pub doubled_is : {A : Type 0} (xs : List A) (k : ℕ) (x : A) → k < length xs → x ≡ get_or xs k x → insert xs k x ≡ doubled k xs
 doubled_is [] k y h e = absurd (omega arith)
 doubled_is (x ∷ xs) zero y h e = ap (λ z. z ∷ x ∷ xs) e
 doubled_is (x ∷ xs) (suc k) y h e = ap (λ l. x ∷ l) (doubled_is xs k y (omega arith) e)
 
 module _ {A B : Type 0} (f : A → B) where
+  -- a function goes over a list without element k as over the list
   pub without_map : (k : ℕ) (xs : List A) → without k (map f xs) ≡ map f (without k xs)
   without_map k [] = refl
   without_map zero (x ∷ xs) = refl
   without_map (suc k) (x ∷ xs) = ap (λ l. f x ∷ l) (without_map k xs)
 
+  -- a function goes over a list with element k twice as over the list
   pub doubled_map : (k : ℕ) (xs : List A) → doubled k (map f xs) ≡ map f (doubled k xs)
   doubled_map k [] = refl
   doubled_map zero (x ∷ xs) = refl
   doubled_map (suc k) (x ∷ xs) = ap (λ l. f x ∷ l) (doubled_map k xs)
 
+-- a list without an element that it doesn't have is the list
 pub without_past : {A : Type 0} (k : ℕ) (xs : List A) → length xs ≤ k → without k xs ≡ xs
 without_past k [] h = refl
 without_past zero (x ∷ xs) h = absurd (omega arith)
 without_past (suc k) (x ∷ xs) h = ap (λ l. x ∷ l) (without_past k xs (omega arith))
 
+-- a list with an element twice that it doesn't have is the list
 pub doubled_past : {A : Type 0} (k : ℕ) (xs : List A) → length xs ≤ k → doubled k xs ≡ xs
 doubled_past k [] h = refl
 doubled_past zero (x ∷ xs) h = absurd (omega arith)
 doubled_past (suc k) (x ∷ xs) h = ap (λ l. x ∷ l) (doubled_past k xs (omega arith))
 
+-- where an option without an element gives P, and P gives Q, it gives Q
 pub if_none : {A P Q : Type 0} (o : Option A) → (P → Q) → IfNone o P → IfNone o Q
 if_none (Some x) f h = tt
 if_none None f h = f h
 
+-- what isn't below is at least
 pub not_below : (k n : ℕ) → (k < n → ⊥) → n ≤ k
 not_below k n h = by_cases (cases_lt k n)
   where
@@ -47,7 +55,7 @@ not_below k n h = by_cases (cases_lt k n)
     by_cases (inl lt) = absurd (h lt)
     by_cases (inr ge) = ge
 
--- a queue, once element k was asked out of it
+-- what is left once element k was taken out, if it was there
 pub lose_left : {A : Type 0} (o : Option A) (k : ℕ) (old new : List A) → (IsSome o ↔ (k < length old)) → OnSome o (new ≡ remove old k) → IfNone o (new ≡ old) → new ≡ without k old
 lose_left (Some x) k old new v some none = some ∙ without_is old k (v.0 refl)
 lose_left None k old new v some none = none ∙ sym (without_past k old (not_below k (length old) (λ lt. let h : false ≡ true = v.1 lt in cc)))

@@ -8,19 +8,22 @@ use Rattle.gc_world.specs.Order.{Each}
 use Rattle.gc_world.specs.Faithful.{has_number, begun}
 use Rattle.gc_world.proofs.Places.{get_more}
 
--- above all of them
+-- a number above all of these isn't among them
 pub no_number : (n : ℕ) (xs : List ℕ) → Each (λ x. x < n) xs → has_number n xs ≡ false
 no_number n [] h = refl
 no_number n (x ∷ xs) h = ap (λ b. b || has_number n xs) (ne_eqb x n (λ e. omega (arith, h.0, e))) ∙ no_number n xs h.1
 
+-- appending another number doesn't change whether a number is among them
 has_number_push : (n m : ℕ) (xs : List ℕ) → (m ≡ n → ⊥) → has_number n (xs ++ m ∷ []) ≡ has_number n xs
 has_number_push n m [] ne = ap (λ b. b || false) (ne_eqb m n ne)
 has_number_push n m (x ∷ xs) ne = ap (λ b. eqb x n || b) (has_number_push n m xs ne)
 
+-- anything or true is true
 or_true : (b : Bool) → (b || true) ≡ true
 or_true true = refl
 or_true false = refl
 
+-- a number that was appended is among them
 has_number_pushed : (n : ℕ) (xs : List ℕ) → has_number n (xs ++ n ∷ []) ≡ true
 has_number_pushed n [] = ap (λ b. b || false) (eq-eqb n n refl)
 has_number_pushed n (x ∷ xs) = ap (λ b. eqb x n || b) (has_number_pushed n xs) ∙ or_true (eqb x n)
@@ -45,6 +48,7 @@ module _ {State : Type 0} (ends : Ends State) where
   Replays sent starts j s [] (m ∷ ms) t = ⊥
   Replays sent starts j s (n ∷ ns) [] t = ⊥
 
+  -- an execution stays one when more requests are sent
   reply_more : (sent more : List Sent) (s : State) (n : ℕ) (m : Numbered (List ℕ)) (t : State) → IsReply sent s n m t → IsReply (sent ++ more) s n m t
   reply_more sent more s n m t h = record {
     request = h.request;
@@ -59,7 +63,7 @@ module _ {State : Type 0} (ends : Ends State) where
     leads = h.leads;
   }
 
-  -- further requests change nothing
+  -- executions stay so when more requests are sent
   pub replays_more : (sent more : List Sent) (starts : List ℕ) (j : ℕ) (s : State) (ns : List ℕ) (ms : List (Numbered (List ℕ))) (t : State)
       → Replays sent starts j s ns ms t → Replays (sent ++ more) starts j s ns ms t
   replays_more sent more starts j s [] [] t h = h
@@ -67,7 +71,7 @@ module _ {State : Type 0} (ends : Ends State) where
   replays_more sent more starts j s [] (m ∷ ms) t h = h
   replays_more sent more starts j s (n ∷ ns) [] t h = h
 
-  -- one more request is executed, after the last start
+  -- executions, and one more with no start after the last of them, are a run of the instrument
   pub replays_push : (sent : List Sent) (starts : List ℕ) (j l : ℕ) (s : State) (ns : List ℕ) (ms : List (Numbered (List ℕ))) (t : State) (n : ℕ)
       (m : Numbered (List ℕ)) (u : State) → j + length ns + 1 ≡ l → has_number l starts ≡ false → IsReply sent t n m u → Replays sent starts j s ns ms t
       → Replays sent starts j s (ns ++ n ∷ []) (ms ++ m ∷ []) u
@@ -78,11 +82,12 @@ module _ {State : Type 0} (ends : Ends State) where
   replays_push sent starts j l s [] (x ∷ ms) t n m u e none r h = absurd h
   replays_push sent starts j l s (k ∷ ns) [] t n m u e none r h = absurd h
 
+  -- restarting after a start, or without one, is restarting
   begun_twice : ((s : State) → ends.restarted (ends.restarted s) ≡ ends.restarted s) → (b : Bool) (s : State) → ends.restarted s ≡ ends.restarted (begun ends.restarted b s)
   begun_twice twice false s = refl
   begun_twice twice true s = sym (twice s)
 
-  -- a start after the last that was executed
+  -- executions, of which there is at least one, and a start behind them are a run of the instrument
   replays_start : ((s : State) → ends.restarted (ends.restarted s) ≡ ends.restarted s)
       → (sent : List Sent) (starts : List ℕ) (j l : ℕ) (s : State) (n : ℕ) (ns : List ℕ) (ms : List (Numbered (List ℕ))) (t : State) → j + length ns + 1 ≡ l
       → Replays sent starts j s (n ∷ ns) ms t → Replays sent (starts ++ l ∷ []) j s (n ∷ ns) ms (ends.restarted t)
@@ -104,6 +109,7 @@ module _ {State : Type 0} (ends : Ends State) where
   replays_start twice sent starts j l s n [] (m ∷ (x ∷ ms)) t e h = absurd h.2
   replays_start twice sent starts j l s n (k ∷ ns) [] t e h = absurd h
 
+  -- executions from the restarted opening state on, also none, and a start behind them are a run of the instrument
   pub replays_started : ((s : State) → ends.restarted (ends.restarted s) ≡ ends.restarted s)
       → (sent : List Sent) (starts : List ℕ) (opening : State) (ns : List ℕ) (ms : List (Numbered (List ℕ))) (t : State)
       → Replays sent starts 0 (ends.restarted opening) ns ms t → Replays sent (starts ++ length ns ∷ []) 0 (ends.restarted opening) ns ms (ends.restarted t)
@@ -119,5 +125,6 @@ pub record IsOf (sent : List Sent) (x : Numbered Request) : Type 0 where
   pub call : request.call ≡ x.line.call
   pub text : request.line ≡ request_line (Some x.line.id) x.line.call
 
+-- a request under way stays the one of its number when more are sent
 pub of_more : (sent more : List Sent) (x : Numbered Request) → IsOf sent x → IsOf (sent ++ more) x
 of_more sent more x h = record { request = h.request; found = get_more sent more x.number h.request h.found; small = h.small; call = h.call; text = h.text }

@@ -31,17 +31,19 @@ use Rattle.gc_world.proofs.Handing.{bare, bare_after, bare_line, bare_begun}
 use Rattle.gc_world.proofs.Options.{some_is, none_is_not}
 use Rattle.gc_world.proofs.Places.{get_map, get_seen, below, in_range, each_get}
 
+-- what all elements have, the one at a place has
 all_get : {A : Type 0} (P : A → Type 0) (xs : List A) (n : ℕ) (x : A) → All P xs → slice_get xs n ≡ Some x → P x
 all_get P [] n x h e = absurd (none_is_not x e)
 all_get P (y ∷ xs) zero x h e = subst P (some_is y x e) (All-head P y xs h)
 all_get P (y ∷ xs) (suc n) x h e = all_get P xs n x (All-tail P y xs h) e
 
--- numbers that strictly increase are above those before them
+-- increasing numbers from `low` on are at least `low`
 above_low : (low : ℕ) (xs : List ℕ) (j m : ℕ) → Increasing low xs → slice_get xs j ≡ Some m → low ≤ m
 above_low low [] j m h e = absurd (none_is_not m e)
 above_low low (x ∷ xs) zero m h e = subst (λ k. low ≤ k) (some_is x m e) h.0
 above_low low (x ∷ xs) (suc j) m h e = omega (arith, h.0, above_low (x + 1) xs j m h.1 e)
 
+-- of increasing numbers one at a later place is greater
 rises : (low : ℕ) (xs : List ℕ) (i j n m : ℕ) → Increasing low xs → i < j → slice_get xs i ≡ Some n → slice_get xs j ≡ Some m → n < m
 rises low [] i j n m h lt e f = absurd (none_is_not n e)
 rises low (x ∷ xs) i zero n m h lt e f = absurd (omega (arith, lt))
@@ -49,18 +51,23 @@ rises low (x ∷ xs) zero (suc j) n m h lt e f = let above = above_low (x + 1) x
 rises low (x ∷ xs) (suc i) (suc j) n m h lt e f = rises (x + 1) xs i j n m h.1 (omega (arith, lt)) e f
 
 module _ (r : Report) (w : Wire State) (h : IsReport r w) where
+  -- the report has as many requests as the run
   sent_length : length r.sent ≡ length w.sent
   sent_length = sym (length-map r.sent sent_seen) ∙ ap length h.sent
 
+  -- the report has as many replies as the run
   made_length : length r.made ≡ length w.made
   made_length = sym (length-map r.made made_seen) ∙ ap length h.made
 
+  -- the report has as many settlements as the run
   settled_length : length r.settled ≡ length w.settled
   settled_length = sym (length-map r.settled settlement_seen) ∙ ap length h.settled.seen
 
+  -- the settlement at a place of the report is the run's at that place
   settled_at : (m : ℕ) (s : Settlement) → slice_get r.settled m ≡ Some s → slice_get w.settled m ≡ Some (settlement_seen s)
   settled_at m s e = ap (λ l. slice_get l m) (sym h.settled.seen) ∙ get_map settlement_seen r.settled m s e
 
+  -- where the run is one for one, the report is
   pub one_for_one : IsOneForOne w.sent w.settled → OneForOne r
   one_for_one one =
       record {
@@ -96,16 +103,19 @@ module _ (r : Report) (w : Wire State) (h : IsReport r w) where
     books_answers one booked m s e = booked_at one booked m s s.outcome refl e (all_get (λ (x : Settlement). IsWellRead x.call x.outcome) r.settled m s h.settled.read e)
 
   module _ (opening : State) (x : IsExecution ends opening w) where
+    -- the state before each execution, as the run has it
     abbrev before : ℕ → State
     before j = bare (x.before j)
 
+    -- the number at a place of the report's executions is the run's
     executed_is : (j n : ℕ) → slice_get r.executed j ≡ Some n → slice_get w.executed j ≡ Some n
     executed_is j n e = ap (λ l. slice_get l j) (sym h.executed) ∙ e
 
-    -- the request that was executed
+    -- an execution's request is in the report
     request_of : (j n : ℕ) (d : IsExecuted ends w x.before j n) → (q : Sent) × (slice_get r.sent n ≡ Some q) × (sent_seen q ≡ d.request)
     request_of j n d = get_seen sent_seen r.sent n d.request (ap (λ l. slice_get l n) h.sent ∙ d.found)
 
+    -- these states are the ones before each execution of the report
     states : AreBefore opening r before
     states =
         record {
@@ -120,9 +130,11 @@ module _ (r : Report) (w : Wire State) (h : IsReport r w) where
               ∙ ap (λ c. begun restarted (has_number (j + 1) r.starts) (exec (before j) c).state) call;
         }
 
+    -- the report's executed numbers strictly increase
     climbs : (i j n m : ℕ) → i < j → slice_get r.executed i ≡ Some n → slice_get r.executed j ≡ Some m → n < m
     climbs i j n m lt e f = rises 0 w.executed i j n m x.climbs lt (executed_is i n e) (executed_is j m f)
 
+    -- no number was executed twice
     alone : (i j n : ℕ) → slice_get r.executed i ≡ Some n → slice_get r.executed j ≡ Some n → i ≡ j
     alone i j n e f = elim (cases_lt i j) [
       | inl lt ↦ absurd (omega (arith, climbs i j n n lt e f))
@@ -132,6 +144,7 @@ module _ (r : Report) (w : Wire State) (h : IsReport r w) where
       ]
     ]
 
+    -- each reply of the report is one of an execution
     reply_of : (k : ℕ) (entry : Made) → slice_get r.made k ≡ Some entry → IsReplyOf r before entry
     reply_of k entry e =
         let y = x.replies k (made_seen entry) (ap (λ l. slice_get l k) (sym h.made) ∙ get_map made_seen r.made k entry e) in
@@ -151,15 +164,18 @@ module _ (r : Report) (w : Wire State) (h : IsReport r w) where
           line_is = y.line ∙ bare_line (x.before y.j) d.id d.request.call d.executed ∙ ap (λ c. executed_line d.id (exec (before y.j) c)) (sym call);
         }
 
+    -- each executed number has a reply in the report
     replied : (j n : ℕ) → slice_get r.executed j ≡ Some n → (k : ℕ) × (entry : Made) × (slice_get r.made k ≡ Some entry) × (entry.number ≡ n)
     replied j n e =
         let d = x.each j n (executed_is j n e) in
         let entry = get_seen made_seen r.made d.place _ (ap (λ l. slice_get l d.place) h.made ∙ d.made) in
         (d.place, entry.0, entry.1, ap (λ (y : Numbered (List ℕ)). y.number) entry.2)
 
+    -- the report records the execution
     pub records_execution : RecordsExecution opening r
     records_execution = record { before = before; states = states; replies = reply_of; replied = replied }
 
+    -- by the report each request acted once
     pub acts_once : ActsOnce opening r
     acts_once =
         record {
@@ -169,9 +185,11 @@ module _ (r : Report) (w : Wire State) (h : IsReport r w) where
           last = ap bare (h.instrument ∙ x.last) ∙ ap (λ l. before (length l)) (sym h.executed);
         }
 
+  -- the report agrees with a wire that is the run's
   pub agrees_with : (v : Wire State) → w ≡ v → AgreesWith v r
   agrees_with v same = subst (λ u. AgreesWith u r) same (record { sent = h.sent; settled = h.settled; refused = h.refused; idle = h.idle })
 
+  -- no list of the report is longer than the run's bound
   pub no_longer : (n : ℕ) → IsWithin n w → OneForOne r → IsNoLongerThan n r
   no_longer n few one =
       record {

@@ -6,71 +6,79 @@ use Rattle.gc_world.specs.World.{without, doubled, Numbered}
 use Rattle.gc_world.specs.Order.{Each, Rising, numbers}
 
 module _ {A : Type 0} where
+  -- what each element of two lists has, each of both in a row has
   pub each_append : (P : A → Type 0) (xs ys : List A) → Each P xs → Each P ys → Each P (xs ++ ys)
   each_append P [] ys h g = g
   each_append P (x ∷ xs) ys h g = (h.0, each_append P xs ys h.1 g)
 
+  -- where each element has P, and P gives Q, each element has Q
   pub each_more : (P Q : A → Type 0) → ((x : A) → P x → Q x) → (xs : List A) → Each P xs → Each Q xs
   each_more P Q f [] h = tt
   each_more P Q f (x ∷ xs) h = (f x h.0, each_more P Q f xs h.1)
 
+  -- what each element has, each has in the list without one
   pub each_without : (P : A → Type 0) (k : ℕ) (xs : List A) → Each P xs → Each P (without k xs)
   each_without P k [] h = tt
   each_without P zero (x ∷ xs) h = h.1
   each_without P (suc k) (x ∷ xs) h = (h.0, each_without P k xs h.1)
 
+  -- what each element has, each has in the list with one twice
   pub each_doubled : (P : A → Type 0) (k : ℕ) (xs : List A) → Each P xs → Each P (doubled k xs)
   each_doubled P k [] h = tt
   each_doubled P zero (x ∷ xs) h = (h.0, (h.0, h.1))
   each_doubled P (suc k) (x ∷ xs) h = (h.0, each_doubled P k xs h.1)
 
--- what holds of each number of a queue
+-- what holds of the number of each line holds of each number of the queue
 pub each_number : {Line : Type 0} (P : ℕ → Type 0) (xs : List (Numbered Line)) → Each (λ x. P x.number) xs → Each P (numbers xs)
 each_number P [] h = tt
 each_number P (x ∷ xs) h = (h.0, each_number P xs h.1)
 
+-- `Rising` from `high` on is `Rising` from each `low` on that is at most `high`
 pub rising_lower : (low high : ℕ) (ns : List ℕ) → low ≤ high → Rising high ns → Rising low ns
 rising_lower low high [] le h = tt
 rising_lower low high (n ∷ ns) le h = (omega (arith, h.0), h.1)
 
 module _ {Line : Type 0} where
-  -- behind the queue stand the numbers ns
+  -- numbers that never fall still never fall once a line of the queue in front is lost
   pub rising_without : (low k : ℕ) (xs : List (Numbered Line)) (ns : List ℕ) → Rising low (numbers xs ++ ns) → Rising low (numbers (without k xs) ++ ns)
   rising_without low k [] ns h = h
   rising_without low zero (x ∷ xs) ns h = rising_lower low (x.number + 1) (numbers xs ++ ns) h.0 h.1
   rising_without low (suc k) (x ∷ xs) ns h = (h.0, rising_without (x.number + 1) k xs ns h.1)
 
+  -- numbers that never fall still never fall once a line of the queue in front is repeated
   pub rising_doubled : (low k : ℕ) (xs : List (Numbered Line)) (ns : List ℕ) → Rising low (numbers xs ++ ns) → Rising low (numbers (doubled k xs) ++ ns)
   rising_doubled low k [] ns h = h
   rising_doubled low zero (x ∷ xs) ns h = (h.0, (omega arith, h.1))
   rising_doubled low (suc k) (x ∷ xs) ns h = (h.0, rising_doubled (x.number + 1) k xs ns h.1)
 
-  -- the queue stands behind the numbers ns
+  -- numbers that never fall still never fall once a line of the queue behind them is lost
   pub rising_without_behind : (low k : ℕ) (ns : List ℕ) (xs : List (Numbered Line)) → Rising low (ns ++ numbers xs) → Rising low (ns ++ numbers (without k xs))
   rising_without_behind low k [] [] h = tt
   rising_without_behind low zero [] (x ∷ xs) h = rising_lower low (x.number + 1) (numbers xs) h.0 h.1
   rising_without_behind low (suc k) [] (x ∷ xs) h = (h.0, rising_without_behind (x.number + 1) k [] xs h.1)
   rising_without_behind low k (n ∷ ns) xs h = (h.0, rising_without_behind (n + 1) k ns xs h.1)
 
+  -- numbers that never fall still never fall once a line of the queue behind them is repeated
   pub rising_doubled_behind : (low k : ℕ) (ns : List ℕ) (xs : List (Numbered Line)) → Rising low (ns ++ numbers xs) → Rising low (ns ++ numbers (doubled k xs))
   rising_doubled_behind low k [] [] h = tt
   rising_doubled_behind low zero [] (x ∷ xs) h = (h.0, (omega arith, h.1))
   rising_doubled_behind low (suc k) [] (x ∷ xs) h = (h.0, rising_doubled_behind (x.number + 1) k [] xs h.1)
   rising_doubled_behind low k (n ∷ ns) xs h = (h.0, rising_doubled_behind (n + 1) k ns xs h.1)
 
-  -- a line of the number that stands in front of ns goes to the back of the queue
+  -- numbers never fall where the line of the number behind a queue goes to the queue's back
   pub rising_moved : (low n : ℕ) (line : Line) (xs : List (Numbered Line)) (ns : List ℕ) → Rising low (numbers xs ++ n ∷ ns)
       → Rising low (numbers (xs ++ record { number = n; line = line } ∷ []) ++ ns)
   rising_moved low n line [] ns h = h
   rising_moved low n line (x ∷ xs) ns h = (h.0, rising_moved (x.number + 1) n line xs ns h.1)
 
-  -- a line with a number above all others goes to the back of the queue
+  -- numbers never fall where a line with a number above all others goes to the queue's back
   pub rising_push : (low n : ℕ) (line : Line) (ns : List ℕ) (xs : List (Numbered Line)) → low ≤ n + 1
       → Each (λ m. m < n) (ns ++ numbers xs) → Rising low (ns ++ numbers xs) → Rising low (ns ++ numbers (xs ++ record { number = n; line = line } ∷ []))
   rising_push low n line [] [] le below h = (le, tt)
   rising_push low n line [] (x ∷ xs) le below h = (h.0, rising_push (x.number + 1) n line [] xs (omega (arith, below.0)) below.1 h.1)
   rising_push low n line (m ∷ ns) xs le below h = (h.0, rising_push (m + 1) n line ns xs (omega (arith, below.0)) below.1 h.1)
 
+-- settling through place k settles k + 1 requests
 pub length-settle : (k : ℕ) (line : List ℕ) (ps : List Pending) → k < length ps → length (settle k line ps) ≡ k + 1
 length-settle k line [] h = omega arith
 length-settle zero line (p ∷ ps) h = refl

@@ -16,7 +16,7 @@ use Rattle.gc_world.proofs.Settled.{one_for_one, whole_at}
 use Rattle.gc_world.proofs.Execution.{IsAnswerAt, each_has, execution, answers_at, booked}
 
 module _ {State : Type 0} (width : ℕ) (ends : Ends State) (es : List Step) where
-  -- no law of the ends is needed
+  -- every run by ids settles one for one; no law of the ends is needed
   pub one_for_one_at : (state : State) → IsOneForOne (run_by_ids width ends es state).wire.sent (run_by_ids width ends es state).wire.settled
   one_for_one_at state =
       let w = run_by_ids width ends es state in
@@ -25,30 +25,38 @@ module _ {State : Type 0} (width : ℕ) (ends : Ends State) (es : List Step) whe
 module _ {State : Type 0} (width : ℕ) (narrow : width ≤ 7) (ends : Ends State) (Good : State → Type 0) (ex : IsExchange ends Good)
     (kept : State → Option KeptReply) (keeper : IsKeeper ends kept) (joint : ends.joint ≡ true) (es : List Step) (opening : State)
     (good : Good (ends.restarted opening)) where
+  -- the world that the run by numbers leaves
   abbrev by_number : World ByNumber State
   by_number = run_by_numbers width ends es (ends.restarted opening)
 
+  -- the wire that the run by ids leaves
   abbrev wire : Wire State
   wire = (run_by_ids width ends es (ends.restarted opening)).wire
 
+  -- the run by numbers leaves a world in which each request was executed once
   once : Once width narrow ends Good ex kept keeper opening by_number
   once = once_at width narrow ends Good ex kept keeper opening joint good es
 
+  -- both runs leave the same wire
   same : wire ≡ by_number.wire
   same = same_wire width narrow ends Good ex es (ends.restarted opening) good
 
+  -- what the run by ids executed is an execution of its requests from the restarted opening state on
   pub execution_at : IsExecution ends opening wire
   execution_at =
       let t = once.once.told in
       subst (IsExecution ends opening) (sym same) (execution ends opening by_number.wire t.replies t.replays t.each t.among once.once.climbs)
 
+  -- while a reply is kept, each request under way has the number executed last or one of the `width` above it
   pub recent_at : IsRecent width (kept wire.state) wire.executed (numbers wire.up)
   recent_at =
       subst (λ (w : Wire State). IsRecent width (kept w.state) w.executed (numbers w.up)) (sym same) (recent width narrow ends Good ex kept keeper opening by_number once)
 
+  -- each answer of the run by ids was made for its request
   all_made : AllMade wire.made 0 wire.settled
   all_made = subst (λ (w : Wire State). AllMade w.made 0 w.settled) (sym same) (backed_at width ends Good ex es (ends.restarted opening) good).backed.booked
 
+  -- each reply of the run by ids is one to the call of its request
   answered : Each (IsAnswerAt ends Good ex wire.sent) wire.made
   answered =
       let t = once.once.told in
@@ -58,5 +66,6 @@ module _ {State : Type 0} (width : ℕ) (narrow : width ≤ 7) (ends : Ends Stat
       (λ m has. each_has (IsAnswerAt ends Good ex w.sent) t.replies m
       (answers_at ends Good ex w.sent w.starts 0 (ends.restarted opening) w.executed t.replies w.state good t.replays) has) w.made t.among)
 
+  -- an answer that the run by ids booked for request m was made for it, and replies to its call
   pub booked_at : (m : ℕ) (s : Settlement) → slice_get wire.settled m ≡ Some s → IsBooked ends Good wire.made m s
   booked_at m s e = booked ends Good ex wire.sent wire.made wire.settled (one_for_one_at width ends es (ends.restarted opening)) all_made answered m s e

@@ -30,64 +30,78 @@ module _ {Client S : Type 0} (ends : Ends S) (rule : Rule Client) where
       (length (flows ends rule v e).world.wire.sent ≡ length v.world.wire.sent)
       ⊎ (IsSend e × (length (flows ends rule v e).world.wire.sent ≡ length v.world.wire.sent + 1))
 
+  -- a send adds no request, or is a send that adds one
   at_send : (w : World Client S) (target : ℕ) (call : Call) (deadline : ℕ) (o : Option (Sending Client))
       → (length (requested w target call o).wire.sent ≡ length w.wire.sent)
       ⊎ (IsSend (Send target call deadline) × (length (requested w target call o).wire.sent ≡ length w.wire.sent + 1))
   at_send w target call deadline None = inl refl
   at_send w target call deadline (Some x) = inr ((target, call, deadline, refl), length_push w.wire.sent (record { target = target; call = call; line = request_line (Some x.id) call }))
 
+  -- a delivery to the instrument sends nothing
   at_up : (w : Wire S) (q : List (Numbered Request)) → (up_delivered ends w q).sent ≡ w.sent
   at_up w [] = refl
   at_up w (x ∷ rest) = refl
 
+  -- another upward queue sends nothing
   at_with_up : (w : Wire S) (up : List (Numbered Request)) (b : Bool) → (with_up w up b).sent ≡ w.sent
   at_with_up w up true = refl
   at_with_up w up false = refl
 
+  -- another downward queue sends nothing
   at_with_down : (w : Wire S) (down : List (Numbered (List ℕ))) (b : Bool) → (with_down w down b).sent ≡ w.sent
   at_with_down w down true = refl
   at_with_down w down false = refl
 
+  -- a delivery to the client sends nothing
   at_down : (w : World Client S) (q : List (Numbered (List ℕ))) → (down_delivered rule w q).wire.sent ≡ w.wire.sent
   at_down w [] = refl
   at_down w (x ∷ rest) = refl
 
+  -- a start of the instrument sends nothing
   at_start : (w : Wire S) (b : Bool) → (started ends w b).sent ≡ w.sent
   at_start w true = refl
   at_start w false = refl
 
+  -- a restart of the client sends nothing
   at_restart : (w : World Client S) (up : List (Numbered Request)) (down : List (Numbered (List ℕ))) → (client_restarted ends rule w up down).wire.sent ≡ w.wire.sent
   at_restart w [] [] = at_start w.wire ends.joint
   at_restart w [] (y ∷ down) = refl
   at_restart w (x ∷ up) down = refl
 
+  -- a restart of the instrument sends nothing
   at_instrument : (w : Wire S) (up : List (Numbered Request)) (down : List (Numbered (List ℕ))) → (instrument_restarted ends w up down).sent ≡ w.sent
   at_instrument w [] [] = refl
   at_instrument w [] (y ∷ down) = refl
   at_instrument w (x ∷ up) down = refl
 
+  -- a step that sends nothing does so, too, where it isn't possible
   at_begun : (w : World Client S) (step : Step) (b : Bool) → (happens ends rule w step).wire.sent ≡ w.wire.sent → (happens ends rule w (cond b World.Nothing step)).wire.sent ≡ w.wire.sent
   at_begun w step true e = refl
   at_begun w step false e = e
 
+  -- deliveries to the instrument send nothing
   up_all : (k : ℕ) (w : World Client S) → (run ends rule (replicate k Up_deliver) w).wire.sent ≡ w.wire.sent
   up_all zero w = refl
   up_all (suc k) w = up_all k (happens ends rule w Up_deliver) ∙ at_up w.wire w.wire.up
 
+  -- deliveries to the client send nothing
   down_all : (k : ℕ) (w : World Client S) → (run ends rule (replicate k Down_deliver) w).wire.sent ≡ w.wire.sent
   down_all zero w = refl
   down_all (suc k) w = down_all k (happens ends rule w Down_deliver) ∙ at_down w w.wire.down
 
+  -- bytes upward send nothing
   up_passed : (lines : List (List ℕ)) (gone k : ℕ) (w : World Client S) → (run ends rule (passed Up_deliver lines gone k) w).wire.sent ≡ w.wire.sent
   up_passed [] gone k w = refl
   up_passed (line ∷ lines) gone zero w = refl
   up_passed (line ∷ lines) gone (suc k) w = up_all (cut (line ∷ lines) (gone + suc k)).lines w
 
+  -- bytes downward send nothing
   down_passed : (lines : List (List ℕ)) (gone k : ℕ) (w : World Client S) → (run ends rule (passed Down_deliver lines gone k) w).wire.sent ≡ w.wire.sent
   down_passed [] gone k w = refl
   down_passed (line ∷ lines) gone zero w = refl
   down_passed (line ∷ lines) gone (suc k) w = down_all (cut (line ∷ lines) (gone + suc k)).lines w
 
+  -- an event sends at most one request, and does so only where it is a send
   sends_one : (v : Streams Client S) (e : Event) → SendsOne v e
   sends_one v (Send target call deadline) = at_send v.world target call deadline (rule.send v.world.client target call deadline)
   sends_one v UpDeliver = inl (ap length (at_up v.world.wire v.world.wire.up))
@@ -103,18 +117,19 @@ module _ {Client S : Type 0} (ends : Ends S) (rule : Rule Client) where
   sends_one v RestartInstrument = inl (ap length (at_instrument v.world.wire v.world.wire.up v.world.wire.down))
 
 module _ (width : ℕ) (opening : State) (n : ℕ) where
-  -- how many were sent
+  -- how many requests the run by ids of these events sent
   abbrev sent_in : List Event → ℕ
   sent_in events = length (left_by_ids width opening events).sent
 
-  -- the run by ids of one event more
+  -- what the run by ids of one more event leaves
   left_more : (events : List Event) (e : Event) → left_by_ids width opening (events ++ e ∷ []) ≡ (flows ends (by_ids width ends) (streams_by_ids width ends events (restarted opening)) e).world.wire
   left_more events e = ap (λ (v : Streams ById State). v.world.wire) (flow_append ends (by_ids width ends) events (e ∷ []) (untouched (ids_open (restarted opening))))
 
-  -- its send, and what came later
+  -- the events have the send of request n, before some later ones
   abbrev pub IsSentIn : List Event → Type 0
   IsSentIn events = (deadline : ℕ) × (later : List Event) × IsSentBefore width opening events n deadline later
 
+  -- where n requests were sent before an event that sends one, that is the send of request n
   found_at : (earlier : List Event) (e : Event) (rest : List Event) (b : Bool) → eqb (sent_in earlier) n ≡ b → sent_in earlier ≤ n → IsSend e
       → sent_in (earlier ++ e ∷ []) ≡ sent_in earlier + 1 → (sent_in (earlier ++ e ∷ []) ≤ n → IsSentIn (earlier ++ e ∷ rest)) → IsSentIn (earlier ++ e ∷ rest)
   found_at earlier e rest true t le (target, call, deadline, is) more again =
@@ -132,17 +147,20 @@ module _ (width : ℕ) (opening : State) (n : ℕ) where
       )
   found_at earlier e rest false t le send more again = again (omega (arith, eqb-false _ _ t, le, more))
 
+  -- the send of request n is this event, or comes later
   found_by : (earlier : List Event) (e : Event) (rest : List Event) → sent_in earlier ≤ n
       → (sent_in (earlier ++ e ∷ []) ≡ sent_in earlier) ⊎ (IsSend e × (sent_in (earlier ++ e ∷ []) ≡ sent_in earlier + 1))
       → (sent_in (earlier ++ e ∷ []) ≤ n → IsSentIn (earlier ++ e ∷ rest)) → IsSentIn (earlier ++ e ∷ rest)
   found_by earlier e rest le (inl same) again = again (omega (arith, same, le))
   found_by earlier e rest le (inr (send, more)) again = found_at earlier e rest (eqb (sent_in earlier) n) refl le send more again
 
+  -- an event behind others sends nothing, or is a send of one request
   sends_one_in : (earlier : List Event) (e : Event) → (sent_in (earlier ++ e ∷ []) ≡ sent_in earlier) ⊎ (IsSend e × (sent_in (earlier ++ e ∷ []) ≡ sent_in earlier + 1))
   sends_one_in earlier e =
       subst (λ (w : Wire State). (length w.sent ≡ sent_in earlier) ⊎ (IsSend e × (length w.sent ≡ sent_in earlier + 1))) (sym (left_more earlier e))
       (sends_one ends (by_ids width ends) (streams_by_ids width ends earlier (restarted opening)) e)
 
+  -- between events by which at most n were sent and those by which more were, there is the send of request n
   found : (earlier later : List Event) → sent_in earlier ≤ n → n < sent_in (earlier ++ later) → IsSentIn (earlier ++ later)
   found earlier [] le lt = absurd (omega (arith, le, lt, ap sent_in (append-nil earlier)))
   found earlier (e ∷ rest) le lt =
@@ -150,15 +168,17 @@ module _ (width : ℕ) (opening : State) (n : ℕ) where
       found_by earlier e rest le (sends_one_in earlier e)
       (λ le1. subst IsSentIn same (found (earlier ++ e ∷ []) rest le1 (subst (λ es. n < sent_in es) (sym same) lt)))
 
+  -- a request that was sent has its send in the list
   pub is_sent : (events : List Event) → n < sent_in events → IsSentIn events
   is_sent events lt = found [] events (omega arith) lt
 
--- a request that was sent is in time or too late
+-- a request whose send is in the list is in time or too late
 told : (width : ℕ) (opening : State) (events : List Event) (n deadline : ℕ) (later : List Event) → IsSentBefore width opening events n deadline later
     → AllEarly deadline later ⊎ OneReaches deadline later → IsInTime width opening events n ⊎ IsTooLate width opening events n
 told width opening events n deadline later s (inl early) = inl (record { deadline = deadline; later = later; sent = s; early = early })
 told width opening events n deadline later s (inr (now, has, reached)) = inr (record { deadline = deadline; later = later; sent = s; now = now; told = has; reached = reached })
 
+-- a request that was sent is in time or too late
 pub one_or_other : (width : ℕ) (opening : State) (events : List Event) (n : ℕ) → n < length (left_by_ids width opening events).sent → IsInTime width opening events n ⊎ IsTooLate width opening events n
 one_or_other width opening events n lt =
     let s = is_sent width opening n events lt in
@@ -167,17 +187,21 @@ one_or_other width opening events n lt =
 -- The send of a request stands once in the list.
 
 module _ (rule : Rule ById) (n : ℕ) where
+  -- the streams behind these events, by ids
   abbrev runs : List Event → Streams ById State → Streams ById State
   runs es v = flow ends rule es v
 
+  -- an event leaves no fewer requests sent
   no_fewer : (w : Streams ById State) (e : Event) → SendsOne ends rule w e → length w.world.wire.sent ≤ length (flows ends rule w e).world.wire.sent
   no_fewer w e (inl same) = omega (arith, same)
   no_fewer w e (inr (send, more)) = omega (arith, more)
 
+  -- events leave no fewer requests sent
   sent_grows : (es : List Event) (w : Streams ById State) → length w.world.wire.sent ≤ length (runs es w).world.wire.sent
   sent_grows [] w = omega arith
   sent_grows (e ∷ es) w = omega (arith, no_fewer w e (sends_one ends rule w e), sent_grows es (flows ends rule w e))
 
+  -- the step that sends request n stands at one place of a run: two splits of the run at it have one rest
   one_split : (xs ys : List Event) (a b : Event) (later rest : List Event) (w : Streams ById State) → xs ++ a ∷ later ≡ ys ++ b ∷ rest
       → length (runs xs w).world.wire.sent ≡ n → length (runs ys w).world.wire.sent ≡ n → length (runs (xs ++ a ∷ []) w).world.wire.sent ≡ n + 1
       → length (runs (ys ++ b ∷ []) w).world.wire.sent ≡ n + 1 → a ∷ later ≡ b ∷ rest
@@ -200,12 +224,15 @@ module _ (rule : Rule ById) (n : ℕ) where
       (subst (λ z. length (runs ys (flows ends rule w z)).world.wire.sent ≡ n) same hy) tx
       (subst (λ z. length (runs (ys ++ b ∷ []) (flows ends rule w z)).world.wire.sent ≡ n + 1) same ty)
 
+-- two sends that are one have one deadline
 same_deadline : (t u : ℕ) (c d : Call) (k m : ℕ) (later rest : List Event) → Send t c k ∷ later ≡ Send u d m ∷ rest → k ≡ m
 same_deadline t u c d k m later rest e = cc
 
+-- two lists that are one have one rest
 same_later : (a b : Event) (later rest : List Event) → a ∷ later ≡ b ∷ rest → later ≡ rest
 same_later a b later rest e = cc
 
+-- no request is both in time and too late
 pub never_both : (width : ℕ) (opening : State) (events : List Event) (n : ℕ) → IsInTime width opening events n → IsTooLate width opening events n → ⊥
 never_both width opening events n a b =
     let s = a.sent in

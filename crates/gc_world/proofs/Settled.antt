@@ -14,13 +14,16 @@ use Rattle.gc_world.specs.Record.{IsOneForOne}
 use Rattle.gc_world.proofs.Stable.{IsStable, stable_all}
 use Rattle.gc_world.proofs.Options.{some_is, none_is_not}
 
+-- whom a request that was sent was for, and what it asked for
 abbrev pub of_sent : Sent → Asked
 of_sent r = record { target = r.target; call = r.call }
 
 module _ {State : Type 0} (width : ℕ) (ends : Ends State) where
+  -- what is settled and what waits are the requests that were sent
   abbrev pub Whole : World ById State → Type 0
   Whole w = map of_settled w.wire.settled ++ map of_pending w.client.waiting ≡ map of_sent w.wire.sent
 
+  -- a send keeps a world whole
   whole_sent : (w : World ById State) (target : ℕ) (call : Call) (deadline : ℕ) (full : Bool) (x : Sending ById)
       → id_send w.client target call deadline full ≡ Some x → Whole w → Whole (requested w target call (Some x))
   whole_sent w target call deadline true x e h = absurd (none_is_not x e)
@@ -31,6 +34,7 @@ module _ {State : Type 0} (width : ℕ) (ends : Ends State) where
       ∙ ap (λ l. l ++ record { target = target; call = call } ∷ []) h) in
       subst (λ z. Whole (requested w target call (Some z))) (some_is y x e) done
 
+  -- settlements keep a world whole, where they and those that then wait are those that waited
   whole_booked : (w : World ById State) (wire : Wire State) (x : Settled ById) → wire.settled ≡ w.wire.settled → wire.sent ≡ w.wire.sent
       → map of_settled x.settlements ++ map of_pending x.client.waiting ≡ map of_pending w.client.waiting → Whole w → Whole (with_settled wire x)
   whole_booked w wire x e1 e2 p h =
@@ -39,10 +43,12 @@ module _ {State : Type 0} (width : ℕ) (ends : Ends State) where
       pieces : map of_settled (wire.settled ++ x.settlements) ++ map of_pending x.client.waiting ≡ map of_settled wire.settled ++ (map of_settled x.settlements ++ map of_pending x.client.waiting)
       pieces = simp (map-append, append_assoc)
 
+  -- a restart of the client keeps a world whole
   whole_restarted : (w : World ById State) (b : Bool) → Whole w → Whole (with_settled (started ends w.wire b) ((by_ids width ends).restart w.client))
   whole_restarted w false h = whole_booked w w.wire ((by_ids width ends).restart w.client) refl refl (append-nil _ ∙ lost_parts w.client.waiting) h
   whole_restarted w true h = whole_booked w (started ends w.wire true) ((by_ids width ends).restart w.client) refl refl (append-nil _ ∙ lost_parts w.client.waiting) h
 
+  -- each step keeps a world whole
   keeps_whole : IsStable ends (by_ids width ends) Whole
   keeps_whole =
       record {
@@ -60,10 +66,11 @@ module _ {State : Type 0} (width : ℕ) (ends : Ends State) where
         starts = λ w u d h. h;
       }
 
+  -- every run by ids ends in a whole world
   pub whole_at : (es : List Step) (state : State) → Whole (run ends (by_ids width ends) es (ids_open state))
   whole_at es state = stable_all ends (by_ids width ends) Whole keeps_whole es (ids_open state) refl
 
--- a settlement asks what the request at its place asks
+-- the settlement at a place asked what the request at that place asks
 same_at : (settled : List Settlement) (rest : List Asked) (sent : List Sent) (m : ℕ) (s : Settlement) (r : Sent)
     → map of_settled settled ++ rest ≡ map of_sent sent → slice_get settled m ≡ Some s → slice_get sent m ≡ Some r → of_settled s ≡ of_sent r
 same_at [] rest sent m s r e g h = absurd (none_is_not s g)
@@ -75,6 +82,7 @@ same_at (x ∷ xs) rest (y ∷ ys) (suc m) s r e g h =
     let tail : map of_settled xs ++ rest ≡ map of_sent ys = cc in
     same_at xs rest ys m s r tail g h
 
+-- where what is settled and what waits are the requests that were sent, settlements stand one for one
 pub one_for_one : (settled : List Settlement) (waiting : List Pending) (sent : List Sent) → map of_settled settled ++ map of_pending waiting ≡ map of_sent sent → IsOneForOne sent settled
 one_for_one settled waiting sent e =
     record {

@@ -41,7 +41,7 @@ use Rattle.gc_world.proofs.Places.{get_map, get_more, get_push}
 abbrev pub ExchangesAny : State → List ℕ → State → Option (List ℕ) → Type 0
 ExchangesAny before line after reply = (id : ℕ) (call : Call) → id < 8 → IsFitting call → line ≡ request_line (Some id) call → IsExchanged before id call after reply
 
--- the same, of a reply that was appended to an empty line
+-- a reply that was appended to an empty line, or none, is what the instrument does with the line
 pub exchanges_any : (before : State) (bytes line : List ℕ) (after : State) (old new : List ℕ) (b : Bool) → bytes ≡ line → old ≡ []
     → ((id : ℕ) (call : Call) → id < 8 → IsFitting call → bytes ≡ request_line (Some id) call → AppendsAnswer (IsExchanged before id call after) old new b)
     → ExchangesAny before line after (cond b (Some new) None)
@@ -50,11 +50,12 @@ exchanges_any before bytes line after old new true is none h id call digit fits 
     subst (λ (t : List ℕ). IsExchanged before id call after (Some t)) (sym (a.2 ∙ ap (λ l. l ++ a.0) none)) a.1
 exchanges_any before bytes line after old new false is none h id call digit fits e = (h id call digit fits (is ∙ e)).0
 
--- what was executed, by the ids that are kept before and after
+-- the number was appended to those executed exactly where the kept id changed
 pub record Notes (before after : State) (n : ℕ) (old new : List ℕ) : Type 0 where
   pub new_is : (option_map (λ (k : KeptReply). k.id) before.kept ≡ option_map (λ (k : KeptReply). k.id) after.kept → ⊥) → new ≡ old ++ n ∷ []
   pub same_is : option_map (λ (k : KeptReply). k.id) before.kept ≡ option_map (λ (k : KeptReply). k.id) after.kept → new ≡ old
 
+-- two ids are the same, or aren't
 either_id : (a b : Option ℕ) → (a ≡ b) ⊎ (a ≡ b → ⊥)
 either_id None None = inl refl
 either_id None (Some y) = inr (λ e. cc)
@@ -64,6 +65,7 @@ either_id (Some x) (Some y) = elim (cases_eq x y) [
   | inr ne ↦ inr (λ e. ne (some_is x y e))
 ]
 
+-- what was noted as executed is what was executed
 noted : (s : State) (id : ℕ) (call : Call) (after : State) (n : ℕ) (old new : List ℕ) → after ≡ (handed s id call).state → Notes s after n old new
     → new ≡ cond (handed s id call).executed (old ++ n ∷ []) old
 noted s id call after n old new is h =
@@ -73,21 +75,22 @@ noted s id call after n old new is h =
       | inr ne ↦ h.new_is ne ∙ ap (λ b. cond b (old ++ n ∷ []) old) (sym (executed_by_id s id call (λ e. ne (e ∙ sym (ap (λ (t : State). option_map (λ (k : KeptReply). k.id) t.kept) is)))))
     ]
 
--- the report counts one event more that was not possible, or is as before
+-- the report as it is (true), or with one more event that was not possible
 abbrev pub counted : Bool → Report → Report
 counted true r = r
 counted false r = record r { idle_events = r.idle_events + 1 }
 
+-- a report of a wire is still one where both count one more event that was not possible
 reports_idle : (r : Report) (w : Wire State) → IsReport r w → IsReport (counted false r) (idle w)
 reports_idle r w h =
     record { sent = h.sent; executed = h.executed; made = h.made; settled = h.settled; starts = h.starts; instrument = h.instrument; refused = h.refused; idle = ap (λ n. n + 1) h.idle }
 
--- the queues don't count
+-- a report of a wire is also one of the wire with other queues, which a report doesn't have
 reports_queues : (r : Report) (w : Wire State) (up : List (Numbered Request)) (down : List (Numbered (List ℕ))) → IsReport r w → IsReport r (record w { up = up; down = down })
 reports_queues r w up down h =
     record { sent = h.sent; executed = h.executed; made = h.made; settled = h.settled; starts = h.starts; instrument = h.instrument; refused = h.refused; idle = h.idle }
 
--- settlements behind settlements
+-- settlements that are the rule's are so together with others behind them that are
 are_more : (xs ys : List Settlement) (us vs : List Rule.Settlement) → AreSettlements xs us → AreSettlements ys vs → AreSettlements (xs ++ ys) (us ++ vs)
 are_more xs ys us vs h g =
     record {
@@ -95,11 +98,12 @@ are_more xs ys us vs h g =
       read = All-append (λ (s : Settlement). IsWellRead s.call s.outcome) xs ys h.read g.read;
     }
 
--- a reply leaves the next id
+-- settling doesn't change the next id
 settled_next : (c : ById) (line : List ℕ) (k : ℕ) (b : Bool) → (id_settled c line k b).client.next ≡ c.next
 settled_next c line k false = refl
 settled_next c line k true = refl
 
+-- a line doesn't change the next id
 hears_next : (c : ById) (line : List ℕ) (o : Option ℕ) → (hears c line o).client.next ≡ c.next
 hears_next c line None = refl
 hears_next c line (Some id) = settled_next c line (place_in c id) (ltb (place_in c id) (length c.waiting))
@@ -112,15 +116,17 @@ sends_next width c target call deadline x e = by_room (eqb (length c.waiting) wi
     by_room true e = absurd (none_is_not x e)
     by_room false e = subst (λ (y : Sending ById). y.client.next < IDS) (some_is _ x e) (omega arith)
 
--- a reply more takes none away
+-- one more reply leaves the others at their places
 made_more : (made : List Made) (entry : Made) (p : ℕ) (x : Numbered (List ℕ)) → slice_get (map made_seen made) p ≡ Some x → slice_get (map made_seen (made ++ entry ∷ [])) p ≡ Some x
 made_more made entry p x e = ap (λ l. slice_get l p) (map-append made_seen made (entry ∷ [])) ∙ get_more (map made_seen made) (made_seen entry ∷ []) p x e
 
+-- the reply that was made last stands at the place of the old length
 made_last : (made : List Made) (entry : Made) → slice_get (map made_seen (made ++ entry ∷ [])) (length made) ≡ Some (made_seen entry)
 made_last made entry =
     ap (λ l. slice_get l (length made)) (map-append made_seen made (entry ∷ []))
     ∙ subst (λ n. slice_get (map made_seen made ++ made_seen entry ∷ []) n ≡ Some (made_seen entry)) (length-map made made_seen) (get_push (map made_seen made) (made_seen entry))
 
+-- one more reply leaves what places name
 named_more : (made : List Made) (entry : Made) (places : List ℕ) (xs : List (Numbered (List ℕ))) → named made places ≡ map Some xs → named (made ++ entry ∷ []) places ≡ map Some xs
 named_more made entry [] [] h = refl
 named_more made entry [] (x ∷ xs) h = cc
@@ -130,6 +136,7 @@ named_more made entry (p ∷ ps) (x ∷ xs) h =
     let others : named made ps ≡ map Some xs = cc in
     ap₂ (λ (a : Option (Numbered (List ℕ))) b. a ∷ b) (made_more made entry p x one) (named_more made entry ps xs others)
 
+-- the place of the reply that was made last names it
 named_push : (made : List Made) (entry : Made) (places : List ℕ) (xs : List (Numbered (List ℕ))) → named made places ≡ map Some xs
     → named (made ++ entry ∷ []) (places ++ length made ∷ []) ≡ map Some (xs ++ made_seen entry ∷ [])
 named_push made entry places xs h =
@@ -137,35 +144,40 @@ named_push made entry places xs h =
     ∙ ap₂ (λ (a : List (Option (Numbered (List ℕ)))) b. a ++ b ∷ []) (named_more made entry places xs h) (made_last made entry)
     ∙ sym (map-append Some xs (made_seen entry ∷ []))
 
--- a line that settles nothing
+-- a line that settles nothing leaves the settlements
 pub none_settled : (old new : ById) (line : List ℕ) (o : Hearing) (more settled : List Settlement) → HearsInto old line o more new → (o ≡ Settled → ⊥) → settled ≡ settled ++ more
 none_settled old new line Settled more settled h not = absurd (not refl)
 none_settled old new line Stray more settled h not = sym (ap (λ l. settled ++ l) h.2 ∙ append-nil settled)
 none_settled old new line (Unread fault) more settled h not = sym (ap (λ l. settled ++ l) h.1 ∙ append-nil settled)
 
+-- a list of which a function sees nothing is empty
 pub map_none : {A B : Type 0} (f : A → B) (xs : List A) → map f xs ≡ [] → xs ≡ []
 map_none f [] e = refl
 map_none f (x ∷ xs) e = cc
 
 module _ (width : ℕ) (r : Report) (up down : List ℕ) (c : Windowed) (w : World ById State) (h : AreOf width r up down c w) where
-  -- an event that is not possible
+  -- an event that is not possible is only counted, in the report as in the world
   pub shows_idle : AreOf width (counted false r) up down c (on_wire w (idle w.wire))
   shows_idle =
       record { reports = reports_idle r w.wire h.reports; up_is = h.up_is; down_is = h.down_is; client_is = h.client_is; next = h.next; requests = h.requests; calls = h.calls }
 
+  -- the upward queue is as long as the world's
   pub same_up : length up ≡ length w.wire.up
   same_up = ap length h.up_is ∙ length-map w.wire.up (λ x. x.number)
 
+  -- the downward queue is as long as the world's
   pub same_down : length down ≡ length w.wire.down
   same_down = sym (length-map down (slice_get (map made_seen r.made))) ∙ ap length h.down_is ∙ length-map w.wire.down Some
 
+  -- where the upward queue is empty, the world's is
   pub no_up : up ≡ [] → w.wire.up ≡ []
   no_up e = map_none (λ x. x.number) w.wire.up (sym h.up_is ∙ e)
 
+  -- where the downward queue is empty, the world's is
   pub no_down : down ≡ [] → w.wire.down ≡ []
   no_down e = map_none Some w.wire.down (sym h.down_is ∙ ap (named r.made) e)
 
-  -- the upward queue is another one, if there is a line at place k
+  -- another upward queue, if there is a line at place k, shows the world with that queue
   up_changed : (k : ℕ) (b : Bool) (places : List ℕ) (us : List (Numbered Request)) → b ≡ ltb k (length up) → (length up ≤ k → places ≡ up)
       → places ≡ numbers us → Each (IsSentIn r.sent) us → AreOf width (counted b r) places down c (on_wire w (with_up w.wire us (ltb k (length w.wire.up))))
   up_changed k true places us e past is each =
@@ -177,17 +189,19 @@ module _ (width : ℕ) (r : Report) (up down : List ℕ) (c : Windowed) (w : Wor
       subst (λ v. AreOf width (counted false r) places down c (on_wire w (with_up w.wire us v))) (sym e1)
       (subst (λ q. AreOf width (counted false r) q down c (on_wire w (idle w.wire))) (sym (past (ltb-false _ _ (sym e)))) shows_idle)
 
+  -- losing line k of the upward queue shows that step of the world
   pub shows_up_lose : (k : ℕ) (b : Bool) → b ≡ ltb k (length up) → AreOf width (counted b r) (without k up) down c (does width w (Up_lose k))
   shows_up_lose k b e =
       up_changed k b (without k up) (without k w.wire.up) e (without_past k up)
       (ap (without k) h.up_is ∙ without_map (λ x. x.number) k w.wire.up) (each_without (IsSentIn r.sent) k w.wire.up h.requests)
 
+  -- repeating line k of the upward queue shows that step of the world
   pub shows_up_repeat : (k : ℕ) (b : Bool) → b ≡ ltb k (length up) → AreOf width (counted b r) (doubled k up) down c (does width w (Up_repeat k))
   shows_up_repeat k b e =
       up_changed k b (doubled k up) (doubled k w.wire.up) e (doubled_past k up)
       (ap (doubled k) h.up_is ∙ doubled_map (λ x. x.number) k w.wire.up) (each_doubled (IsSentIn r.sent) k w.wire.up h.requests)
 
-  -- the downward queue is another one, if there is a line at place k
+  -- another downward queue, if there is a line at place k, shows the world with that queue
   down_changed : (k : ℕ) (b : Bool) (places : List ℕ) (ds : List (Numbered (List ℕ))) → b ≡ ltb k (length down) → (length down ≤ k → places ≡ down)
       → named r.made places ≡ map Some ds → AreOf width (counted b r) up places c (on_wire w (with_down w.wire ds (ltb k (length w.wire.down))))
   down_changed k true places ds e past is =
@@ -199,17 +213,19 @@ module _ (width : ℕ) (r : Report) (up down : List ℕ) (c : Windowed) (w : Wor
       subst (λ v. AreOf width (counted false r) up places c (on_wire w (with_down w.wire ds v))) (sym e1)
       (subst (λ q. AreOf width (counted false r) up q c (on_wire w (idle w.wire))) (sym (past (ltb-false _ _ (sym e)))) shows_idle)
 
+  -- losing line k of the downward queue shows that step of the world
   pub shows_down_lose : (k : ℕ) (b : Bool) → b ≡ ltb k (length down) → AreOf width (counted b r) up (without k down) c (does width w (Down_lose k))
   shows_down_lose k b e =
       down_changed k b (without k down) (without k w.wire.down) e (without_past k down)
       (sym (without_map (slice_get (map made_seen r.made)) k down) ∙ ap (without k) h.down_is ∙ without_map Some k w.wire.down)
 
+  -- repeating line k of the downward queue shows that step of the world
   pub shows_down_repeat : (k : ℕ) (b : Bool) → b ≡ ltb k (length down) → AreOf width (counted b r) up (doubled k down) c (does width w (Down_repeat k))
   shows_down_repeat k b e =
       down_changed k b (doubled k down) (doubled k w.wire.down) e (doubled_past k down)
       (sym (doubled_map (slice_get (map made_seen r.made)) k down) ∙ ap (doubled k) h.down_is ∙ doubled_map Some k w.wire.down)
 
-  -- the request in front is the one of that number
+  -- the number in front of the upward queue is that of the world's front request
   pub up_front : (n : ℕ) (rest : List ℕ) → up ≡ n ∷ rest → (y : Numbered Request) × (ys : List (Numbered Request)) × (w.wire.up ≡ y ∷ ys) × (y.number ≡ n) × (rest ≡ numbers ys)
   up_front n rest e = front w.wire.up (sym h.up_is ∙ e)
     where
@@ -217,7 +233,7 @@ module _ (width : ℕ) (r : Report) (up down : List ℕ) (c : Windowed) (w : Wor
       front [] g = cc
       front (y ∷ ys) g = let one : y.number ≡ n = cc in let others : numbers ys ≡ rest = cc in (y, ys, refl, one, sym others)
 
-  -- the reply in front is the one at that place
+  -- the place in front of the downward queue names the world's front reply
   pub down_front : (p : ℕ) (rest : List ℕ) → down ≡ p ∷ rest → (x : Numbered (List ℕ)) × (xs : List (Numbered (List ℕ))) × (w.wire.down ≡ x ∷ xs)
       × (slice_get (map made_seen r.made) p ≡ Some x) × (named r.made rest ≡ map Some xs)
   down_front p rest e = front w.wire.down (ap (named r.made) (sym e) ∙ h.down_is)
@@ -228,11 +244,11 @@ module _ (width : ℕ) (r : Report) (up down : List ℕ) (c : Windowed) (w : Wor
       front [] g = cc
       front (x ∷ xs) g = let one : slice_get (map made_seen r.made) p ≡ Some x = cc in let others : named r.made rest ≡ map Some xs = cc in (x, xs, refl, one, others)
 
-  -- its line
+  -- the reply at that place is the world's front reply
   pub down_line : (p : ℕ) (rest : List ℕ) (m : Made) (e : down ≡ p ∷ rest) → slice_get r.made p ≡ Some m → made_seen m ≡ (down_front p rest e).0
   down_line p rest m e found = let f = down_front p rest e in some_is (made_seen m) f.0 (sym (get_map made_seen r.made p m found) ∙ f.3)
 
-  -- a request was sent, and its line is under way
+  -- sending a request, whose line is then under way, shows that step of the world
   pub shows_send : (entry : Sent) (deadline : ℕ) (client : Windowed) (sent : List Sent) (up' : List ℕ)
       → sends c.width c.ids entry.target entry.call deadline ≡ Some (record { id = c.ids.next; client = client.ids }) → client.width ≡ c.width
       → entry.line.items ≡ request_line (Some c.ids.next) entry.call → IsFitting entry.call → sent ≡ r.sent ++ entry ∷ [] → up' ≡ up ++ length r.sent ∷ []
@@ -272,7 +288,7 @@ module _ (width : ℕ) (r : Report) (up down : List ℕ) (c : Windowed) (w : Wor
         calls = each_append _ r.sent (entry ∷ []) h.calls (fits, tt);
       }))
 
-  -- the line in front of the upward queue was handed to the instrument
+  -- handing the front request to the instrument, and noting its reply, shows that step of the world
   pub shows_up_deliver : (n : ℕ) (rest down' : List ℕ) (request : Sent) (entry : Made) (executed : List ℕ) (made : List Made) (state : State)
       (o : Option (List ℕ)) → up ≡ n ∷ rest → slice_get r.sent n ≡ Some request → ExchangesAny r.instrument request.line.items state o
       → o ≡ Some entry.line.items → entry.number ≡ n → Notes r.instrument state n r.executed executed → made ≡ r.made ++ entry ∷ []
@@ -314,7 +330,7 @@ module _ (width : ℕ) (r : Report) (up down : List ℕ) (c : Windowed) (w : Wor
         calls = h.calls;
       })
 
-  -- which the instrument answers
+  -- the instrument always answers the front request
   pub up_answered : (n : ℕ) (rest : List ℕ) (request : Sent) (state : State) (o : Option (List ℕ)) → up ≡ n ∷ rest → slice_get r.sent n ≡ Some request
       → ExchangesAny r.instrument request.line.items state o → o ≡ None → ⊥
   up_answered n rest request state o e found replied told =
@@ -325,7 +341,7 @@ module _ (width : ℕ) (r : Report) (up down : List ℕ) (c : Windowed) (w : Wor
       let did = replied f.0.line.id f.0.line.call sound.0.digit sound.0.fits line in
       none_is_not _ (sym told ∙ did.line)
 
-  -- the line in front of the downward queue was handed to the client
+  -- handing the front reply to the client, and noting what it settles, shows that step of the world
   pub shows_down_deliver : (p : ℕ) (rest : List ℕ) (m : Made) (bytes : List ℕ) (more settled : List Settlement) (client : Windowed) → down ≡ p ∷ rest
       → slice_get r.made p ≡ Some m → bytes ≡ m.line.items → AreSettlements more (hears c.ids bytes (heard bytes)).settlements
       → client ≡ record c { ids = (hears c.ids bytes (heard bytes)).client } → settled ≡ r.settled ++ more
@@ -356,7 +372,7 @@ module _ (width : ℕ) (r : Report) (up down : List ℕ) (c : Windowed) (w : Wor
         calls = h.calls;
       })
 
-  -- no line is under way, and the client was restarted
+  -- restarting the client while no line is under way shows that step of the world
   pub shows_restart_client : (more settled : List Settlement) (client : Windowed) (starts : List ℕ) (state : State) → up ≡ [] → down ≡ []
       → AreSettlements more (restarts c.ids).settlements → client ≡ record c { ids = (restarts c.ids).client } → settled ≡ r.settled ++ more
       → starts ≡ r.starts ++ length r.executed ∷ [] → state ≡ restarted r.instrument
@@ -384,7 +400,7 @@ module _ (width : ℕ) (r : Report) (up down : List ℕ) (c : Windowed) (w : Wor
         calls = h.calls;
       }))
 
-  -- and the instrument was
+  -- restarting the instrument while no line is under way shows that step of the world
   pub shows_restart_instrument : (starts : List ℕ) (state : State) → up ≡ [] → down ≡ [] → starts ≡ r.starts ++ length r.executed ∷ []
       → state ≡ restarted r.instrument → AreOf width (record r { starts = starts; instrument = state }) up down c (does width w Restart_instrument)
   shows_restart_instrument starts state eu ed starts_is state_is =
@@ -409,7 +425,7 @@ module _ (width : ℕ) (r : Report) (up down : List ℕ) (c : Windowed) (w : Wor
         calls = h.calls;
       }))
 
-  -- a line is under way, so neither was
+  -- while a line is under way, a restart of the client is only counted
   pub busy_client : IsBusy up down → AreOf width (counted false r) up down c (does width w Restart_client)
   busy_client b = by_queues w.wire.up w.wire.down refl refl
     where
@@ -419,6 +435,7 @@ module _ (width : ℕ) (r : Report) (up down : List ℕ) (c : Windowed) (w : Wor
       by_queues [] (y ∷ ds) eu ed = shows_idle
       by_queues (x ∷ us) ds eu ed = shows_idle
 
+  -- while a line is under way, a restart of the instrument is only counted
   pub busy_instrument : IsBusy up down → AreOf width (counted false r) up down c (does width w Restart_instrument)
   busy_instrument b = by_queues w.wire.up w.wire.down refl refl
     where

@@ -40,29 +40,35 @@ use Rattle.gc_world.proofs.Streaming.{flow_start, flow_push, flow_without, flow_
 -- The queues behind a step.
 
 module _ (P : List (Numbered Request) → Type 0) where
+  -- what holds of both upward queues holds of the one that is chosen
   either_up : (w : Wire State) (us : List (Numbered Request)) (b : Bool) → P us → P w.up → P (with_up w us b).up
   either_up w us true u h = u
   either_up w us false u h = h
 
 module _ (P : List (Numbered (List ℕ)) → Type 0) where
+  -- what holds of both downward queues holds of the one that is chosen
   either_down : (w : Wire State) (ds : List (Numbered (List ℕ))) (b : Bool) → P ds → P w.down → P (with_down w ds b).down
   either_down w ds true d h = d
   either_down w ds false d h = h
 
+-- another upward queue leaves the downward one
 down_of_up : (w : Wire State) (us : List (Numbered Request)) (b : Bool) → (with_up w us b).down ≡ w.down
 down_of_up w us true = refl
 down_of_up w us false = refl
 
+-- another downward queue leaves the upward one
 up_of_down : (w : Wire State) (ds : List (Numbered (List ℕ))) (b : Bool) → (with_down w ds b).up ≡ w.up
 up_of_down w ds true = refl
 up_of_down w ds false = refl
 
+-- a restart of the client leaves the queues
 of_restart : (width : ℕ) (w : World ById State) (us : List (Numbered Request)) (ds : List (Numbered (List ℕ)))
     → ((client_restarted ends (by_ids width ends) w us ds).wire.up ≡ w.wire.up) × ((client_restarted ends (by_ids width ends) w us ds).wire.down ≡ w.wire.down)
 of_restart width w [] [] = (refl, refl)
 of_restart width w [] (d ∷ ds) = (refl, refl)
 of_restart width w (u ∷ us) ds = (refl, refl)
 
+-- a restart of the instrument leaves the queues
 of_start : (w : Wire State) (us : List (Numbered Request)) (ds : List (Numbered (List ℕ))) → ((instrument_restarted ends w us ds).up ≡ w.up) × ((instrument_restarted ends w us ds).down ≡ w.down)
 of_start w [] [] = (refl, refl)
 of_start w [] (d ∷ ds) = (refl, refl)
@@ -70,11 +76,13 @@ of_start w (u ∷ us) ds = (refl, refl)
 
 -- The texts of what is under way, as the report has them.
 
+-- the numbers of the upward queue name the texts of the requests under way
 names_up : (r : Report) (q : List (Numbered Request)) → Each (IsSentIn r.sent) q → map (written Up r) (numbers q) ≡ map Some (map (λ x. bytes_of x.line) q)
 names_up r [] h = refl
 names_up r (x ∷ xs) h =
     ap₂ (λ (o : Option (List ℕ)) l. o ∷ l) (ap (option_map (λ (q : Sent). q.line.items)) h.0.found ∙ ap Some h.0.line) (names_up r xs h.1)
 
+-- the places of the downward queue name the texts of the replies under way
 names_down : (r : Report) (places : List ℕ) (q : List (Numbered (List ℕ))) → named r.made places ≡ map Some q → map (written Down r) places ≡ map Some (map (λ x. x.line) q)
 names_down r [] [] h = refl
 names_down r [] (x ∷ xs) h = cc
@@ -85,7 +93,7 @@ names_down r (p ∷ ps) (x ∷ xs) h =
     let m = get_seen made_seen r.made p x one in
     ap₂ (λ (o : Option (List ℕ)) l. o ∷ l) (ap (option_map (λ (e : Made). e.line.items)) m.1 ∙ ap (λ (y : Numbered (List ℕ)). Some y.line) m.2) (names_down r ps xs others)
 
--- a side at the start of a line
+-- a side of which no byte has gone, with an assembler at the start, carries plain texts
 from_start : (s : Side) (texts : List (List ℕ)) → s.gone ≡ 0 → StandsFor s.assembler [] → Each IsPlain texts → IsFlow s.assembler s.gone texts
 from_start s texts none stands plain = subst (λ g. IsFlow s.assembler g texts) (sym none) (flow_start s.assembler texts stands plain)
 
@@ -94,7 +102,7 @@ unmoved : (d : Direction) (v : Streams ById State) (w : World ById State) → re
 unmoved Up v w = refl
 unmoved Down v w = refl
 
--- no bytes, or no line that they could be of
+-- an event of 0 bytes, or of bytes while none are under way, is only counted
 idle_bytes : (width : ℕ) (d : Direction) (v : Streams ById State) (q : List (List ℕ)) (n : ℕ) {r : ℕ} → r ≡ remaining (gone d v) q → (n ≡ 0) ⊎ (r ≡ 0)
     → IsPart (gone d v) q → passing ends (by_ids width ends) d v q n ≡ record
     { world = on_wire v.world (idle v.world.wire); up_gone = v.up_gone; down_gone = v.down_gone }
@@ -103,49 +111,53 @@ idle_bytes width d v (line ∷ q) zero e none part = unmoved d v (on_wire v.worl
 idle_bytes width d v (line ∷ q) (suc n) e (inl z) part = absurd (omega (arith, z))
 idle_bytes width d v (line ∷ q) (suc n) e (inr z) part = absurd (omega (arith, e, z, part))
 
--- the report with one event more that was idle, or without
+-- the report as it is (true), or with one more event that was idle
 abbrev counts : Bool → Report → Report
 counts b r = record r { idle_events = cond b r.idle_events (r.idle_events + 1) }
 
+-- both ways to count an idle event are one
 counted_is : (b : Bool) (r : Report) → counted b r ≡ counts b r
 counted_is true r = refl
 counted_is false r = refl
 
 module _ (width : ℕ) (s : Seen) (v : Streams ById State) (h : AreStreamsOf width s v) where
-  -- each side, by its direction
+  -- what has gone of a side's front line is what has gone in its direction
   pub gone_is : (d : Direction) → (pick d s.up s.down).gone ≡ gone d v
   gone_is Up = h.up_is
   gone_is Down = h.down_is
 
+  -- each side carries the texts of its direction
   pub carries : (d : Direction) → Carries d s.report (pick d s.up s.down) (texts d v.world.wire)
   carries Up = record { names = ap (map (written Up s.report)) h.lines.up_is ∙ names_up s.report v.world.wire.up h.lines.requests; flow = h.up_flow }
   carries Down = record { names = names_down s.report s.down.queue v.world.wire.down h.lines.down_is; flow = h.down_flow }
 
-  -- the last byte of its front line is still to go
+  -- of the front line of a direction not all bytes have gone
   pub part : (d : Direction) → IsPart (gone d v) (lines d v.world.wire)
   part d = subst (λ g. IsPart g (lines d v.world.wire)) (gone_is d) (carries d).flow.part
 
-  -- what is still to go of the front line
+  -- what a side has still to hand over of its front line is what its direction has
   pub left_is : (d : Direction) (n : ℕ) → n ≡ remaining (pick d s.up s.down).gone (map with_end (texts d v.world.wire)) → n ≡ remaining (gone d v) (lines d v.world.wire)
   left_is d n e = e ∙ ap (λ g. remaining g (lines d v.world.wire)) (gone_is d)
 
+  -- bytes that don't complete the front line of a direction don't complete that of its side
   pub more_left : (d : Direction) (n : ℕ) → n < remaining (gone d v) (lines d v.world.wire) → n < remaining (pick d s.up s.down).gone (map with_end (texts d v.world.wire))
   more_left d n lt = subst (λ g. n < remaining g (lines d v.world.wire)) (sym (gone_is d)) lt
 
-  -- what the front places name
+  -- the number in front of the upward queue is that of a request in the report
   pub front_request : (n : ℕ) (rest : List ℕ) → s.up.queue ≡ n ∷ rest → (request : Sent) × (slice_get s.report.sent n ≡ Some request)
   front_request n rest e =
       let f = up_front width s.report s.up.queue s.down.queue s.client v.world h.lines n rest e in
       let sound = subst (λ q. Each (IsSentIn s.report.sent) q) f.2 h.lines.requests in
       (sound.0.request, ap (slice_get s.report.sent) (sym f.3) ∙ sound.0.found)
 
+  -- the place in front of the downward queue is that of a reply in the report
   pub front_reply : (p : ℕ) (rest : List ℕ) → s.down.queue ≡ p ∷ rest → (reply : Made) × (slice_get s.report.made p ≡ Some reply)
   front_reply p rest e =
       let f = down_front width s.report s.up.queue s.down.queue s.client v.world h.lines p rest e in
       let m = get_seen made_seen s.report.made p f.0 f.3 in
       (m.0, m.1)
 
-  -- neither queue is another one
+  -- where both queues stay, the streams show the new world with as much gone
   kept : (r' : Report) (c' : Windowed) (w : World ById State) → AreOf width r' s.up.queue s.down.queue c' w
       → (w.wire.up ≡ v.world.wire.up) × (w.wire.down ≡ v.world.wire.down)
       → AreStreamsOf width (record s { report = r'; client = c' }) (record { world = w; up_gone = v.up_gone; down_gone = v.down_gone })
@@ -158,13 +170,13 @@ module _ (width : ℕ) (s : Seen) (v : Streams ById State) (h : AreStreamsOf wid
         down_flow = subst (λ q. IsFlow s.down.assembler s.down.gone (map (λ x. x.line) q)) (sym same.1) h.down_flow;
       }
 
-  -- an event that is not possible
+  -- an event that is not possible is only counted, in the stage as in the streams
   pub nothing : AreStreamsOf width (record s { report = counted false s.report }) (record { world = on_wire v.world (idle v.world.wire); up_gone = v.up_gone; down_gone = v.down_gone })
   nothing = kept (counted false s.report) s.client (on_wire v.world (idle v.world.wire)) (shows_idle width s.report s.up.queue s.down.queue s.client v.world h.lines) (refl, refl)
 
   -- Losses and repeats.
 
-  -- a side has another queue, or the event isn't possible
+  -- another upward queue, if the event is possible, shows the streams with that queue
   up_queue : (b : Bool) (queue : List ℕ) (us : List (Numbered Request)) (k : ℕ)
       → AreOf width (counted b s.report) queue s.down.queue s.client (on_wire v.world (with_up v.world.wire us (ltb k (length v.world.wire.up))))
       → IsFlow s.up.assembler s.up.gone (map (λ x. bytes_of x.line) us)
@@ -180,6 +192,7 @@ module _ (width : ℕ) (s : Seen) (v : Streams ById State) (h : AreStreamsOf wid
         down_flow = subst (λ q. IsFlow s.down.assembler s.down.gone (map (λ x. x.line) q)) (sym (down_of_up v.world.wire us t)) h.down_flow;
       }
 
+  -- another downward queue, if the event is possible, shows the streams with that queue
   down_queue : (b : Bool) (queue : List ℕ) (ds : List (Numbered (List ℕ))) (k : ℕ)
       → AreOf width (counted b s.report) s.up.queue queue s.client (on_wire v.world (with_down v.world.wire ds (ltb k (length v.world.wire.down))))
       → IsFlow s.down.assembler s.down.gone (map (λ x. x.line) ds) → AreStreamsOf width
@@ -195,11 +208,11 @@ module _ (width : ℕ) (s : Seen) (v : Streams ById State) (h : AreStreamsOf wid
         down_flow = either_down (λ q. IsFlow s.down.assembler s.down.gone (map (λ x. x.line) q)) v.world.wire ds t flow h.down_flow;
       }
 
-  -- the streams behind a step that no byte goes over at
+  -- the streams behind a step at which no byte goes over
   abbrev behind : Step → Streams ById State
   behind step = record { world = does width v.world step; up_gone = v.up_gone; down_gone = v.down_gone }
 
-  -- a line of a side is lost or repeated, where it hasn't begun to go
+  -- a loss or a repeat of line k, possible only before it has begun to go, shows the streams behind that step
   changes : (old : Side) (g : ℕ) (put : Side → ℕ → Seen) (k : ℕ) (queue : List ℕ) (step : Step) (side : Side) (count : ℕ) → old.gone ≡ g
       → put old (s.report.idle_events + 1) ≡ record s { report = counted false s.report } → Changes k queue old side s.report.idle_events count
       → (is_begun k old.gone ≡ false → (b : Bool) → b ≡ ltb k (length old.queue)
@@ -212,31 +225,36 @@ module _ (width : ℕ) (s : Seen) (v : Streams ById State) (h : AreStreamsOf wid
       by_begun false e = let was = c.done e in subst (λ t. AreStreamsOf width t (behind step)) (sym (ap₂ put was.0 was.1)) (done e (ltb k (length old.queue)) refl)
 
   module _ (k : ℕ) (side : Side) (count : ℕ) where
-    -- this side, and so many events that were idle
+    -- the stage with this upward side, and n idle events
     abbrev with_up_side : Side → ℕ → Seen
     with_up_side x n = record s { report = record s.report { idle_events = n }; up = x }
 
+    -- the stage with this downward side, and n idle events
     abbrev with_down_side : Side → ℕ → Seen
     with_down_side x n = record s { report = record s.report { idle_events = n }; down = x }
 
+    -- losing line k of the upward side shows the streams behind that event
     pub up_lost : Changes k (without k s.up.queue) s.up side s.report.idle_events count → AreStreamsOf width (with_up_side side count) (goes_on width v (event.UpLose k))
     up_lost c =
         changes s.up v.up_gone with_up_side k (without k s.up.queue) (Up_lose k) side count h.up_is refl c
         (λ e b is. up_queue b (without k s.up.queue) (without k v.world.wire.up) k (shows_up_lose width s.report s.up.queue s.down.queue s.client v.world h.lines k b is)
         (subst (IsFlow s.up.assembler s.up.gone) (without_map (λ x. bytes_of x.line) k v.world.wire.up) (flow_without k s.up.assembler s.up.gone (up_texts v.world.wire) e h.up_flow)))
 
+    -- repeating line k of the upward side shows the streams behind that event
     pub up_repeated : Changes k (doubled k s.up.queue) s.up side s.report.idle_events count → AreStreamsOf width (with_up_side side count) (goes_on width v (event.UpRepeat k))
     up_repeated c =
         changes s.up v.up_gone with_up_side k (doubled k s.up.queue) (Up_repeat k) side count h.up_is refl c
         (λ e b is. up_queue b (doubled k s.up.queue) (doubled k v.world.wire.up) k (shows_up_repeat width s.report s.up.queue s.down.queue s.client v.world h.lines k b is)
         (subst (IsFlow s.up.assembler s.up.gone) (doubled_map (λ x. bytes_of x.line) k v.world.wire.up) (flow_doubled k s.up.assembler s.up.gone (up_texts v.world.wire) e h.up_flow)))
 
+    -- losing line k of the downward side shows the streams behind that event
     pub down_lost : Changes k (without k s.down.queue) s.down side s.report.idle_events count → AreStreamsOf width (with_down_side side count) (goes_on width v (event.DownLose k))
     down_lost c =
         changes s.down v.down_gone with_down_side k (without k s.down.queue) (Down_lose k) side count h.down_is refl c
         (λ e b is. down_queue b (without k s.down.queue) (without k v.world.wire.down) k (shows_down_lose width s.report s.up.queue s.down.queue s.client v.world h.lines k b is)
         (subst (IsFlow s.down.assembler s.down.gone) (without_map (λ x. x.line) k v.world.wire.down) (flow_without k s.down.assembler s.down.gone (down_texts v.world.wire) e h.down_flow)))
 
+    -- repeating line k of the downward side shows the streams behind that event
     pub down_repeated : Changes k (doubled k s.down.queue) s.down side s.report.idle_events count → AreStreamsOf width (with_down_side side count) (goes_on width v (event.DownRepeat k))
     down_repeated c =
         changes s.down v.down_gone with_down_side k (doubled k s.down.queue) (Down_repeat k) side count h.down_is refl c
@@ -245,6 +263,7 @@ module _ (width : ℕ) (s : Seen) (v : Streams ById State) (h : AreStreamsOf wid
 
   -- A send.
 
+  -- sending a request shows the streams behind that event
   pub streams_send : (entry : Sent) (deadline : ℕ) (client : Windowed) (sent : List Sent) (queue : List ℕ)
       → sends s.client.width s.client.ids entry.target entry.call deadline ≡ Some (record { id = s.client.ids.next; client = client.ids })
       → client.width ≡ s.client.width → entry.line.items ≡ request_line (Some s.client.ids.next) entry.call → IsPlain entry.line.items → IsFitting entry.call
@@ -271,6 +290,7 @@ module _ (width : ℕ) (s : Seen) (v : Streams ById State) (h : AreStreamsOf wid
 
   -- Restarts.
 
+  -- restarting the client while no line is under way shows the streams behind that event
   pub streams_restart_client : (more settled : List Settlement) (client : Windowed) (starts : List ℕ) (state : State) → s.up.queue ≡ [] → s.down.queue ≡ []
       → AreSettlements more (restarts s.client.ids).settlements → client ≡ record s.client { ids = (restarts s.client.ids).client }
       → settled ≡ s.report.settled ++ more → starts ≡ s.report.starts ++ length s.report.executed ∷ [] → state ≡ restarted s.report.instrument
@@ -282,11 +302,13 @@ module _ (width : ℕ) (s : Seen) (v : Streams ById State) (h : AreStreamsOf wid
       settled_is starts_is state_is)
       (of_restart width v.world v.world.wire.up v.world.wire.down)
 
+  -- while a line is under way, a restart of the client is only counted
   pub streams_busy_client : IsBusy s.up.queue s.down.queue → AreStreamsOf width (record s { report = counted false s.report }) (goes_on width v event.RestartClient)
   streams_busy_client b =
       kept (counted false s.report) s.client (does width v.world Restart_client) (busy_client width s.report s.up.queue s.down.queue s.client v.world h.lines b)
       (of_restart width v.world v.world.wire.up v.world.wire.down)
 
+  -- while a line is under way, a restart of the instrument is only counted
   pub streams_busy_instrument : IsBusy s.up.queue s.down.queue → AreStreamsOf width (record s { report = counted false s.report }) (goes_on width v event.RestartInstrument)
   streams_busy_instrument b =
       kept (counted false s.report) s.client (does width v.world Restart_instrument) (busy_instrument width s.report s.up.queue s.down.queue s.client v.world h.lines b)
@@ -294,7 +316,7 @@ module _ (width : ℕ) (s : Seen) (v : Streams ById State) (h : AreStreamsOf wid
 
   -- Deliveries.
 
-  -- the line in front of the upward queue went over
+  -- delivering the front request shows the streams behind that event
   pub streams_up_deliver : (n : ℕ) (side : Side) (queue : List ℕ) (request : Sent) (entry : Made) (executed : List ℕ) (made : List Made) (state : State)
       (o : Option (List ℕ)) → s.up.queue ≡ n ∷ side.queue → slice_get s.report.sent n ≡ Some request
       → ExchangesAny s.report.instrument request.line.items state o → o ≡ Some entry.line.items → entry.number ≡ n
@@ -326,7 +348,7 @@ module _ (width : ℕ) (s : Seen) (v : Streams ById State) (h : AreStreamsOf wid
             (λ y. y.line) v.world.wire.down (m ∷ []))) (flow_push s.down.assembler s.down.gone (down_texts v.world.wire) reply plain h.down_flow));
       }
 
-  -- the line in front of the downward queue went over
+  -- delivering the front reply shows the streams behind that event
   pub streams_down_deliver : (p : ℕ) (side : Side) (m : Made) (line : List ℕ) (more settled : List Settlement) (client : Windowed)
       → s.down.queue ≡ p ∷ side.queue → slice_get s.report.made p ≡ Some m → line ≡ m.line.items
       → AreSettlements more (hears s.client.ids line (heard line)).settlements
@@ -348,7 +370,7 @@ module _ (width : ℕ) (s : Seen) (v : Streams ById State) (h : AreStreamsOf wid
 
   -- Bytes.
 
-  -- the front line has begun to go
+  -- handing over n bytes that don't complete the front line shows the streams with n more gone
   pub streams_begin : (d : Direction) (n : ℕ) (side : Side) → n < remaining (gone d v) (lines d v.world.wire)
       → IsFlow side.assembler side.gone (texts d v.world.wire) → side.gone ≡ (pick d s.up s.down).gone + n → side.queue ≡ (pick d s.up s.down).queue
       → AreStreamsOf width (record s { up = pick d side s.up; down = pick d s.down side }) (Stages.handed width d v n)
@@ -364,12 +386,12 @@ module _ (width : ℕ) (s : Seen) (v : Streams ById State) (h : AreStreamsOf wid
       by_direction Down flow gone queue =
           record { lines = subst (λ q. AreOf width s.report s.up.queue q s.client v.world) (sym queue) h.lines; up_is = h.up_is; down_is = gone; up_flow = h.up_flow; down_flow = flow }
 
-  -- no bytes, or no line that they could be of
+  -- an event of 0 bytes, or of bytes while none are under way, is only counted
   pub streams_idle_bytes : (d : Direction) (n r : ℕ) → r ≡ remaining (gone d v) (lines d v.world.wire) → (n ≡ 0) ⊎ (r ≡ 0)
       → AreStreamsOf width (record s { report = counted false s.report }) (goes_on width v (bytes d n))
   streams_idle_bytes d n r e none = subst (λ x. AreStreamsOf width (record s { report = counted false s.report }) x)
       (sym (bytes_pass ends (by_ids width ends) d v n ∙ idle_bytes width d v (lines d v.world.wire) n e none (part d))) nothing
 
--- a line is under way
+-- where the test that no line is under way fails, one is
 pub is_busy : {P : Type 0} (quiet : Bool) → IsTrue quiet ↔ P → quiet ≡ false → P → ⊥
 is_busy quiet iff not p = let e : quiet ≡ true = iff.1 p in cc

@@ -9,13 +9,14 @@ use Rattle.gc_world.specs.Streams.{remaining}
 use Rattle.gc_world.proofs.Options.{some_is}
 use Rattle.gc_world.proofs.Streaming.{IsFront, front_of, remaining_is}
 
--- the texts behind the first of a queue
+-- the first place of a queue names the first text, and the others the texts behind it
 record AreNamed (f : ℕ → Option (List ℕ)) (place : ℕ) (rest : List ℕ) (texts : List (List ℕ)) : Type 0 where
   text : List ℕ
   behind : List (List ℕ)
   are : texts ≡ text ∷ behind
   found : f place ≡ Some text
 
+-- a queue that begins with a place, and names texts, names one first
 named_first : (f : ℕ → Option (List ℕ)) (queue : List ℕ) (place : ℕ) (rest : List ℕ) (texts : List (List ℕ)) → queue ≡ place ∷ rest → map f queue ≡ map Some texts → AreNamed f place rest texts
 named_first f queue place rest texts e h = by_texts texts (sym (ap (map f) e) ∙ h)
   where
@@ -23,7 +24,7 @@ named_first f queue place rest texts e h = by_texts texts (sym (ap (map f) e) �
     by_texts [] g = cc
     by_texts (t ∷ ts) g = let one : f place ≡ Some t = cc in record { text = t; behind = ts; are = refl; found = one }
 
--- the place in front was taken from the queue, and its line is still to go
+-- taking the front place from the queue changes nothing of what the side carries until its line has gone
 pub taken : (d : Direction) (r : Report) (s : Side) (texts : List (List ℕ)) (place : ℕ) (rest : List ℕ) → s.queue ≡ place ∷ rest → Carries d r s texts
     → Carries d r (record s { queue = place ∷ rest }) texts
 taken d r s texts place rest e h = record { names = ap (map (written d r)) (sym e) ∙ h.names; flow = h.flow }
@@ -33,6 +34,7 @@ module _ (d : Direction) (r : Report) (s : Side) (texts : List (List ℕ)) (h : 
   pub front_written : (place : ℕ) (rest : List ℕ) → s.queue ≡ place ∷ rest → (text : List ℕ) × (written d r place ≡ Some text)
   front_written place rest e = let f = named_first (written d r) s.queue place rest texts e h.names in (f.text, f.found)
 
+  -- the assembler stands for what has gone of the front line
   pub front_line : (place : ℕ) (rest : List ℕ) (line : List ℕ) → s.queue ≡ place ∷ rest → written d r place ≡ Some line → IsFront line s.assembler s.gone (map with_end texts)
   front_line place rest line e found =
       let f = named_first (written d r) s.queue place rest texts e h.names in
@@ -40,16 +42,17 @@ module _ (d : Direction) (r : Report) (s : Side) (texts : List (List ℕ)) (h : 
       subst (λ (t : List ℕ). IsFront t s.assembler s.gone (map with_end texts)) same
       (subst (λ ts. IsFront f.text s.assembler s.gone (map with_end ts)) (sym f.are) (front_of s.assembler s.gone f.text f.behind (subst (λ ts. IsFlow s.assembler s.gone ts) f.are h.flow)))
 
-  -- and with those behind it, it is what its assembler has a part of
+  -- the front line and those behind it flow through the assembler
   pub front_flow : (place : ℕ) (rest : List ℕ) (line : List ℕ) → s.queue ≡ place ∷ rest → written d r place ≡ Some line → (behind : List (List ℕ)) × IsFlow s.assembler s.gone (line ∷ behind)
   front_flow place rest line e found =
       let f = named_first (written d r) s.queue place rest texts e h.names in
       (f.behind, subst (λ (t : List ℕ). IsFlow s.assembler s.gone (t ∷ f.behind)) (some_is f.text line (sym f.found ∙ found)) (subst (λ ts. IsFlow s.assembler s.gone ts) f.are h.flow))
 
+  -- what is still to go of the front line is its bytes, CR LF counted, less what has gone
   pub left_of : (place : ℕ) (rest : List ℕ) (line : List ℕ) → s.queue ≡ place ∷ rest → written d r place ≡ Some line → length line + 2 - s.gone ≡ remaining s.gone (map with_end texts)
   left_of place rest line e found = remaining_is line s.assembler s.gone (map with_end texts) (front_line place rest line e found)
 
-  -- where there is none, nothing is to go
+  -- where no line is under way, nothing is to go
   pub none_left : s.queue ≡ [] → 0 ≡ remaining s.gone (map with_end texts)
   none_left e = by_texts texts (sym (ap (map (written d r)) e) ∙ h.names)
     where

@@ -15,6 +15,7 @@ use Rattle.gc_world.proofs.Rows.{each_append, each_more, each_number, each_witho
 use Rattle.gc_world.proofs.Stable.{IsStable, stable, stable_all}
 use Rattle.gc_world.proofs.Options.{some_is}
 
+-- a moment leaves as many requests as there were
 pub length_expired : (now k : ℕ) (ps : List Pending) → length (take k ps ++ map (expired now) (drop k ps)) ≡ length ps
 length_expired now zero ps = length-map ps (expired now)
 length_expired now (suc k) [] = refl
@@ -27,12 +28,13 @@ pub record IsGoing (since total : ℕ) (x : Numbered Request) : Type 0 where
   pub id : x.line.id ≡ (x.number - since) % 8
 
 module _ {State : Type 0} (width : ℕ) (ends : Ends State) (Good : State → Type 0) where
-  -- a reply under way: likewise, and it is heard with that id
+  -- a reply under way: its number is of the client's present start, and it is heard with the id of that number
   pub record IsComing (since total : ℕ) (x : Numbered (List ℕ)) : Type 0 where
     pub recent : since ≤ x.number
     pub sent : x.number < total
     pub id : ends.heard x.line ≡ Some ((x.number - since) % 8)
 
+  -- what holds of a client that is told the numbers, of its counts, and of what is under way
   pub record IsSound (c : ByNumber) (sent settled : ℕ) (down : List (Numbered (List ℕ))) (up : List (Numbered Request)) (state : State) : Type 0 where
     pub good : Good state
     pub counted : length c.requests ≡ sent
@@ -44,12 +46,15 @@ module _ {State : Type 0} (width : ℕ) (ends : Ends State) (Good : State → Ty
     pub going : Each (IsGoing c.since (length c.requests)) up
     pub coming : Each (IsComing c.since (length c.requests)) down
 
+  -- `IsSound` of a world
   abbrev pub Sound : World ByNumber State → Type 0
   Sound w = IsSound w.client (length w.wire.sent) (length w.wire.settled) w.wire.down w.wire.up w.wire.state
 
+  -- a request under way stays so when more are sent
   going_more : (since total total' : ℕ) → total ≤ total' → (x : Numbered Request) → IsGoing since total x → IsGoing since total' x
   going_more since total total' le x h = record { recent = h.recent; sent = omega (arith, h.sent); id = h.id }
 
+  -- a reply under way stays so when more requests are sent
   coming_more : (since total total' : ℕ) → total ≤ total' → (x : Numbered (List ℕ)) → IsComing since total x → IsComing since total' x
   coming_more since total total' le x h = record { recent = h.recent; sent = omega (arith, h.sent); id = h.id }
 
@@ -61,6 +66,7 @@ module _ {State : Type 0} (width : ℕ) (ends : Ends State) (Good : State → Ty
       (each_number (λ n. n < total) down (each_more (IsComing since total) (λ x. x.number < total) (λ x h. h.sent) down cs))
       (each_number (λ n. n < total) up (each_more (IsGoing since total) (λ x. x.number < total) (λ x h. h.sent) up gs))
 
+  -- a send keeps a world sound
   sound_sent : (w : World ByNumber State) (target : ℕ) (call : Call) (deadline : ℕ) (full : Bool) (x : Sending ByNumber)
       → eqb (length w.client.requests - w.client.count) width ≡ full → number_send w.client target call deadline full ≡ Some x → Sound w
       → Sound (requested w target call (Some x))
@@ -95,6 +101,7 @@ module _ {State : Type 0} (width : ℕ) (ends : Ends State) (Good : State → Ty
       } in
       subst (λ z. Sound (requested w target call (Some z))) (some_is _ x s) done
 
+  -- an instrument's reply keeps a world sound
   sound_answer : IsExchange ends Good → (w : World ByNumber State) (x : Numbered Request) (rest : List (Numbered Request)) → w.wire.up ≡ x ∷ rest → Sound w
       → Sound (on_wire w (replied w.wire x.number rest (ends.handed w.wire.state x.line.id x.line.call)))
   sound_answer ex w x rest e h =
@@ -115,13 +122,14 @@ module _ {State : Type 0} (width : ℕ) (ends : Ends State) (Good : State → Ty
             (record { recent = g.0.recent; sent = g.0.sent; id = ex.reads w.wire.state x.line.id x.line.call h.good small ∙ ap Some g.0.id }, tt);
       }
 
-  -- the two queues are other ones
+  -- other queues, whose numbers never fall and are of requests and replies under way, keep a world sound
   sound_queues : (w : World ByNumber State) (down : List (Numbered (List ℕ))) (up : List (Numbered Request))
       → Rising w.client.count (numbers down ++ numbers up) → Each (IsGoing w.client.since (length w.client.requests)) up
       → Each (IsComing w.client.since (length w.client.requests)) down → Sound w → Sound (on_wire w (record w.wire { down = down; up = up }))
   sound_queues w down up order going coming h =
       record { good = h.good; counted = h.counted; booked = h.booked; begun = h.begun; within = h.within; few = h.few; order = order; going = going; coming = coming }
 
+  -- delivering a reply keeps a world sound
   sound_reply : (w : World ByNumber State) (x : Numbered (List ℕ)) (rest : List (Numbered (List ℕ))) (old : Bool) → w.wire.down ≡ x ∷ rest
       → ltb x.number w.client.count ≡ old → Sound w → Sound (with_settled (record w.wire { down = rest }) (number_reply w.client x old))
   sound_reply w x rest true e t h =
@@ -158,6 +166,7 @@ module _ {State : Type 0} (width : ℕ) (ends : Ends State) (Good : State → Ty
         coming = coming.1;
       }
 
+  -- a moment keeps a world sound
   sound_expired : (w : World ByNumber State) (now : ℕ) → Sound w → Sound (record { wire = w.wire; client = (by_numbers width).expire w.client now })
   sound_expired w now h =
       let c = w.client in
@@ -174,6 +183,7 @@ module _ {State : Type 0} (width : ℕ) (ends : Ends State) (Good : State → Ty
         coming = subst (λ n. Each (IsComing c.since n) w.wire.down) (sym same) h.coming;
       }
 
+  -- a start of the instrument keeps a world sound
   sound_started : IsExchange ends Good → (w : World ByNumber State) (b : Bool) → Sound w → Sound (on_wire w (started ends w.wire b))
   sound_started ex w false h = h
   sound_started ex w true h =
@@ -190,7 +200,7 @@ module _ {State : Type 0} (width : ℕ) (ends : Ends State) (Good : State → Ty
         coming = h.coming;
       }
 
-  -- all that wait are settled, while no line is under way
+  -- settling all that wait while no line is under way keeps a world sound
   sound_lost : (w : World ByNumber State) → w.wire.up ≡ [] → w.wire.down ≡ [] → Sound w → Sound (with_settled w.wire ((by_numbers width).restart w.client))
   sound_lost w eu ed h =
       let c = w.client in
@@ -208,12 +218,13 @@ module _ {State : Type 0} (width : ℕ) (ends : Ends State) (Good : State → Ty
         coming = subst (λ q. Each (IsComing total total) q) (sym ed) tt;
       }
 
+  -- a restart of the client while no line is under way keeps a world sound
   sound_restarted : IsExchange ends Good → (w : World ByNumber State) (b : Bool) → w.wire.up ≡ [] → w.wire.down ≡ [] → Sound w
       → Sound (with_settled (started ends w.wire b) ((by_numbers width).restart w.client))
   sound_restarted ex w false eu ed h = sound_lost w eu ed h
   sound_restarted ex w true eu ed h = sound_lost (on_wire w (started ends w.wire true)) eu ed (sound_started ex w true h)
 
-  -- each step keeps it
+  -- each elementary change keeps a world sound
   pub keeps : IsExchange ends Good → IsStable ends (by_numbers width) Sound
   keeps ex =
       record {
@@ -235,11 +246,14 @@ module _ {State : Type 0} (width : ℕ) (ends : Ends State) (Good : State → Ty
         starts = λ w u d h. sound_started ex w true h;
       }
 
+  -- each step keeps a world sound
   pub sound_step : IsExchange ends Good → (w : World ByNumber State) (e : Step) → Sound w → Sound (happens ends (by_numbers width) w e)
   sound_step ex w e h = stable ends (by_numbers width) Sound (keeps ex) w e h
 
+  -- a run keeps a world sound
   pub sound_all : IsExchange ends Good → (es : List Step) (w : World ByNumber State) → Sound w → Sound (run ends (by_numbers width) es w)
   sound_all ex es w h = stable_all ends (by_numbers width) Sound (keeps ex) es w h
 
+  -- the world before the first event is sound
   pub sound_open : (state : State) → Good state → Sound (numbers_open state)
   sound_open state g = record { good = g; counted = refl; booked = refl; begun = omega arith; within = omega arith; few = omega arith; order = tt; going = tt; coming = tt }

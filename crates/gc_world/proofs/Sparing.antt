@@ -13,39 +13,46 @@ use Rattle.gc_world.specs.Streams.{is_begun}
 use Rattle.gc_world.specs.World.{Numbered, World}
 use Rattle.gc_world.proofs.Showing.{same_up, same_down, no_up, no_down, down_front, down_line}
 
+-- false isn't true
 pub not_both : false ≡ true → ⊥
 not_both e = cc
 
 module _ (width : ℕ) (r : Report) (up down : List ℕ) (c : Windowed) (w : World ById State) (h : AreOf width r up down c w) where
+  -- where the world's client has as many requests waiting as its width, the stage's has
   pub full : length w.client.waiting ≡ width → length c.ids.waiting ≡ c.width
   full t = ap (λ (x : Windowed). length x.ids.waiting) h.client_is ∙ t ∙ sym (ap (λ (x : Windowed). x.width) h.client_is)
 
+  -- where the world's upward queue is empty, the stage's is
   pub none_up : w.wire.up ≡ [] → up ≡ []
   none_up t = h.up_is ∙ ap numbers t
 
+  -- a place past the world's upward queue is past the stage's
   pub past_up : (k : ℕ) → length w.wire.up ≤ k → length up ≤ k
   past_up k t = omega (arith, same_up width r up down c w h, t)
 
+  -- a place past the world's downward queue is past the stage's
   pub past_down : (k : ℕ) → length w.wire.down ≤ k → length down ≤ k
   past_down k t = omega (arith, same_down width r up down c w h, t)
 
-  -- a line that can't be repeated
+  -- a request that the world can't repeat, the stage can't
   pub no_repeat_up : (k gone gone' : ℕ) → gone ≡ gone' → IsNoRepeat k gone' w.wire.up → IsNoRepeat k gone up
   no_repeat_up k gone gone' e t = elim t [
     | inl begun ↦ inl (ap (is_begun k) e ∙ begun)
     | inr past ↦ inr (past_up k past)
   ]
 
+  -- a reply that the world can't repeat, the stage can't
   pub no_repeat_down : (k gone gone' : ℕ) → gone ≡ gone' → IsNoRepeat k gone' w.wire.down → IsNoRepeat k gone down
   no_repeat_down k gone gone' e t = elim t [
     | inl begun ↦ inl (ap (is_begun k) e ∙ begun)
     | inr past ↦ inr (past_down k past)
   ]
 
+  -- where the world has a line under way, the stage has
   pub busy : IsBusy w.wire.up w.wire.down → IsBusy up down
   busy b = λ quiet. b (no_up width r up down c w h quiet.0, no_down width r up down c w h quiet.1)
 
-  -- a reply in front for which no request waits
+  -- where no request of the world waits for the front reply, none of the stage does
   pub stray : (p : ℕ) (rest : List ℕ) (m : Made) (bytes : List ℕ) → down ≡ p ∷ rest → slice_get r.made p ≡ Some m → bytes ≡ m.line.items
       → IsStray w.client w.wire.down → fits c.ids (heard bytes) ≡ false
   stray p rest m bytes e found same t =

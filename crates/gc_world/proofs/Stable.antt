@@ -5,6 +5,7 @@ use Rattle.gc_client.specs.Rule.{Sending}
 use Rattle.gc_world.specs.World.{Request, Numbered, Ends, Rule, Step, Send, Up_deliver, Up_lose, Up_repeat, Down_deliver, Down_lose, Down_repeat, Expire, Restart_client, Restart_instrument, Nothing, World, without, doubled, idle, replied, up_delivered, with_up, with_down, started, instrument_restarted, on_wire, requested, with_settled, down_delivered, client_restarted, happens, run}
 
 module _ {Client State : Type 0} (ends : Ends State) (rule : Rule Client) (P : World Client State → Type 0) where
+  -- each elementary change of a world keeps P
   pub record IsStable : Type 0 where
     pub idles : (w : World Client State) → P w → P (on_wire w (idle w.wire))
     pub refuses : (w : World Client State) → P w → P (on_wire w (record w.wire { refused = w.wire.refused + 1 }))
@@ -22,37 +23,45 @@ module _ {Client State : Type 0} (ends : Ends State) (rule : Rule Client) (P : W
     pub starts : (w : World Client State) → w.wire.up ≡ [] → w.wire.down ≡ [] → P w → P (on_wire w (started ends w.wire true))
 
   module _ (st : IsStable) where
+    -- a send keeps P, refused or not
     at_send : (w : World Client State) (target : ℕ) (call : Call) (deadline : ℕ) (o : Option (Sending Client)) → rule.send w.client target call deadline ≡ o → P w → P (requested w target call o)
     at_send w target call deadline None e h = st.refuses w h
     at_send w target call deadline (Some x) e h = st.sends w target call deadline x e h
 
+    -- a delivery to the instrument keeps P
     at_up : (w : World Client State) (q : List (Numbered Request)) → w.wire.up ≡ q → P w → P (on_wire w (up_delivered ends w.wire q))
     at_up w [] e h = st.idles w h
     at_up w (x ∷ rest) e h = st.answers w x rest e h
 
+    -- another upward queue keeps P, if that is possible or not
     at_with_up : (w : World Client State) (up : List (Numbered Request)) (b : Bool) → P (on_wire w (record w.wire { up = up })) → P w → P (on_wire w (with_up w.wire up b))
     at_with_up w up false u h = st.idles w h
     at_with_up w up true u h = u
 
+    -- another downward queue keeps P, if that is possible or not
     at_with_down : (w : World Client State) (down : List (Numbered (List ℕ))) (b : Bool) → P (on_wire w (record w.wire { down = down })) → P w → P (on_wire w (with_down w.wire down b))
     at_with_down w down false u h = st.idles w h
     at_with_down w down true u h = u
 
+    -- a delivery to the client keeps P
     at_down : (w : World Client State) (q : List (Numbered (List ℕ))) → w.wire.down ≡ q → P w → P (down_delivered rule w q)
     at_down w [] e h = st.idles w h
     at_down w (x ∷ rest) e h = st.hears w x rest e h
 
+    -- a restart of the client keeps P
     at_restart : (w : World Client State) (up : List (Numbered Request)) (down : List (Numbered (List ℕ))) → w.wire.up ≡ up → w.wire.down ≡ down → P w → P (client_restarted ends rule w up down)
     at_restart w [] [] u d h = st.restarts w u d h
     at_restart w [] (y ∷ down) u d h = st.idles w h
     at_restart w (x ∷ up) down u d h = st.idles w h
 
+    -- a restart of the instrument keeps P
     at_start : (w : World Client State) (up : List (Numbered Request)) (down : List (Numbered (List ℕ))) → w.wire.up ≡ up → w.wire.down ≡ down → P w
         → P (on_wire w (instrument_restarted ends w.wire up down))
     at_start w [] [] u d h = st.starts w u d h
     at_start w [] (y ∷ down) u d h = st.idles w h
     at_start w (x ∷ up) down u d h = st.idles w h
 
+    -- each step keeps P
     pub stable : (w : World Client State) (e : Step) → P w → P (happens ends rule w e)
     stable w (Send target call deadline) h = at_send w target call deadline (rule.send w.client target call deadline) refl h
     stable w Up_deliver h = at_up w w.wire.up refl h
@@ -66,6 +75,7 @@ module _ {Client State : Type 0} (ends : Ends State) (rule : Rule Client) (P : W
     stable w Restart_instrument h = at_start w w.wire.up w.wire.down refl refl h
     stable w Nothing h = st.idles w h
 
+    -- each run keeps P
     pub stable_all : (es : List Step) (w : World Client State) → P w → P (run ends rule es w)
     stable_all [] w h = h
     stable_all (e ∷ es) w h = stable_all es (happens ends rule w e) (stable w e h)

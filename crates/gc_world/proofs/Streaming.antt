@@ -10,37 +10,39 @@ use Rattle.gc_world.specs.World.{without, doubled}
 use Rattle.gc_world.proofs.Pieces.{end_length}
 use Rattle.gc_world.proofs.Rows.{each_append, each_without, each_doubled}
 
--- a line that hasn't begun to go, in front
+-- where the front line hasn't begun to go, no byte of it has gone
 not_begun : (gone : ℕ) → is_begun 0 gone ≡ false → gone ≡ 0
 not_begun gone e = let le : gone ≤ 0 = ltb-false 0 gone e in omega (arith, le)
 
--- an assembler at the start of a line
+-- an assembler at the start of a line carries plain texts of which nothing has gone
 pub flow_start : (kept : Kept) (texts : List (List ℕ)) → StandsFor kept [] → Each IsPlain texts → IsFlow kept 0 texts
 flow_start kept [] s p = record { part = refl; stands = s; plain = p }
 flow_start kept (text ∷ texts) s p = record { part = omega (arith, end_length text); stands = s; plain = p }
 
--- a line more
+-- one more plain text at the back is carried, too
 pub flow_push : (kept : Kept) (gone : ℕ) (texts : List (List ℕ)) (text : List ℕ) → IsPlain text → IsFlow kept gone texts → IsFlow kept gone (texts ++ text ∷ [])
 flow_push kept gone [] text p h = subst (λ g. IsFlow kept g (text ∷ [])) (sym h.part) (flow_start kept (text ∷ []) h.stands (p, tt))
 flow_push kept gone (t ∷ ts) text p h = record { part = h.part; stands = h.stands; plain = each_append _ (t ∷ ts) (text ∷ []) h.plain (p, tt) }
 
+-- where nothing has gone, other plain texts are carried as well
 flow_tail : (kept : Kept) (gone : ℕ) (text : List ℕ) (texts rest : List (List ℕ)) → gone ≡ 0 → IsFlow kept gone (text ∷ texts) → Each IsPlain rest → IsFlow kept gone rest
 flow_tail kept gone text texts rest e h p =
     let at = subst (λ g. IsFlow kept g (text ∷ texts)) e h in
     subst (λ g. IsFlow kept g rest) (sym e) (flow_start kept rest at.stands p)
 
--- a line that is lost, and one that is repeated
+-- losing a line that hasn't begun to go leaves the others carried
 pub flow_without : (k : ℕ) (kept : Kept) (gone : ℕ) (texts : List (List ℕ)) → is_begun k gone ≡ false → IsFlow kept gone texts → IsFlow kept gone (without k texts)
 flow_without k kept gone [] e h = h
 flow_without zero kept gone (t ∷ ts) e h = flow_tail kept gone t ts ts (not_begun gone e) h h.plain.1
 flow_without (suc k) kept gone (t ∷ ts) e h = record { part = h.part; stands = h.stands; plain = each_without _ (suc k) (t ∷ ts) h.plain }
 
+-- repeating a line that hasn't begun to go leaves all carried
 pub flow_doubled : (k : ℕ) (kept : Kept) (gone : ℕ) (texts : List (List ℕ)) → is_begun k gone ≡ false → IsFlow kept gone texts → IsFlow kept gone (doubled k texts)
 flow_doubled k kept gone [] e h = h
 flow_doubled zero kept gone (t ∷ ts) e h = flow_tail kept gone t ts (t ∷ t ∷ ts) (not_begun gone e) h (h.plain.0, h.plain)
 flow_doubled (suc k) kept gone (t ∷ ts) e h = record { part = h.part; stands = h.stands; plain = each_doubled _ (suc k) (t ∷ ts) h.plain }
 
--- the line in front, and what an assembler stands for of it
+-- this is the front line, and the assembler stands for what has gone of it
 pub record IsFront (line : List ℕ) (kept : Kept) (gone : ℕ) (lines : List (List ℕ)) : Type 0 where
   pub behind : List (List ℕ)
   pub lines_are : lines ≡ with_end line ∷ behind
@@ -48,24 +50,25 @@ pub record IsFront (line : List ℕ) (kept : Kept) (gone : ℕ) (lines : List (L
   pub some : gone < length line + 2
   pub stands : StandsFor kept (take gone (with_end line))
 
+-- the first of the texts that an assembler carries is its front line, as `IsFront` has it
 pub front_of : (kept : Kept) (gone : ℕ) (text : List ℕ) (texts : List (List ℕ)) → IsFlow kept gone (text ∷ texts) → IsFront text kept gone (map with_end (text ∷ texts))
 front_of kept gone text texts h =
     record { behind = map with_end texts; lines_are = refl; plain = h.plain.0; some = omega (arith, h.part, end_length text); stands = h.stands }
 
--- how many of its bytes are still to go
+-- what is still to go of the front line is its bytes, CR LF counted, less what has gone
 pub remaining_is : (line : List ℕ) (kept : Kept) (gone : ℕ) (lines : List (List ℕ)) → IsFront line kept gone lines → length line + 2 - gone ≡ remaining gone lines
 remaining_is line kept gone lines h =
     let at : remaining gone lines ≡ length (with_end line) - gone = ap (remaining gone) h.lines_are in
     omega (arith, at, end_length line)
 
--- bytes more, which don't complete it
+-- n more bytes that don't complete the front line are carried on
 pub flow_more : (kept after : Kept) (gone n : ℕ) (line : List ℕ) (texts : List (List ℕ)) → IsFront line kept gone (map with_end texts)
     → n < remaining gone (map with_end texts) → StandsFor after (take (gone + n) (with_end line)) → IsFlow kept gone texts → IsFlow after (gone + n) texts
 flow_more kept after gone n line [] front lt s h = absurd (omega (arith, lt))
 flow_more kept after gone n line (t ∷ ts) front lt s h =
     record { part = omega (arith, lt, h.part); stands = subst (StandsFor after) (sym (ap (gone_of (gone + n)) front.lines_are)) s; plain = h.plain }
 
--- bytes that complete no line
+-- bytes that don't complete the front line complete none
 pub cut_short : (lines : List (List ℕ)) (gone n : ℕ) → n < remaining gone lines → cut lines (gone + n) ≡ record { lines = 0; gone = gone + n }
 cut_short [] gone n lt = absurd (omega (arith, lt))
 cut_short (line ∷ lines) gone n lt =

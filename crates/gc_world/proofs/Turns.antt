@@ -13,13 +13,14 @@ use Rattle.gc_world.specs.World.{World}
 use Rattle.gc_world.proofs.Counts.{IsWithin, within_all}
 use Rattle.gc_world.proofs.Flow.{flow_append}
 
--- one event more
+-- the streams behind one more event are those behind the others, and then the event
 pub played_more : (width : ℕ) (opening : State) (events : List Event) (i : ℕ) (e : Event) → i < length events → e ≡ get_or events i e
     → streamed width opening (take (i + 1) events) ≡ goes_on width (streamed width opening (take i events)) e
 played_more width opening events i e lt is =
     ap (streamed width opening) (take_more events i e lt ∙ ap (λ x. take i events ++ x ∷ []) (sym is))
     ∙ flow_append ends (by_ids width ends) (take i events) (e ∷ []) (begins opening)
 
+-- no list of a run is longer than its list of events
 pub played_within : (width : ℕ) (opening : State) (events : List Event) → IsWithin (length events) (played width opening events).wire
 played_within width opening events =
     let e : 0 + length events ≡ length events = omega arith in
@@ -27,7 +28,7 @@ played_within width opening events =
     (within_all ends (by_ids width ends) events (begins opening) 0 (record
     { sent = omega arith; executed = omega arith; made = omega arith; starts = omega arith; refused = omega arith; idle = omega arith }))
 
--- the assemblers don't count for the lines
+-- which assemblers a report has doesn't count for its lists
 with_kept : (width : ℕ) (r : Report) (up down : List ℕ) (c : Windowed) (w : World ById State) (a b : Kept) → AreOf width r up down c w → AreOf width (record r { up = a; down = b }) up down c w
 with_kept width r up down c w a b h =
     let g = h.reports in
@@ -41,7 +42,7 @@ with_kept width r up down c w a b h =
       calls = h.calls;
     }
 
--- what is handed back behind the last event
+-- behind the last event the report that is handed back is that of the whole run
 pub at_end : (width : ℕ) (opening : State) (events : List Event) (s : Seen) (i : ℕ) (r : Report) → length events ≤ i
     → AreStreamsOf width s (streamed width opening (take i events)) → r ≡ record s.report { up = s.up.assembler; down = s.down.assembler }
     → AreOf width r s.up.queue s.down.queue s.client (played width opening events)

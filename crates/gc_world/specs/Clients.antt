@@ -25,8 +25,8 @@ by_ids width ends =
 
 -- By numbers.
 
--- the count of settled requests, every request that was sent, each with the mark whether it was given up, and how many
--- had been sent at the last start
+-- the client that is told the numbers: how many requests are settled, all that were sent, settled or not, and how many of them had been
+-- sent at the client's last start
 pub record ByNumber : Type 0 where
   pub count : ℕ
   pub requests : List Pending
@@ -66,10 +66,11 @@ by_numbers width =
 -- The runs.
 
 module _ {State : Type 0} where
-  -- the world before the first event, for either client
+  -- the world before the first event, with the client that knows ids
   abbrev pub ids_open : State → World ById State
   ids_open state = record { wire = opened state; client = fresh }
 
+  -- the world before the first event, with the client that is told the numbers
   abbrev pub numbers_open : State → World ByNumber State
   numbers_open state = record { wire = opened state; client = record { count = 0; requests = []; since = 0 } }
 
@@ -77,14 +78,15 @@ module _ {State : Type 0} where
   abbrev pub run_by_ids : ℕ → Ends State → List Step → State → World ById State
   run_by_ids width ends steps state = run ends (by_ids width ends) steps (ids_open state)
 
-  -- the run by numbers: the same steps and the same instrument, with the client that is told the numbers
+  -- the run by numbers: every step, in order, with the client that is told the numbers
   abbrev pub run_by_numbers : ℕ → Ends State → List Step → State → World ByNumber State
   run_by_numbers width ends steps state = run ends (by_numbers width) steps (numbers_open state)
 
-  -- the same of events, with what has gone of the front lines: a reply is delivered with its last byte
+  -- the run by ids of events, with what has gone of the front lines: a reply is delivered with its last byte
   abbrev pub streams_by_ids : ℕ → Ends State → List Event → State → Streams ById State
   streams_by_ids width ends events state = flow ends (by_ids width ends) events (untouched (ids_open state))
 
+  -- the run by numbers of events, with what has gone of the front lines: a reply is delivered with its last byte
   abbrev pub streams_by_numbers : ℕ → Ends State → List Event → State → Streams ByNumber State
   streams_by_numbers width ends events state = flow ends (by_numbers width) events (untouched (numbers_open state))
 
@@ -96,10 +98,10 @@ ends = record { handed = handed; restarted = restarted; heard = heard; joint = t
 abbrev pub streamed : ℕ → State → List Event → Streams ById State
 streamed width opening events = streams_by_ids width ends events (restarted opening)
 
--- the world that it leaves
+-- the world that the run by ids of these events leaves, from the restarted opening state, with a window of this width
 abbrev pub played : ℕ → State → List Event → World ById State
 played width opening events = (streamed width opening events).world
 
--- the run by numbers of the same events, with the same width
+-- the world that the run by numbers of these events leaves, from the restarted opening state, with a window of this width
 abbrev pub played_by_numbers : ℕ → State → List Event → World ByNumber State
 played_by_numbers width opening events = (streams_by_numbers width ends events (restarted opening)).world

@@ -13,27 +13,29 @@ abbrev pub pick : {A : Type 0} → Direction → A → A → A
 pick Up up down = up
 pick Down up down = down
 
--- the front line is handed over: as a step of the world, and as an event
+-- the step of the world in which the front line of a direction is handed over
 abbrev pub deliver : Direction → Step
 deliver d = pick d Up_deliver Down_deliver
 
+-- the event in which the front line of a direction is handed over
 abbrev pub delivery : Direction → Event
 delivery d = pick d event.UpDeliver event.DownDeliver
 
--- the next bytes go over
+-- the event in which the next n bytes of a direction go over
 abbrev pub bytes : Direction → ℕ → Event
 bytes d n = pick d (event.UpBytes n) (event.DownBytes n)
 
 module _ {State : Type 0} where
-  -- the text of each line under way, the front line first, and its bytes
+  -- the text of each line under way in a direction, the front line first
   abbrev pub texts : Direction → Wire State → List (List ℕ)
   texts d w = pick d (up_texts w) (down_texts w)
 
+  -- the bytes of each line under way in a direction, with CR LF, the front line first
   abbrev pub lines : Direction → Wire State → List (List ℕ)
   lines d w = map with_end (texts d w)
 
 module _ {Client State : Type 0} where
-  -- how many bytes of the front line have gone
+  -- how many bytes of the front line of a direction have gone
   abbrev pub gone : Direction → Streams Client State → ℕ
   gone d v = pick d v.up_gone v.down_gone
 

@@ -6,14 +6,14 @@ use Rattle.gc_catalogue.specs.declared.call.Call.{Call}
 use Rattle.gc_client.specs.declared.window.TheConstants.{IDS}
 use Rattle.gc_world.specs.World.{Ends}
 
--- in a good state the reply to a request reads as one with its id, and leaves a good state
+-- in a good state the reply to a request reads as one with the request's id; replying and restarting lead to good states
 pub record IsExchange {State : Type 0} (ends : Ends State) (Good : State → Type 0) : Type 0 where
   pub reads : (state : State) (id : ℕ) (call : Call) → Good state → id < IDS → ends.heard (ends.handed state id call).reply ≡ Some id
   pub stays_good : (state : State) (id : ℕ) (call : Call) → Good state → id < IDS → Good (ends.handed state id call).state
   pub restart_good : (state : State) → Good state → Good (ends.restarted state)
 
--- what the instrument keeps: the last reply, with its id. A request with that id has the kept line, and nothing changes; one with
--- another is executed, and its reply kept. Starting twice is starting once, and leaves nothing kept
+-- the instrument keeps its last reply, with the reply's id. A request with that id gets the kept line, and nothing changes; a request with
+-- another id is executed, and its reply is kept. Restarting twice is restarting once, and leaves nothing kept
 pub record IsKeeper {State : Type 0} (ends : Ends State) (kept : State → Option KeptReply) : Type 0 where
   pub twice : (state : State) → ends.restarted (ends.restarted state) ≡ ends.restarted state
   pub forgets : (state : State) → kept (ends.restarted state) ≡ None

@@ -28,7 +28,7 @@ pub record OneForOne (r : Report) : Type 0 where
       (m : ℕ) (settlement : Settlement) (request : Sent) → slice_get r.settled m ≡ Some settlement → slice_get r.sent m ≡ Some request →
       (settlement.target ≡ request.target) × (settlement.call ≡ request.call)
 
--- a reading is a value or a refusal, never a fault of the communication and never something unreadable
+-- a reading is a value or a refusal, and neither a fault of the communication nor unreadable
 abbrev pub IsValueOrRefusal : Reading → Type 0
 IsValueOrRefusal (Value answer) = ⊤
 IsValueOrRefusal (Refused code) = ⊤
@@ -46,7 +46,7 @@ pub record IsBookedFor (r : Report) (m : ℕ) (call : Call) (reading : Reading) 
   pub reads : ReadsAs call line reading
   pub fine : IsValueOrRefusal reading
 
--- an outcome at place m, where it is an answer
+-- where the outcome is an answer, it is booked for request m, as `IsBookedFor` has it; of other outcomes nothing is said
 abbrev pub IsBookedAnswer : Report → ℕ → Call → Outcome → Type 0
 IsBookedAnswer r m call (Answered reading line) = IsBookedFor r m call reading line.items
 IsBookedAnswer r m call Late = ⊤
@@ -63,7 +63,7 @@ abbrev pub has_number : ℕ → List ℕ → Bool
 has_number n [] = false
 has_number n (x ∷ xs) = nat_eq x n || has_number n xs
 
--- the state after a restart, where there was one
+-- this state, restarted where there was a restart (true)
 abbrev pub begun : {State : Type 0} → (State → State) → Bool → State → State
 begun restarted false state = state
 begun restarted true state = restarted state

@@ -1,11 +1,11 @@
 -- The first reply to a request, where it comes unsettled and in time, is booked. It is said of the run by ids, in the
 -- words of who made the list of events. This project's own.
 -- "First": the first of the replies to a request that is delivered. A reply that finds its request unsettled is the first,
--- since it settles it; a further one settles nothing. "Unsettled": the request's number isn't below the count of the
--- settlements so far. "In time": since the request was sent the client wasn't told a moment at or past its deadline.
+-- because it settles the request; a further one settles nothing. "Unsettled": the request's number isn't below the count of the
+-- settlements so far. "In time": since the request was sent the client got no moment at or past the request's deadline.
 -- "Delivered": its last byte goes over. Where one event hands over several replies, each is delivered in turn: the law that
 -- bytes go over in turn cuts such an event into one delivery for each.
--- The width is that of the window; `play_width` is told it, and `play` has the width `WINDOW`.
+-- The width is that of the window: an argument of `play_width`, and `WINDOW` for `play`.
 use Rattle.std.specs.Prelude.{◌≡◌, ◌⊎◌, ℕ, ◌+◌, ◌-◌, ◌<◌, ◌≤◌, List, [], ◌∷◌, ◌++◌, length, map, take, drop, Some, slice_get, Contains}
 use Rattle.gc_catalogue.specs.declared.call.Call.{Call}
 use Rattle.gc_client.specs.declared.window.TheConstants.{WINDOW}
@@ -24,19 +24,19 @@ pub record IsSentBefore (width : ℕ) (opening : State) (events : List Event) (n
   pub target : ℕ
   pub call : Call
   pub order : events ≡ earlier ++ Send target call deadline ∷ later
-  -- n had been sent before it
+  -- n requests had been sent before it
   pub number : length (left_by_ids width opening earlier).sent ≡ n
   -- and it was not refused
   pub taken : length (left_by_ids width opening (earlier ++ Send target call deadline ∷ [])).sent ≡ n + 1
 
--- in time: each moment that the client was told since request n was sent lay before its deadline
+-- in time: each moment that the client got since request n was sent lay before the request's deadline
 pub record IsInTime (width : ℕ) (opening : State) (events : List Event) (n : ℕ) : Type 0 where
   pub deadline : ℕ
   pub later : List Event
   pub sent : IsSentBefore width opening events n deadline later
   pub early : (now : ℕ) → Contains later (Expire now) → now < deadline
 
--- too late: since request n was sent the client was told a moment at or past its deadline
+-- too late: since request n was sent the client got a moment at or past the request's deadline
 pub record IsTooLate (width : ℕ) (opening : State) (events : List Event) (n : ℕ) : Type 0 where
   pub deadline : ℕ
   pub later : List Event
@@ -51,7 +51,7 @@ pub record IsNextFor (w : Wire State) (n : ℕ) (line : List ℕ) : Type 0 where
   pub front : w.down ≡ record { number = n; line = line } ∷ behind
   pub unsettled : length w.settled ≤ n
 
--- the end of a request that was sent
+-- the settlement with this outcome of a request that was sent
 abbrev pub ended : Outcome → Sent → Settlement
 ended outcome r = record { target = r.target; call = r.call; outcome = outcome }
 
@@ -70,20 +70,21 @@ pub record IsSettledAs (before after : Wire State) (n : ℕ) (outcome : Outcome)
 abbrev pub IsDelivery : Streams ById State → Event → Type 0
 IsDelivery v e = (e ≡ DownDeliver) ⊎ ((n : ℕ) × (e ≡ DownBytes (n + 1)) × (remaining v.down_gone (down_lines v.world.wire) ≡ n + 1))
 
--- the delivery of the reply in front settles its request, which wasn't settled, with this outcome
+-- behind these events, if this line is the reply in front of the downward queue, and request n, to which it belongs, isn't settled: its
+-- delivery settles request n with this outcome, and the unsettled requests before that one as lost
 abbrev pub DeliverySettles : ℕ → State → List Event → ℕ → List ℕ → Outcome → Type 0
 DeliverySettles width opening events n line outcome =
     (delivery : Event) → IsDelivery (streams_by_ids width ends events (restarted opening)) delivery → IsNextFor (left_by_ids width opening events) n line →
     IsSettledAs (left_by_ids width opening events) (left_by_ids width opening (events ++ delivery ∷ [])) n outcome
 
--- in time it is answered, with that very line. What the report then has as its reading is what the line says of the call:
--- that is proved of each settlement of the report, in `AreSettlements`
+-- a first reply in time is booked: its request is answered with that very line. That the answer's reading in the report is what the line
+-- says of the call is proved of each settlement, in `AreSettlements`
 abbrev pub BooksFirstReply : Type 0
 BooksFirstReply =
     (width : ℕ) → width ≤ WINDOW → (opening : State) (events : List Event) (n : ℕ) (line : List ℕ) →
     IsInTime width opening events n → DeliverySettles width opening events n line (Answered line)
 
--- too late it is settled as late
+-- a first reply that comes too late settles its request as late
 abbrev pub FirstReplyIsLate : Type 0
 FirstReplyIsLate =
     (width : ℕ) → width ≤ WINDOW → (opening : State) (events : List Event) (n : ℕ) (line : List ℕ) →
@@ -100,7 +101,7 @@ abbrev pub IsNeverBoth : Type 0
 IsNeverBoth =
     (width : ℕ) (opening : State) (events : List Event) (n : ℕ) → IsInTime width opening events n → IsTooLate width opening events n → ⊥
 
--- a further reply, to a request that is settled, settles nothing
+-- a further reply, which is one to a request that is settled already, settles nothing
 abbrev pub NoSecondReply : Type 0
 NoSecondReply =
     (width : ℕ) → width ≤ WINDOW → (opening : State) (events : List Event) (n : ℕ) (line : List ℕ) (behind : List (Numbered (List ℕ))) →

@@ -14,15 +14,15 @@ use Rattle.gc_world.specs.Order.{IsOrderly, IsRecent, numbers}
 use Rattle.gc_world.specs.Record.{IsOneForOne, IsReplyTo, IsBooked, IsExecution}
 use Rattle.gc_world.specs.World.{Wire}
 
--- what the run by ids leaves, apart from its client
+-- the wire that the run by ids of these events leaves: the world but its client
 abbrev pub left_by_ids : ℕ → State → List Event → Wire State
 left_by_ids width opening events = (streams_by_ids width ends events (restarted opening)).world.wire
 
--- what the run by numbers leaves, apart from its client
+-- the wire that the run by numbers of these events leaves
 abbrev pub left_by_numbers : ℕ → State → List Event → Wire State
 left_by_numbers width opening events = (streams_by_numbers width ends events (restarted opening)).world.wire
 
--- the line keeps its order
+-- the wire that each list of events leaves keeps the order of the line, as `IsOrderly` has it
 abbrev pub KeepsOrder : Type 0
 KeepsOrder = (width : ℕ) → width ≤ WINDOW → (opening : State) (events : List Event) → IsOrderly width (left_by_ids width opening events)
 
@@ -31,11 +31,11 @@ KeepsOrder = (width : ℕ) → width ≤ WINDOW → (opening : State) (events : 
 abbrev pub KeepsRecent : Type 0
 KeepsRecent = (width : ℕ) → width ≤ WINDOW → (opening : State) (events : List Event) → (let w = left_by_ids width opening events in IsRecent width w.state.kept w.executed (numbers w.up))
 
--- the run by ids and the run by numbers leave the same
+-- the run by ids and the run by numbers leave the same wire
 abbrev pub RunsAgree : Type 0
 RunsAgree = (width : ℕ) → width ≤ WINDOW → (opening : State) (events : List Event) → left_by_ids width opening events ≡ left_by_numbers width opening events
 
--- settlement m stands for request m
+-- settlement m has the target and the call of request m, and there are no more settlements than requests
 abbrev pub SettlesInOrder : Type 0
 SettlesInOrder =
     (width : ℕ) (opening : State) (events : List Event) →
@@ -53,7 +53,8 @@ RepliesAreFine =
     (call : Call) (bytes : List ℕ) (reading : Reading) → IsReplyTo ends IsFittingState call bytes → IsFitting call → ReadsAs call bytes reading →
     IsValueOrRefusal reading
 
--- the replies are those to what was executed, in the state before each execution, and no request is executed twice
+-- the executions that each list of events leads to are as `IsExecution` has them: each reply that was made is that of an execution, in the
+-- state before it, each execution's reply was made, and requests are executed in order, none twice
 abbrev pub RecordsExecutions : Type 0
 RecordsExecutions =
     (width : ℕ) → width ≤ WINDOW → (opening : State) (events : List Event) → IsExecution ends opening (left_by_ids width opening events)

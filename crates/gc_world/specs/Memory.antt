@@ -12,12 +12,12 @@ use Rattle.gc_world.specs.World.{Numbered}
 abbrev pub IsBusy : {A B : Type 0} → List A → List B → Type 0
 IsBusy up down = ¬ ((up ≡ []) × (down ≡ []))
 
--- no line comes, or one that no request waits for
+-- no line is in the downward queue, or no request waits for the one in front
 abbrev pub IsStray : ById → List (Numbered (List ℕ)) → Type 0
 IsStray client [] = ⊤
 IsStray client (x ∷ rest) = fits client (heard x.line) ≡ false
 
--- each of the first k lines is one that no request waits for
+-- no request waits for any of the first k lines
 abbrev pub AreStrays : ById → ℕ → List (Numbered (List ℕ)) → Type 0
 AreStrays client zero down = ⊤
 AreStrays client (suc k) [] = ⊤

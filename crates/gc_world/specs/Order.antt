@@ -21,18 +21,18 @@ numbers xs = map (λ x. x.number) xs
 abbrev pub under_way : {State : Type 0} → Wire State → List ℕ
 under_way w = numbers w.down ++ numbers w.up
 
--- while a reply is kept, something was executed, and each of these numbers is the one last executed or one of so many above it
+-- while a reply is kept, something was executed, and each of these numbers is the one last executed or one of the `width` above it
 abbrev pub IsRecent : ℕ → Option KeptReply → List ℕ → List ℕ → Type 0
 IsRecent width None executed up = Unit {0}
 IsRecent width (Some k) executed up = (earlier : List ℕ) × (last : ℕ) × (executed ≡ earlier ++ last ∷ []) × Each (λ n. (last ≤ n) × (n ≤ last + width)) up
 
--- the order of the line, where at most this many are unaccounted for
+-- the order of the line, where at most `width` requests are unsettled
 pub record IsOrderly {State : Type 0} (width : ℕ) (w : Wire State) : Type 0 where
-  -- at most the width are unaccounted for
+  -- at most `width` requests are unsettled
   pub settled : length w.settled ≤ length w.sent
   pub few : length w.sent ≤ length w.settled + width
   -- in each queue the numbers never fall from front to back, no number downward passes one upward, and every number
   -- is at least the count settled less one
   pub order : Rising (length w.settled) (under_way w)
-  -- and below the count sent
+  -- every number is below the count sent
   pub sent : Each (λ n. n < length w.sent) (under_way w)

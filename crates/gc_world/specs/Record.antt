@@ -20,7 +20,7 @@ pub record IsOneForOne (sent : List Sent) (settled : List Settlement) : Type 0 w
       (s.target ≡ r.target) × (s.call ≡ r.call)
 
 module _ {State : Type 0} (ends : Ends State) where
-  -- the instrument wrote these bytes when it executed this call
+  -- the instrument wrote these bytes when it executed this call in some good state
   pub record IsReplyTo (Good : State → Type 0) (call : Call) (bytes : List ℕ) : Type 0 where
     pub state : State
     pub good : Good state
@@ -49,19 +49,20 @@ module _ {State : Type 0} (ends : Ends State) where
     pub place : ℕ
     pub made : slice_get w.made place ≡ Some (record { number = n; line = (ends.handed (before j) id request.call).reply })
 
-  -- this entry is the reply of execution j, and of no other
+  -- execution j is that of the entry's request, and the entry's line is the reply that it gave
   pub record IsReplyAt (w : Wire State) (before : ℕ → State) (entry : Numbered (List ℕ)) : Type 0 where
     pub j : ℕ
     pub executed : slice_get w.executed j ≡ Some entry.number
     pub execution : IsExecuted w before j entry.number
     pub line : entry.line ≡ (ends.handed (before j) execution.id execution.request.call).reply
 
-  -- the replies are those to what was executed, from the restarted opening state on
+  -- the executions of a run: `before j` is the state before execution j, at first the restarted opening state, and the state behind the last
+  -- one is the wire's; each reply that was made is that of an execution
   pub record IsExecution (opening : State) (w : Wire State) : Type 0 where
     pub before : ℕ → State
     pub first : before 0 ≡ ends.restarted opening
     pub each : (j n : ℕ) → slice_get w.executed j ≡ Some n → IsExecuted w before j n
     pub replies : (k : ℕ) (entry : Numbered (List ℕ)) → slice_get w.made k ≡ Some entry → IsReplyAt w before entry
     pub last : w.state ≡ before (length w.executed)
-    -- no request is executed twice, and they are in order
+    -- requests are executed in order, and none twice
     pub climbs : Increasing 0 w.executed

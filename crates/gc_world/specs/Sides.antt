@@ -17,7 +17,7 @@ abbrev pub written : Direction → Report → ℕ → Option (List ℕ)
 written Up r place = option_map (λ (q : Sent). q.line.items) (slice_get r.sent place)
 written Down r place = option_map (λ (m : Made). m.line.items) (slice_get r.made place)
 
--- `gone` counts bytes of the front line, never all of them; it is 0 where no line is under way
+-- `gone` counts bytes of the front line, never all of them, and is 0 where no line is under way
 abbrev pub IsPart : ℕ → List (List ℕ) → Type 0
 IsPart gone [] = gone ≡ 0
 IsPart gone (line ∷ lines) = gone < length line
@@ -28,7 +28,7 @@ pub record IsFlow (kept : Kept) (gone : ℕ) (texts : List (List ℕ)) : Type 0 
   pub stands : StandsFor kept (gone_of gone (map with_end texts))
   pub plain : Each IsPlain texts
 
--- the lines of a side are these, and its assembler stands for what has gone of them
+-- the texts of a side's lines are these, and its assembler stands for what has gone of them
 pub record Carries (d : Direction) (r : Report) (s : Side) (texts : List (List ℕ)) : Type 0 where
   pub names : map (written d r) s.queue ≡ map Some texts
   pub flow : IsFlow s.assembler s.gone texts

@@ -20,13 +20,15 @@ use Rattle.gc_world.specs.Sides.{IsFlow}
 use Rattle.gc_world.specs.Streams.{Streams, up_texts, down_texts, untouched, cut, flows}
 use Rattle.gc_world.specs.World.{Request, Numbered, Step, World, happens, run}
 
--- the streams before the first event, one step of the run by ids with a window of this width, and one event
+-- the streams before the first event: the instrument is restarted from this state, and nothing is under way
 abbrev pub begins : State → Streams ById State
 begins opening = untouched (ids_open (restarted opening))
 
+-- the world behind one step of the run by ids, with a window of this width
 abbrev pub does : ℕ → World ById State → Step → World ById State
 does width w step = happens ends (by_ids width ends) w step
 
+-- the streams behind one event of the run by ids, with a window of this width
 abbrev pub goes_on : ℕ → Streams ById State → Event → Streams ById State
 goes_on width v e = flows ends (by_ids width ends) v e
 
@@ -64,13 +66,14 @@ pub record AreOf (width : ℕ) (report : Report) (up down : List ℕ) (client : 
   pub requests : Each (IsSentIn report.sent) w.wire.up
   pub calls : Each (λ (q : Sent). IsFitting q.call) report.sent
 
--- what a stage has of the streams
+-- the parts of a stage that show the streams
 pub record Seen : Type 0 where
   pub report : Report
   pub up : Side
   pub down : Side
   pub client : Windowed
 
+-- the report, the two sides and the client of a stage
 abbrev pub seen : {W : Type 0} → Stage W → Seen
 seen s = record { report = s.report; up = s.up; down = s.down; client = s.client }
 

@@ -10,17 +10,19 @@ use Rattle.gc_world.specs.World.{Ends, Rule, Wire, World, Step, Send, Up_deliver
 -- What is under way.
 
 module _ {State : Type 0} where
-  -- the text of each line under way, the front line first
+  -- the text of each line under way to the instrument, the front line first
   abbrev pub up_texts : Wire State → List (List ℕ)
   up_texts w = map (λ x. request_line (Some x.line.id) x.line.call) w.up
 
+  -- the text of each line under way to the client, the front line first
   abbrev pub down_texts : Wire State → List (List ℕ)
   down_texts w = map (λ x. x.line) w.down
 
-  -- and its bytes
+  -- the bytes of each line under way to the instrument
   abbrev pub up_lines : Wire State → List (List ℕ)
   up_lines w = map with_end (up_texts w)
 
+  -- the bytes of each line under way to the client
   abbrev pub down_lines : Wire State → List (List ℕ)
   down_lines w = map with_end (down_texts w)
 
@@ -34,12 +36,12 @@ pub record Streams (Client State : Type 0) : Type 0 where
 abbrev pub untouched : {Client State : Type 0} → World Client State → Streams Client State
 untouched w = record { world = w; up_gone = 0; down_gone = 0 }
 
--- the bytes of the front line that have gone
+-- the first `gone` bytes of the front line, which have gone; none where there is no line
 abbrev pub gone_of : ℕ → List (List ℕ) → List ℕ
 gone_of gone [] = []
 gone_of gone (line ∷ lines) = take gone line
 
--- how many bytes of the front line are still to go
+-- how many bytes of the front line, of which `gone` have gone, are still to go: 0 where there is no line
 abbrev pub remaining : ℕ → List (List ℕ) → ℕ
 remaining gone [] = 0
 remaining gone (line ∷ lines) = length line - gone
@@ -55,18 +57,18 @@ pub record Cut : Type 0 where
 abbrev pub one_more : Cut → Cut
 one_more c = record { lines = suc c.lines; gone = c.gone }
 
--- the first n bytes of these lines
+-- how many of these lines their first n bytes complete, and how many bytes of the next one those reach
 abbrev pub cut : List (List ℕ) → ℕ → Cut
 cut [] n = record { lines = 0; gone = 0 }
 cut (line ∷ lines) n = if nat_lt n (length line) then record { lines = 0; gone = n } else one_more (cut lines (n - length line))
 
--- the steps of the world that an event is, and what has gone behind it
+-- the steps of the world that an event makes, and how many bytes of each front line have gone then
 pub record Course : Type 0 where
   pub steps : List Step
   pub up_gone : ℕ
   pub down_gone : ℕ
 
--- the course of one step
+-- the course of an event that is this one step, behind which `up` and `down` bytes of the two front lines have gone
 abbrev pub moved : Step → ℕ → ℕ → Course
 moved step up down = record { steps = step ∷ []; up_gone = up; down_gone = down }
 
@@ -74,7 +76,7 @@ moved step up down = record { steps = step ∷ []; up_gone = up; down_gone = dow
 abbrev pub is_begun : ℕ → ℕ → Bool
 is_begun k gone = nat_eq k 0 && nat_lt 0 gone
 
--- a loss or a repeat of line k, possible only before its first byte has gone
+-- a loss or a repeat of line k as a step, which is possible only before the first byte of that line has gone
 abbrev pub at_line : ℕ → ℕ → Step → Step
 at_line k gone step = if is_begun k gone then Nothing else step
 
@@ -85,7 +87,7 @@ passed step [] gone n = Nothing ∷ []
 passed step (line ∷ lines) gone zero = Nothing ∷ []
 passed step (line ∷ lines) gone (suc n) = replicate (cut (line ∷ lines) (gone + suc n)).lines step
 
--- how many bytes of the front line have gone behind the next n bytes
+-- how many bytes of the front line have gone once the next n bytes went over
 abbrev pub left_gone : List (List ℕ) → ℕ → ℕ → ℕ
 left_gone [] gone n = gone
 left_gone (line ∷ lines) gone zero = gone
@@ -109,15 +111,15 @@ course ups downs up down event.RestartInstrument = moved Restart_instrument up d
 -- Runs.
 
 module _ {Client State : Type 0} where
-  -- an event on these streams
+  -- the course of an event on these streams
   abbrev pub course_on : Streams Client State → Event → Course
   course_on v e = course (up_lines v.world.wire) (down_lines v.world.wire) v.up_gone v.down_gone e
 
-  -- the streams behind it
+  -- the streams behind an event
   abbrev pub flows : Ends State → Rule Client → Streams Client State → Event → Streams Client State
   flows ends rule v e = let c = course_on v e in record { world = run ends rule c.steps v.world; up_gone = c.up_gone; down_gone = c.down_gone }
 
-  -- and behind each of a list, in order
+  -- the streams behind all events of a list, in order
   abbrev pub flow : Ends State → Rule Client → List Event → Streams Client State → Streams Client State
   flow ends rule [] v = v
   flow ends rule (e ∷ es) v = flow ends rule es (flows ends rule v e)

@@ -1,4 +1,4 @@
--- Why the window is seven wide and not eight: with a width of eight the run by ids leaves the run by numbers. This project's own.
+-- Why the window is seven wide and not eight: with a width of eight the run by ids and the run by numbers differ. This project's own.
 use Rattle.std.specs.Prelude.{◌≡◌, ◌≢◌, List, [], ◌∷◌, length}
 use Rattle.gc_catalogue.specs.declared.call.Call.TheVariants.{NullProc}
 use Rattle.gc_instrument.specs.State.{State}
@@ -25,7 +25,7 @@ boundary_of_eight =
     ∷ DownDeliver
     ∷ []
 
--- with a width of eight that schedule leaves different things behind
+-- with a width of eight that schedule leaves different wires by ids and by numbers
 abbrev pub EightDiffers : Type 0
 EightDiffers = (opening : State) → left_by_ids 8 opening boundary_of_eight ≢ left_by_numbers 8 opening boundary_of_eight
 

@@ -54,18 +54,18 @@ opened state = record { sent = []; executed = []; made = []; settled = []; start
 
 -- Its two ends.
 
--- what an instrument does, and what a client reads in a line
+-- the two ends: what an instrument does, and what id a client reads in a line
 pub record Ends (State : Type 0) : Type 0 where
   -- what the instrument does with the request line of this id and call
   pub handed : State → ℕ → Call → Handed State
-  -- the state in which it starts anew
+  -- the state to which a restart takes the instrument from this one
   pub restarted : State → State
   -- the id that the client reads in a line, where the line is a reply with one
   pub heard : List ℕ → Option ℕ
   -- whether a restart of the client restarts the instrument too: for one that keeps its last reply by the client's ids
   pub joint : Bool
 
--- how a client behaves
+-- a client's rule: what each event does to it
 pub record Rule (Client : Type 0) : Type 0 where
   -- a send to a target, with its deadline; none is a refusal
   pub send : Client → ℕ → Call → ℕ → Option (Sending Client)
@@ -92,24 +92,24 @@ pub data Step : Type 0 where
   -- something that is not possible
   Nothing : Step
 
--- without element k
+-- the list without element k
 abbrev pub without : {A : Type 0} → ℕ → List A → List A
 without k [] = []
 without zero (x ∷ xs) = xs
 without (suc k) (x ∷ xs) = x ∷ without k xs
 
--- element k twice, the second directly behind the first
+-- the list with element k twice, the second directly behind the first
 abbrev pub doubled : {A : Type 0} → ℕ → List A → List A
 doubled k [] = []
 doubled zero (x ∷ xs) = x ∷ x ∷ xs
 doubled (suc k) (x ∷ xs) = x ∷ doubled k xs
 
 module _ {State : Type 0} where
-  -- an event that is not possible only counts
+  -- the wire after an event that is not possible, which is only counted
   abbrev pub idle : Wire State → Wire State
   idle w = record w { idle = w.idle + 1 }
 
-  -- the instrument has done this with the front request, and the rest is behind it
+  -- the wire after the instrument did this with the front request, of number n; `rest` is the queue behind that request
   abbrev pub replied : Wire State → ℕ → List (Numbered Request) → Handed State → Wire State
   replied w n rest h =
       record w {
@@ -120,37 +120,37 @@ module _ {State : Type 0} where
         state = h.state;
       }
 
-  -- the front of the upward queue is handed to the instrument
+  -- the wire after the front of the upward queue was handed to the instrument; where the queue is empty, the event is only counted
   abbrev pub up_delivered : Ends State → Wire State → List (Numbered Request) → Wire State
   up_delivered ends w [] = idle w
   up_delivered ends w (x ∷ rest) = replied w x.number rest (ends.handed w.state x.line.id x.line.call)
 
-  -- the upward queue is this one from now on, where that is possible
+  -- the wire with this upward queue, where that is possible (true); else the event is only counted
   abbrev pub with_up : Wire State → List (Numbered Request) → Bool → Wire State
   with_up w up false = idle w
   with_up w up true = record w { up = up }
 
-  -- the downward queue is this one from now on, where that is possible
+  -- the wire with this downward queue, where that is possible (true); else the event is only counted
   abbrev pub with_down : Wire State → List (Numbered (List ℕ)) → Bool → Wire State
   with_down w down false = idle w
   with_down w down true = record w { down = down }
 
-  -- the instrument starts anew, or does not
+  -- the wire after the instrument restarted (true), or as it was
   abbrev pub started : Ends State → Wire State → Bool → Wire State
   started ends w false = w
   started ends w true = record w { starts = w.starts ++ length w.executed ∷ []; state = ends.restarted w.state }
 
-  -- a restart of the instrument, possible with no line under way
+  -- the wire after a restart of the instrument, which is possible with no line under way; else the event is only counted
   abbrev pub instrument_restarted : Ends State → Wire State → List (Numbered Request) → List (Numbered (List ℕ)) → Wire State
   instrument_restarted ends w [] [] = started ends w true
   instrument_restarted ends w _ _ = idle w
 
 module _ {Client State : Type 0} where
-  -- the client has no part in it
+  -- the world with this wire in place of its own, and the client as it was
   abbrev pub on_wire : World Client State → Wire State → World Client State
   on_wire w wire = record { wire = wire; client = w.client }
 
-  -- the client has sent this, or refused
+  -- the world after a call of the client's send: the request is sent, and goes to the back of the upward queue, or a refusal is counted
   abbrev pub requested : World Client State → ℕ → Call → Option (Sending Client) → World Client State
   requested w target call None = on_wire w (record w.wire { refused = w.wire.refused + 1 })
   requested w target call (Some x) =
@@ -163,21 +163,22 @@ module _ {Client State : Type 0} where
         client = x.client;
       }
 
-  -- the client has settled this
+  -- the world of this wire once the client settled requests: the settlements come behind the wire's, and the client is the one behind them
   abbrev pub with_settled : Wire State → Settled Client → World Client State
   with_settled wire x = record { wire = record wire { settled = wire.settled ++ x.settlements }; client = x.client }
 
-  -- the front of the downward queue is handed to the client
+  -- the world after the front of the downward queue was handed to the client; where the queue is empty, the event is only counted
   abbrev pub down_delivered : Rule Client → World Client State → List (Numbered (List ℕ)) → World Client State
   down_delivered rule w [] = on_wire w (idle w.wire)
   down_delivered rule w (x ∷ rest) = with_settled (record w.wire { down = rest }) (rule.reply w.client x)
 
-  -- a restart of the client, possible with no line under way
+  -- the world after a restart of the client, and of the instrument where `joint` says so, which is possible with no line under way; else
+  -- the event is only counted
   abbrev pub client_restarted : Ends State → Rule Client → World Client State → List (Numbered Request) → List (Numbered (List ℕ)) → World Client State
   client_restarted ends rule w [] [] = with_settled (started ends w.wire ends.joint) (rule.restart w.client)
   client_restarted ends rule w _ _ = on_wire w (idle w.wire)
 
-  -- one step
+  -- the world after one step
   abbrev pub happens : Ends State → Rule Client → World Client State → Step → World Client State
   happens ends rule w (Send target call deadline) = requested w target call (rule.send w.client target call deadline)
   happens ends rule w Up_deliver = on_wire w (up_delivered ends w.wire w.wire.up)
@@ -191,7 +192,7 @@ module _ {Client State : Type 0} where
   happens ends rule w Restart_instrument = on_wire w (instrument_restarted ends w.wire w.wire.up w.wire.down)
   happens ends rule w Nothing = on_wire w (idle w.wire)
 
-  -- a step for each of the list, in order
+  -- the world after all steps of a list, in order
   abbrev pub run : Ends State → Rule Client → List Step → World Client State → World Client State
   run ends rule [] w = w
   run ends rule (step ∷ steps) w = run ends rule steps (happens ends rule w step)

@@ -8,7 +8,7 @@ use crate::report::{Made, Sent};
 use gc_catalogue::{Call, Reading};
 use gc_client::{Outcome, Settlement};
 use gc_lines::{Line, append};
-use std::alloc::AllocError;
+use std::alloc::{AllocError, Global};
 use std::marker::Model;
 
 /// Entries in the order in which they came, in a `Vec`.
@@ -26,6 +26,18 @@ impl<T> Model for Entries<T> {
 }
 
 impl<T> Entries<T> {
+    /// No entries yet. There is room for so many, where memory for it is had: else the list grows entry by entry.
+    pub(crate) fn with_room(alloc: Global, count: usize) -> Entries<T>
+        ensures { result ≡ [] }
+    {
+        match Vec::with_capacity(alloc, count) {
+            Ok(entries) => Entries { entries },
+            Err(_) => Entries {
+                entries: Vec::new(alloc),
+            },
+        }
+    }
+
     /// The entries of a vector. It takes no memory.
     pub fn new(entries: Vec<T>) -> Entries<T>
         ensures { result ≡ entries.items }
@@ -33,8 +45,7 @@ impl<T> Entries<T> {
         Self { entries }
     }
 
-    /// The vector of the entries. It takes no memory. It is for callers that own a report: a list that hides its vector
-    /// gives it back.
+    /// The vector of the entries, for a caller that takes a report apart. It takes no memory.
     pub fn into_vec(self) -> Vec<T>
         ensures { result.items ≡ self }
     {
@@ -49,14 +60,14 @@ impl<T> Entries<T> {
         self.entries.as_slice()
     }
 
-    /// How many there are.
+    /// How many entries there are.
     pub fn len(&self) -> usize
         ensures { result ≡ length self.now }
     {
         self.entries.len()
     }
 
-    /// Whether there are none.
+    /// Whether there is no entry.
     pub fn is_empty(&self) -> bool
         ensures { IsTrue result ↔ (self.now ≡ []) }
     {
@@ -65,11 +76,11 @@ impl<T> Entries<T> {
 }
 
 impl<T: Drop> Entries<T> {
-    /// Appends one.
+    /// Appends an entry. `Err`: memory for it was refused.
     pub(crate) fn push(&mut self, entry: T) -> Result<(), AllocError>
         ensures { OnOk result (self.new ≡ self.old ++ entry ∷ []) }
     {
-        // A `push` that wants memory would hand the entry back, large as it is.
+        // A `push` for which memory ran out would hand the entry back, large as it is.
         self.entries.reserve(1)?;
         self.entries.push_reserved(entry);
         Ok(())
@@ -77,7 +88,7 @@ impl<T: Drop> Entries<T> {
 }
 
 impl<T> Entries<T> {
-    /// The entry at a place.
+    /// The entry at this place, counted from 0.
     pub(crate) fn at(&self, place: usize) -> &T
         requires { place < length self.now }
         ensures { slice_get self.now place ≡ Some result.now }
@@ -86,11 +97,11 @@ impl<T> Entries<T> {
     }
 }
 
-// An entry that holds a line is made where it is to stand, with a line of no bytes, and gets the bytes there: so a line costs as
-// many bytes as it has, and not the 512 that it has room for.
+// An entry that holds a line is made in its place in the list, with a line of no bytes, and gets the bytes there: so a line costs
+// as many copied bytes as it has, and not the 512 that it has room for.
 
 impl Entries<Sent> {
-    /// Appends a request that was sent.
+    /// Appends a request that was sent. `Err`: memory for it was refused.
     pub(crate) fn push_sent(
         &mut self,
         target: u32,
@@ -112,7 +123,7 @@ impl Entries<Sent> {
 }
 
 impl Entries<Made> {
-    /// Appends a reply that was made.
+    /// Appends a reply that was made, with the number of its request. `Err`: memory for it was refused.
     pub(crate) fn push_made(&mut self, number: usize, line: &Line) -> Result<(), AllocError>
         ensures { OnOk result (self.new ≡ self.old ++ record { number = number; line = line.now } ∷ []) }
     {
@@ -128,7 +139,7 @@ impl Entries<Made> {
 }
 
 impl Entries<Settlement> {
-    /// Appends each of these, in order.
+    /// Appends these settlements, in order. `Err`: memory was refused for one of them; those before it were appended.
     pub(crate) fn append_all(&mut self, settlements: &[Settlement]) -> Result<(), AllocError>
         ensures { OnOk result (self.new ≡ self.old ++ settlements.now) }
     {
@@ -138,7 +149,7 @@ impl Entries<Settlement> {
         Ok(())
     }
 
-    // Appends one.
+    // Appends a settlement, whatever its outcome.
     fn push_settled(&mut self, settlement: &Settlement) -> Result<(), AllocError>
         ensures { OnOk result (self.new ≡ self.old ++ settlement.now ∷ []) }
     {
@@ -151,7 +162,7 @@ impl Entries<Settlement> {
         }
     }
 
-    // Appends one that was answered.
+    // Appends the settlement of a request that was answered.
     fn push_answered(
         &mut self,
         target: u32,
@@ -172,7 +183,7 @@ impl Entries<Settlement> {
         Ok(())
     }
 
-    // Appends one that is late. It has its own frame, since a settlement is large.
+    // Appends the settlement of a request that is late. The function has a frame of its own, because a settlement is large.
     #[inline(never)]
     fn push_late(&mut self, target: u32, call: &Call) -> Result<(), AllocError>
         ensures { OnOk result (self.new ≡ self.old ++ record { target = target; call = call.now; outcome = Late } ∷ []) }
@@ -184,7 +195,7 @@ impl Entries<Settlement> {
         })
     }
 
-    // Appends one that is lost. It has its own frame, since a settlement is large.
+    // Appends the settlement of a request that is lost. The function has a frame of its own, because a settlement is large.
     #[inline(never)]
     fn push_lost(&mut self, target: u32, call: &Call) -> Result<(), AllocError>
         ensures { OnOk result (self.new ≡ self.old ++ record { target = target; call = call.now; outcome = Lost } ∷ []) }
@@ -197,7 +208,7 @@ impl Entries<Settlement> {
     }
 }
 
-// Copies a line into an answer that was made with an empty one.
+// Copies a line into an answer that was made with an empty line.
 #[inline]
 fn append_answer(outcome: &mut Outcome, line: &Line)
     requires { (reading : Reading) × (outcome.old ≡ Answered reading (record { items = [] })) }

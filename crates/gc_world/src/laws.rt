@@ -7,8 +7,8 @@ ghost use Rattle.gc_world.specs.Pieces.{BytesAdd, BytesEnd};
 ghost use Rattle.gc_world.specs.Width.{EightDiffers, EightSettlesNine, NumbersSettleOne};
 
 /// In each queue the numbers never fall from front to back, no number downward passes one upward, every number under
-/// way is at least the count settled less one and below the count sent, and at most the width of the window are
-/// unaccounted for.
+/// way is at least the count settled less one and below the count sent, and at most as many requests are unsettled as
+/// the window is wide.
 pub fn line_keeps_order()
     ensures { KeepsOrder }
 {}
@@ -24,7 +24,7 @@ pub fn runs_agree()
     ensures { RunsAgree }
 {}
 
-/// The settlements stand one for one and in order for the requests sent.
+/// Settlement m has the target and the call of request m, and there are no more settlements than requests sent.
 pub fn settlements_are_one_for_one()
     ensures { SettlesInOrder }
 {}
@@ -35,14 +35,15 @@ pub fn answers_are_booked()
     ensures fine { RepliesAreFine }
 {}
 
-/// The replies are those of the instrument to what it executed, and it executes each request at most once, in order.
+/// Each reply that was made is that of the instrument to a request that it executed, each such reply was made, and the instrument
+/// executes each request at most once, in order.
 pub fn executions_are_recorded()
     ensures { RecordsExecutions }
 {}
 
-/// When the last byte of a reply to a request that isn't settled goes over, the requests before it are settled as lost, and
-/// it is answered with that very line if no moment at or past its deadline was told since its send, and late if one was. A
-/// further reply settles nothing. Where the bytes of one event complete several replies, each is delivered in turn, by
+/// When the last byte of a reply to a request that isn't settled goes over, the requests before that one are settled as lost. The
+/// request is answered with that very line if the client got no moment at or past its deadline since its send, and late if it got
+/// one. A further reply settles nothing. Where the bytes of one event complete several replies, each is delivered in turn, by
 /// [`bytes_go_over_in_turn`].
 pub fn first_reply_is_booked()
     ensures in_time { BooksFirstReply }
@@ -52,14 +53,14 @@ pub fn first_reply_is_booked()
     ensures first_alone { NoSecondReply }
 {}
 
-/// Bytes that go over at once leave what they leave in two deliveries, so in as many as they are cut into: each line that
-/// they complete is delivered by its own last byte. Where more are handed over than are under way, these are.
+/// Bytes that go over in one event leave what they leave in two, and so in any number of events: each line that they complete is
+/// delivered by its own last byte. Where more bytes are handed over than are under way, those under way go.
 pub fn bytes_go_over_in_turn()
     ensures adds { (direction : Direction) → BytesAdd direction }
     ensures ends { (direction : Direction) → BytesEnd direction }
 {}
 
-/// With a window of eight the client that knows ids no longer does what a client would do that is told the numbers: a
+/// With a window of eight the client that knows ids no longer does what a client that is told the numbers would do: a
 /// repeat of the first reply settles the ninth request.
 pub fn window_of_eight_differs()
     ensures differs { EightDiffers }

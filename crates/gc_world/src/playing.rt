@@ -21,12 +21,14 @@ use std::alloc::{AllocError, Global};
 /// The report is that of the world's run by ids, and it is faithful: the settlements stand one for one and in order for
 /// the requests sent; each answer that the client booked is a line that the instrument made on executing that very
 /// request, and reads as a value or a refusal; and requests, settlements and both counts are those of a client that is told
-/// which request each reply belongs to. So each request's first reply, if it comes unsettled and in time, is booked: first is the first of the
-/// request's replies that is delivered; it comes unsettled where the request's number isn't below the count of requests
-/// settled until then; and in time where no `Expire` with a moment at or past its deadline came between its send and this
-/// delivery, which is that of its last byte. The line keeps order, a line that has begun to arrive does arrive, whole, and
-/// a repeat stands directly behind its original, and either end restarts only while no byte is under way: that is what the
-/// events are. An event that isn't possible changes nothing and is counted.
+/// which request each reply belongs to. So each request's first reply, if it comes unsettled and in time, is booked. First:
+/// it is the first of the request's replies that is delivered. Unsettled: the request's number isn't below the count of
+/// requests settled until then. In time: no `Expire` with a moment at or past the request's deadline came between its send and
+/// this delivery, which is that of the reply's last byte.
+///
+/// By what the events are, the line keeps order; a line that has begun to arrive arrives whole; a repeat stands directly
+/// behind its original; and either end restarts only while no byte is under way. An event that isn't possible changes nothing
+/// and is counted.
 ///
 /// Each request acts once: the instrument executes each at most once, in order, whatever the line repeats. To a repeat it sends
 /// the reply that it keeps, which is made and not executed. A restart of the client restarts the instrument too. Every restart
@@ -35,8 +37,8 @@ use std::alloc::{AllocError, Global};
 /// Either end stands behind an assembler and gets the lines that come out of it. Each of the two in the report stands for
 /// the bytes of the front line of its direction that have gone: so it is at the start where none have.
 ///
-/// Want of memory comes only where a growth was refused; then nothing is handed back. A list of events that all take none
-/// never meets it.
+/// It fails only where memory for a growth was refused; then nothing is handed back. Where none of the events takes memory,
+/// it doesn't fail.
 pub fn play_width<W: Window>(
     alloc: Global,
     instrument: Instrument,
@@ -55,11 +57,19 @@ pub fn play_width<W: Window>(
     ensures spare { TakeNone width instrument events.now → IsOk result }
     ensures few { IfOk result (λ done. IsNoLongerThan (length events.now) done.0) }
 {
-    let mut stage = Stage::new(alloc, instrument, window, width);
+    let mut stage = Stage::new(alloc, instrument, window, width, count_sends(events));
     for event in events {
         stage.happen(event)?;
     }
     Ok(stage.ended())
+}
+
+// How many of the events send a request.
+fn count_sends(events: &[Event]) -> usize {
+    events
+        .iter()
+        .filter(|event| matches!(event, Event::Send(..)))
+        .count()
 }
 
 /// Plays the events as `play_width` does, with a client that lets seven requests wait: the widest window there is.

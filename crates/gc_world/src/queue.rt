@@ -39,14 +39,14 @@ impl Queue {
         self.places.is_empty()
     }
 
-    /// The line in front.
+    /// The place of the line in front, if one is under way.
     pub fn front(&self) -> Option<usize>
         ensures { MatchOption result (self.now ≡ []) (λ front. (rest : List ℕ) × (self.now ≡ front ∷ rest)) }
     {
         self.places.front().copied()
     }
 
-    /// A line is written.
+    /// Puts the line of this place at the back: it was written last. `Err`: memory for it was refused.
     pub fn push(&mut self, place: usize) -> Result<(), AllocError>
         ensures { OnOk result (self.new ≡ self.old ++ place ∷ []) }
     {
@@ -54,14 +54,14 @@ impl Queue {
         Ok(())
     }
 
-    /// The line in front is handed over.
+    /// Takes the line in front out, if there is one, because it is handed over, and returns its place.
     pub fn take_front(&mut self) -> Option<usize>
         ensures { MatchOption result ((self.old ≡ []) × (self.new ≡ [])) (λ front. self.old ≡ front ∷ self.new) }
     {
         self.places.pop_front()
     }
 
-    /// Line k is lost, where there is one.
+    /// Takes line k, counted from the front, out, because it is lost, and says whether there was a line k.
     pub fn lose(&mut self, k: usize) -> bool
         ensures found { result ≡ nat_lt k (length self.old) }
         ensures left { self.new ≡ without k self.old }
@@ -69,7 +69,7 @@ impl Queue {
         self.places.remove(k).is_some()
     }
 
-    /// Line k comes twice, where there is one.
+    /// Puts line k in once more, directly behind itself, and says whether there is a line k. `Err`: memory for it was refused.
     pub fn repeat(&mut self, k: usize) -> Result<bool, AllocError>
         ensures spare { length self.old ≤ k → IsOk result }
         ensures found { IfOk result (λ found. found ≡ nat_lt k (length self.old)) }

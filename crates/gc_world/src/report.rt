@@ -37,7 +37,7 @@ pub struct Report {
     pub sent: Entries<Sent>,
     /// The numbers of the requests that the instrument executed, in the order of execution.
     pub executed: Entries<usize>,
-    /// The replies that it made, in order; where a request came again, the kept one once more.
+    /// The replies that the instrument made, in order; where a request came again, the kept one once more.
     pub made: Entries<Made>,
     /// The ends of requests, in order.
     pub settled: Entries<Settlement>,
@@ -45,9 +45,9 @@ pub struct Report {
     pub starts: Entries<usize>,
     /// The instrument, as the last event left it.
     pub instrument: Instrument,
-    /// What stands before the instrument and makes lines of the bytes that reach it, as the last event left it.
+    /// The assembler in front of the instrument, as the last event left it.
     pub up: Assembler,
-    /// What stands before the client, likewise.
+    /// The assembler in front of the client, as the last event left it.
     pub down: Assembler,
     /// How many sends were refused.
     pub refused_sends: usize,
@@ -56,7 +56,7 @@ pub struct Report {
 }
 
 impl Report {
-    /// The line at a place of the list that the queue of a direction names: upward `sent`, downward `made`.
+    /// The line at this place of a direction's list: that is `sent` upward, and `made` downward.
     #[inline(always)]
     pub(crate) fn line(&self, direction: Direction, place: usize) -> &Line
         requires { (text : List ℕ) × (written direction self.now place ≡ Some text) }

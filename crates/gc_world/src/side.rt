@@ -25,7 +25,7 @@ pub struct Side {
     /// How many bytes of the front line have gone.
     pub gone: usize,
 
-    /// What makes lines of the bytes at the far end.
+    /// The assembler at the far end.
     pub assembler: Assembler,
 }
 
@@ -54,7 +54,7 @@ impl Side {
         }
     }
 
-    /// The next bytes of the front line, which don't complete it.
+    /// Feeds the next `n` bytes of the front line to the assembler. They don't complete the line.
     pub fn begin(&mut self, direction: Direction, report: &Report, n: usize, cut: &mut Line)
         requires { (texts : List (List ℕ)) × Carries direction report.now self.old texts × (n < remaining self.old.gone (map with_end texts)) }
         ensures flow { (texts : List (List ℕ)) → Carries direction report.now self.old texts → IsFlow self.new.assembler self.new.gone texts }
@@ -69,7 +69,7 @@ impl Side {
         self.gone += n;
     }
 
-    /// What remains of this line, which was taken from the front: the line comes out.
+    /// Feeds what remains of this line, which was taken from the front of the queue, to the assembler: the line comes out.
     #[inline(always)]
     pub fn finish<'a>(&mut self, line: &'a [u8], cut: &'a mut Line) -> Lent<'a>
         requires flow { (texts : List (List ℕ)) × IsFlow self.old.assembler self.old.gone (line.now ∷ texts) }
@@ -84,7 +84,7 @@ impl Side {
         frame
     }
 
-    /// Line k is lost. Where there is none, or its first byte has gone, an event more was idle.
+    /// Line k is lost. Where there is none, or its first byte has gone, only `idle` grows, by one.
     pub fn lose(&mut self, k: usize, idle: &mut usize)
         requires { idle.old + 1 < 2 ^ 64 }
         ensures { Changes k (without k self.old.queue) self.old self.new idle.old idle.new }
@@ -98,7 +98,7 @@ impl Side {
         }
     }
 
-    /// Line k comes twice. Where there is none, or its first byte has gone, an event more was idle.
+    /// Line k comes twice. Where there is none, or its first byte has gone, only `idle` grows, by one. `Err`: memory was refused.
     pub fn repeat(&mut self, k: usize, idle: &mut usize) -> Result<(), AllocError>
         requires { idle.old + 1 < 2 ^ 64 }
         ensures changes { OnOk result (Changes k (doubled k self.old.queue) self.old self.new idle.old idle.new) }

@@ -24,7 +24,7 @@ use std::alloc::{AllocError, Global};
 /// What the events so far leave.
 #[derive(Drop)]
 pub struct Stage<W: Window> {
-    /// Its assemblers are those of the two sides only once all is played.
+    /// The report so far. Its assemblers are those of the two sides only once all is played.
     pub report: Report,
     pub up: Side,
     pub down: Side,
@@ -37,8 +37,15 @@ pub struct Stage<W: Window> {
 }
 
 impl<W: Window> Stage<W> {
-    /// The stage before the first event: the instrument is restarted, and the client is new.
-    pub fn new(alloc: Global, mut instrument: Instrument, window: W, width: u8) -> Stage<W>
+    /// The stage before the first event: the instrument is restarted, and the client is new. The report has room for so many requests,
+    /// where memory for it is had.
+    pub fn new(
+        alloc: Global,
+        mut instrument: Instrument,
+        window: W,
+        width: u8,
+        requests: usize,
+    ) -> Stage<W>
         requires least { 1 ≤ width }
         requires most { width ≤ WINDOW }
         ensures shows { Shows width result (begins instrument) }
@@ -47,10 +54,10 @@ impl<W: Window> Stage<W> {
         instrument.restart();
         Stage {
             report: Report {
-                sent: Entries::new(Vec::new(alloc)),
+                sent: Entries::with_room(alloc, requests),
                 executed: Entries::new(Vec::new(alloc)),
-                made: Entries::new(Vec::new(alloc)),
-                settled: Entries::new(Vec::new(alloc)),
+                made: Entries::with_room(alloc, requests),
+                settled: Entries::with_room(alloc, requests),
                 starts: Entries::new(Vec::new(alloc)),
                 instrument,
                 up: Assembler::new(),
@@ -66,7 +73,7 @@ impl<W: Window> Stage<W> {
         }
     }
 
-    /// Lets one event happen. Want of memory comes only where a growth was refused.
+    /// Lets one event happen. It fails only where memory for a growth was refused.
     pub fn happen(&mut self, event: &Event) -> Result<(), AllocError>
         requires refused { self.old.report.refused_sends + 1 < 2 ^ 64 }
         requires idle { self.old.report.idle_events + 1 < 2 ^ 64 }
@@ -110,7 +117,7 @@ impl<W: Window> Stage<W> {
         (report, client)
     }
 
-    // A send that is refused only counts; one that isn't takes its line to the back of the upward queue.
+    // Sends a request: its line goes to the back of the upward queue. A send that is refused is only counted.
     fn send(&mut self, target: u32, call: &Call, deadline: u64) -> Result<(), AllocError>
         requires { self.old.report.refused_sends + 1 < 2 ^ 64 }
         ensures follows { OnOk result (Follows self.old (Event.Send target call.now deadline) self.new) }
@@ -124,7 +131,8 @@ impl<W: Window> Stage<W> {
         self.report.sent.push_sent(target, call, &self.cut)
     }
 
-    // The front request reaches the instrument, and its reply goes to the back of the downward queue.
+    // Hands the front request to the instrument, puts the reply at the back of the downward queue, and notes both in the report. Where
+    // no request is under way, the event is only counted.
     #[inline(always)]
     fn up_deliver(&mut self) -> Result<(), AllocError>
         requires idle { self.old.report.idle_events + 1 < 2 ^ 64 }
@@ -152,7 +160,8 @@ impl<W: Window> Stage<W> {
         Ok(())
     }
 
-    // The front reply reaches the client, and what it settles goes to the report.
+    // Hands the front reply to the client, and puts what it settles into the report. Where no reply is under way, the event is only
+    // counted.
     #[inline(always)]
     fn down_deliver(&mut self) -> Result<(), AllocError>
         requires idle { self.old.report.idle_events + 1 < 2 ^ 64 }
@@ -175,7 +184,8 @@ impl<W: Window> Stage<W> {
         Ok(())
     }
 
-    // The next bytes of a direction: each line that they complete is delivered.
+    // Hands over the next `n` bytes of a direction: each line that they complete is delivered. Where `n` is 0 or no byte is under way,
+    // the event is only counted.
     #[inline(never)]
     fn bytes(&mut self, direction: Direction, n: usize) -> Result<(), AllocError>
         requires idle { self.old.report.idle_events + 1 < 2 ^ 64 }
@@ -200,7 +210,7 @@ impl<W: Window> Stage<W> {
         Ok(())
     }
 
-    // What remains of the front line of a direction goes over.
+    // Hands over what remains of the front line of a direction. Where no line is under way, the event is only counted.
     #[inline(always)]
     fn deliver(&mut self, direction: Direction) -> Result<(), AllocError>
         requires idle { self.old.report.idle_events + 1 < 2 ^ 64 }
@@ -214,7 +224,7 @@ impl<W: Window> Stage<W> {
         }
     }
 
-    // How many bytes of the front line are still to go: 0 where no line is under way.
+    // How many bytes of the front line of a direction are still to go: 0 where no line is under way.
     fn remaining(&self, direction: Direction) -> usize
         requires { IsShown self.now }
         ensures { (width : ℕ) (v : Streams ById State) → Shows width self.now v → result ≡ remaining (gone direction v) (lines direction v.world.wire) }
@@ -225,7 +235,7 @@ impl<W: Window> Stage<W> {
         }
     }
 
-    // The next bytes, which don't complete the front line.
+    // Hands over the next `n` bytes of the front line of a direction, behind those that have gone already. They don't complete it.
     fn begin(&mut self, direction: Direction, n: usize)
         requires shown { IsShown self.old }
         requires some { (width : ℕ) (v : Streams ById State) → Shows width self.old v → n < remaining (gone direction v) (lines direction v.world.wire) }
@@ -241,14 +251,15 @@ impl<W: Window> Stage<W> {
 
     // The ends.
 
-    // The client is told this moment. A request whose deadline it reaches is settled as late when its reply comes.
+    // Hands this moment to the client, which gives up each request whose deadline the moment has reached.
     fn expire(&mut self, now: u64)
         ensures { Follows self.old (Event.Expire now) self.new }
     {
         self.client.expire(now);
     }
 
-    // Both ends begin anew, since the instrument keeps its last reply by the client's ids.
+    // Restarts the client, which settles all that wait as lost, and the instrument too, because that keeps its last reply by the
+    // client's ids. Where a line is under way, the event is only counted.
     fn restart_client(&mut self) -> Result<(), AllocError>
         requires { self.old.report.idle_events + 1 < 2 ^ 64 }
         ensures follows { OnOk result (Follows self.old Event.RestartClient self.new) }
@@ -266,7 +277,7 @@ impl<W: Window> Stage<W> {
         Ok(())
     }
 
-    // The instrument begins anew, and the client isn't told.
+    // Restarts the instrument, and leaves the client as it is. Where a line is under way, the event is only counted.
     fn restart_instrument(&mut self) -> Result<(), AllocError>
         requires { self.old.report.idle_events + 1 < 2 ^ 64 }
         ensures follows { OnOk result (Follows self.old Event.RestartInstrument self.new) }
@@ -289,8 +300,8 @@ impl<W: Window> Stage<W> {
     }
 }
 
-// Notes that a request was executed, where another id is kept than before: a repeat leaves the kept id, and what is executed has
-// another one.
+// Notes that a request was executed, where another id is kept than before: a repeat leaves the kept id as it is, and an execution
+// changes it.
 fn note_execution(
     executed: &mut Entries<usize>,
     number: usize,

@@ -5,6 +5,7 @@ use gc_console::{Standard, Streams, run_program};
 use std::process::ExitCode;
 use std::{env, io};
 
+// Runs the program over the system's streams, words and net, and returns its exit status.
 fn main(rt: HostRuntime) -> io::Result<ExitCode> {
     run_program(
         &rt,

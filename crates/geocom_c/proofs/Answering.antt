@@ -11,17 +11,18 @@ use Rattle.geocom_c.specs.Beginning.{anew, left_behind, left_by_all, left_past}
 use Rattle.geocom_c.specs.Rest.{IsRest}
 use Rattle.geocom_c.specs.declared.rest.GeocomRest.{GeocomRest}
 
+-- the frames of bytes are heard one after the other
 past_first : (left : List ℕ) (f : Frame) (fs : List Frame) → left_by_all left (filter_map line_in (f ∷ fs)) ≡ left_by_all (left_past left f) (filter_map line_in fs)
 past_first left (Line line) fs = refl
 past_first left Cleared fs = refl
 past_first left Overlong fs = refl
 past_first left More fs = refl
 
--- without a line feed nothing is heard
+-- bytes without a line feed answer nothing
 none_answers : (left rest bytes : List ℕ) → position is_line_feed bytes ≡ None → left_behind left rest bytes ≡ left
 none_answers left rest bytes e = ap (λ ps. left_by_all left (filter_map line_in (map frame_of ps))) (cut_none rest bytes e).0
 
--- with one, the first frame is
+-- of bytes with a line feed the first frame is heard, and then the others
 some_answers : (left rest bytes : List ℕ) (at : ℕ) → position is_line_feed bytes ≡ Some at
     → left_behind (left_past left (frame_of (rest ++ take at bytes))) [] (drop (at + 1) bytes) ≡ left_behind left rest bytes
 some_answers left rest bytes at e =
@@ -35,7 +36,7 @@ pub record HeardTo (r bytes word : List ℕ) (rest : GeocomRest) (left more : Li
   pub same : left_behind left now more ≡ left_behind word r bytes
   pub behind : rest_behind now more ≡ rest_behind r bytes
 
--- all were, and no line feed came
+-- where no line feed came, and all bytes were kept, all of them were heard
 pub heard_none : (r bytes word : List ℕ) (rest : GeocomRest) (left more : List ℕ) → position is_line_feed bytes ≡ None → more ≡ [] → IsRest rest (r ++ bytes)
     → left ≡ word → HeardTo r bytes word rest left more
 heard_none r bytes word rest left more e none is same =
@@ -46,7 +47,7 @@ heard_none r bytes word rest left more e none is same =
       behind = ap (rest_behind (r ++ bytes)) none ∙ sym (cut_none r bytes e).1;
     }
 
--- those through the first line feed were
+-- where the first line feed ended a frame, which was heard, the bytes through that line feed were heard
 pub heard_some : (r bytes word : List ℕ) (rest : GeocomRest) (left more : List ℕ) (at : ℕ) → position is_line_feed bytes ≡ Some at
     → more ≡ drop (at + 1) bytes → IsRest rest [] → left ≡ left_past word (frame_of (r ++ take at bytes)) → HeardTo r bytes word rest left more
 heard_some r bytes word rest left more at e n is same =
@@ -57,29 +58,31 @@ heard_some r bytes word rest left more at e n is same =
       behind = ap (rest_behind []) n ∙ sym (cut_some r bytes at e).1;
     }
 
--- one behind the other
+-- where some of the bytes were heard, and then some more, all of these were heard
 pub heard_on : (r bytes word : List ℕ) (rest new : GeocomRest) (left more after end : List ℕ) (f : HeardTo r bytes word rest left more)
     → HeardTo f.now more left new after end → HeardTo r bytes word new after end
 heard_on r bytes word rest new left more after end f g = record { now = g.now; is = g.is; same = g.same ∙ f.same; behind = g.behind ∙ f.behind }
 
--- where all were
+-- where all bytes were heard, what is kept and what isn't answered is what all of them come to
 pub heard_to_end : (r bytes word : List ℕ) (rest : GeocomRest) (left more : List ℕ) (f : HeardTo r bytes word rest left more) → more ≡ []
     → (f.now ≡ rest_behind r bytes) × (left ≡ left_behind word r bytes)
 heard_to_end r bytes word rest left more f none = (sym (ap (rest_behind f.now) none) ∙ f.behind, sym (ap (left_behind left f.now) none) ∙ f.same)
 
 -- Of how many null procedures are answered.
 
--- all are
+-- behind eight answers no id of the beginning is left
 pub is_begun : (a : ℕ) → 8 ≤ a → drop a the_word ≡ []
 is_begun a le = drop_all a the_word le
 
+-- behind fewer than eight answers some are left
 pub not_begun : (a : ℕ) → a < 8 → drop a the_word ≡ [] → ⊥
 not_begun a lt e = let n = length-drop a the_word in let none : length (drop a the_word) ≡ 0 = ap length e in absurd (omega (arith, lt, n, none))
 
+-- where none is left, eight were answered
 pub begun_at : (a : ℕ) → drop a the_word ≡ [] → 8 ≤ a
 begun_at a e = let n = length-drop a the_word in let none : length (drop a the_word) ≡ 0 = ap length e in omega (arith, n, none)
 
--- a client that hasn't begun goes on
+-- a client that hasn't begun goes on at a restart with the ids that aren't answered
 pub goes_on : (left : List ℕ) → (left ≡ [] → ⊥) → left ≡ anew left
 goes_on [] some = absurd (some refl)
 goes_on (asked ∷ later) some = refl

@@ -8,7 +8,7 @@ use Rattle.gc_catalogue.specs.declared.fault.CallFault.TheVariants.{Unknown, Par
 use Rattle.gc_client.specs.Rule.{Windowed}
 use Rattle.geocom_c.specs.declared.header.TheConstants.{WINDOW_FULL, NO_CLIENT, NOT_BEGUN}
 
--- a client of the same width
+-- a client of the same width is the other one with its own ids
 pub same_width : (c d : Windowed) → d.width ≡ c.width → d ≡ record c { ids = d.ids }
 same_width c d e = ap (λ w. let x : Windowed = record { width = w; ids = d.ids } in x) e
 
@@ -19,7 +19,7 @@ from_some x y e = cc
 pub full_alone : (n : ℕ) → (n ≢ 0 → n ≡ WINDOW_FULL) → n ≡ NO_CLIENT → ⊥
 full_alone n either e = let f : n ≡ WINDOW_FULL = either (λ z. (cc)) in cc
 
--- no refusal of a call has the number of no client
+-- a refusal of a call has a number of at most 22
 refusal_below : (e : CallFault) → refusal_number e ≤ 22
 refusal_below Unknown = omega arith
 refusal_below (Parameters Spelling) = omega arith
@@ -28,10 +28,11 @@ refusal_below (Parameters OpenQuote) = omega arith
 refusal_below (Parameters TooMany) = omega arith
 refusal_below (Parameters Count) = omega arith
 
+-- so no refusal of a call is the fault of no client
 pub no_refusal_astray : (e : CallFault) → refusal_number e ≡ NO_CLIENT → ⊥
 no_refusal_astray e f = absurd (omega (arith, f, refusal_below e))
 
--- nor is a client that hasn't begun none
+-- the fault of a client that hasn't begun isn't that of no client
 pub other : NOT_BEGUN ≡ NO_CLIENT → ⊥
 other e = absurd (omega (arith, e))
 
@@ -43,6 +44,6 @@ pub twice_untouched : (old between new : List ℕ) (n k count : ℕ) → count �
 twice_untouched old between new n k count e f g =
     ap (λ m. drop m new) e ∙ g ∙ sym (drop-drop k n between) ∙ ap (drop k) f ∙ drop-drop k n old ∙ ap (λ m. drop m old) (sym e)
 
--- what stands in front
+-- a line stands in front where more was appended behind it
 pub front_of : (line t u more : List ℕ) → t ≡ line → u ≡ t ++ more → take (length line) u ≡ line
 front_of line t u more e f = ap (take (length line)) (f ∙ ap (λ x. x ++ more) e) ∙ take-append-le (length line) line more (omega arith) ∙ take_all (length line) line (omega arith)

@@ -22,19 +22,23 @@ record Leads (width : ℕ) (x y : Course) (left after : List ℕ) (front : List 
   reached : (es : List Event) → course width x (steps_among (front ++ es)) ≡ course width y (steps_among es)
   behind : (es : List Event) → left_among left (front ++ es) ≡ left_among after es
 
+-- no events leave all as it was
 leads_none : (width : ℕ) (x : Course) (left : List ℕ) → Leads width x x left left []
 leads_none width x left = record { turns = λ es h. h; reached = λ es. refl; behind = λ es. refl }
 
+-- lines that come to the beginning answer null procedures
 leads_came : (width : ℕ) (x : Course) (lines : List (List ℕ)) (left : List ℕ) → Leads width x x left (left_by_all left lines) (map Came lines)
 leads_came width x [] left = leads_none width x left
 leads_came width x (line ∷ lines) left =
     let more = leads_came width x lines (left_by left (heard line)) in
     record { turns = more.turns; reached = more.reached; behind = more.behind }
 
+-- a null procedure that is asked for changes nothing
 leads_asked : (width : ℕ) (x : Course) (left : List ℕ) (o : Option (List ℕ)) → Leads width x x left left (asked_by o)
 leads_asked width x left None = leads_none width x left
 leads_asked width x left (Some line) = record { turns = λ es h. h; reached = λ es. refl; behind = λ es. refl }
 
+-- where events lead from one state to another, and others from there to a third, all of them lead from the first to the third
 leads_both : (width : ℕ) (x y z : Course) (left between after : List ℕ) (front later : List Event) → Leads width x y left between front
     → Leads width y z between after later → Leads width x z left after (front ++ later)
 leads_both width x y z left between after front later f g =
@@ -44,11 +48,12 @@ leads_both width x y z left between after front later f g =
       behind = λ es. ap (λ l. left_among left l) (append_assoc front later es) ∙ f.behind (later ++ es) ∙ g.behind es;
     }
 
--- once it has begun, it has
+-- a client that has begun stays so, whatever lines come
 stays_begun : (lines : List (List ℕ)) → left_by_all [] lines ≡ []
 stays_begun [] = refl
 stays_begun (line ∷ lines) = stays_begun lines
 
+-- a begin leads to the ids that aren't answered behind its bytes
 leads_begin : (width : ℕ) (x : Course) (left rest bytes : List ℕ) → Leads width x x left (left_behind left rest bytes) (begins_by left rest bytes)
 leads_begin width x [] rest bytes = subst (λ l. Leads width x x [] l []) (sym (stays_begun (lines_behind rest bytes))) (leads_none width x [])
 leads_begin width x (asked ∷ later) rest bytes =
@@ -59,28 +64,35 @@ leads_begin width x (asked ∷ later) rest bytes =
 
 -- A client that hasn't begun has nothing that waits, so a line, a moment or a restart is nothing to it.
 
+-- no line settles anything of a new client
 none_fits : (id : ℕ) (line : List ℕ) → hears fresh line (Some id) ≡ record { settlements = []; client = fresh }
 none_fits id line = ap (id_settled fresh line (place_in fresh id)) (le-ltb (place_in fresh id) 0 (omega arith))
 
+-- no line, whatever id is heard in it, settles anything of a new client
 none_settled : (line : List ℕ) (o : Option ℕ) → hears fresh line o ≡ record { settlements = []; client = fresh }
 none_settled line None = refl
 none_settled line (Some id) = none_fits id line
 
+-- what settles nothing of a new client leaves its course as it was
 stays_idle : (x : Course) (s : Settled ById) → x.client ≡ fresh → s ≡ record { settlements = []; client = fresh } → settled_on x s ≡ x
 stays_idle x s idle e =
     ap (settled_on x) e
     ∙ ap (λ l. let y : Course = record { sent = x.sent; settlements = l; client = fresh } in y) (append-nil x.settlements)
     ∙ ap (λ c. let y : Course = record { sent = x.sent; settlements = x.settlements; client = c } in y) (sym idle)
 
+-- a new client stays as it was by a line
 idle_line : (width : ℕ) (x : Course) (line : List ℕ) → x.client ≡ fresh → goes width x (one.Hear line) ≡ x
 idle_line width x line idle = stays_idle x (hears x.client line (heard line)) idle (ap (λ c. hears c line (heard line)) idle ∙ none_settled line (heard line))
 
+-- a new client stays as it was by a restart
 idle_restart : (width : ℕ) (x : Course) → x.client ≡ fresh → goes width x one.Restart ≡ x
 idle_restart width x idle = stays_idle x (restarts x.client) idle (ap restarts idle)
 
+-- a new client stays as it was by a moment
 idle_moment : (width : ℕ) (x : Course) (now : ℕ) → x.client ≡ fresh → goes width x (one.Expire now) ≡ x
 idle_moment width x now idle = ap (λ c. let y : Course = record { sent = x.sent; settlements = x.settlements; client = c } in y) (ap (λ c. expires c now) idle ∙ sym idle)
 
+-- a new client stays as it was by any lines
 idle_lines : (width : ℕ) (x : Course) (lines : List (List ℕ)) → x.client ≡ fresh → course width x (map one.Hear lines) ≡ x
 idle_lines width x [] idle = refl
 idle_lines width x (line ∷ lines) idle = ap (λ y. course width y (map one.Hear lines)) (idle_line width x line idle) ∙ idle_lines width x lines idle
@@ -92,24 +104,28 @@ leads_idle width x y left same = subst (λ (z : Course). Leads width x z left le
 never_left : (asked : ℕ) (later : List ℕ) → asked ∷ later ≡ [] → ⊥
 never_left asked later e = cc
 
--- where it hasn't begun
+-- a client that hasn't begun is a new one
 abbrev IsIdle : Course → List ℕ → Type 0
 IsIdle x left = (left ≡ [] → ⊥) → x.client ≡ fresh
 
+-- lines that a client hears once it has begun are steps of it
 leads_heard : (width : ℕ) (x : Course) (lines : List (List ℕ)) → Leads width x (course width x (map one.Hear lines)) [] [] (map Went (map one.Hear lines))
 leads_heard width x [] = leads_none width x []
 leads_heard width x (line ∷ lines) =
     let more = leads_heard width (goes width x (one.Hear line)) lines in
     record { turns = λ es h. (refl, more.turns es h); reached = more.reached; behind = more.behind }
 
+-- bytes that are fed lead to what their lines make of the client
 leads_feed : (width : ℕ) (x : Course) (left : List ℕ) (lines : List (List ℕ)) → IsIdle x left → Leads width x (course width x (map one.Hear lines)) left left (goes_by left (map one.Hear lines))
 leads_feed width x [] lines idle = leads_heard width x lines
 leads_feed width x (asked ∷ later) lines idle = leads_idle width x _ (asked ∷ later) (idle_lines width x lines (idle (never_left asked later)))
 
+-- a moment leads to what it makes of the client
 leads_expire : (width : ℕ) (x : Course) (left : List ℕ) (now : ℕ) → IsIdle x left → Leads width x (goes width x (one.Expire now)) left left (goes_by left (one.Expire now ∷ []))
 leads_expire width x [] now idle = record { turns = λ es h. (refl, h); reached = λ es. refl; behind = λ es. refl }
 leads_expire width x (asked ∷ later) now idle = leads_idle width x _ (asked ∷ later) (idle_moment width x now (idle (never_left asked later)))
 
+-- a restart leads to a client that begins anew
 leads_restart : (width : ℕ) (x : Course) (left : List ℕ) → IsIdle x left → Leads width x (goes width x one.Restart) left (anew left) (goes_by left (one.Restart ∷ []))
 leads_restart width x [] idle = record { turns = λ es h. (refl, h); reached = λ es. refl; behind = λ es. refl }
 leads_restart width x (asked ∷ later) idle = leads_idle width x _ (asked ∷ later) (idle_restart width x (idle (never_left asked later)))
@@ -124,6 +140,7 @@ record Over (width : ℕ) (s : Stage) (calls : List Step) (t : Stage) : Type 0 w
   reached : t.reached ≡ course width s.reached (steps_among events)
   left : t.left ≡ left_among s.left events
 
+-- calls that lead from one stage to another are events that do
 as_events : (width : ℕ) (s : Stage) (calls : List Step) (t : Stage) → IsIdle s.reached s.left → CallsReach width s calls t → Over width s calls t
 as_events width s [] t idle f = record { events = []; are = refl; turns = tt; reached = ap (λ (x : Stage). x.reached) f; left = ap (λ (x : Stage). x.left) f }
 as_events width s (Send target deadline procedure params ∷ calls) t idle (inl f) =
@@ -183,7 +200,7 @@ as_events width s (Restart ∷ calls) t idle f =
       left = more.left ∙ sym (l.behind more.events);
     }
 
--- they are these alone
+-- calls are one list of events alone
 only_events : (left rest : List ℕ) (calls : List Step) (es fs : List Event) → AreEvents left rest calls es → AreEvents left rest calls fs → es ≡ fs
 only_events left rest [] es fs f g = f ∙ sym g
 only_events left rest (Send target deadline procedure params ∷ calls) es fs (inl f) (inl g) =
@@ -201,6 +218,7 @@ only_events left rest (Feed bytes ∷ calls) es fs f g =
 only_events left rest (Expire now ∷ calls) es fs f g = f.1 ∙ ap (λ later. goes_by left (one.Expire now ∷ []) ++ later) (only_events left rest calls f.0 g.0 f.2 g.2) ∙ sym g.1
 only_events left rest (Restart ∷ calls) es fs f g = f.1 ∙ ap (λ later. goes_by left (one.Restart ∷ []) ++ later) (only_events (anew left) [] calls f.0 g.0 f.2 g.2) ∙ sym g.1
 
+-- the law: all calls on a state are events, and lead where these lead
 pub over_events : (width : ℕ) (calls : List Step) (t : Stage) → CallsReach width opened calls t → IsOverEvents width calls t
 over_events width calls t f =
     let it = as_events width opened calls t (λ no. refl) f in

@@ -19,6 +19,7 @@ use Rattle.gc_field.proofs.Instruments.{simulator}
 use Rattle.gc_field.proofs.Witness.{fits, units}
 use Rattle.geocom_c.specs.FieldWitness.{AreInField, SomeCallsAreInField, moves}
 
+-- procedure 5003 without parameters is a call
 number : IsCall 5003 [] InstrumentNo
 number = record { number = refl; values = record { items = []; split = (0, refl); read = tt } }
 
@@ -27,6 +28,7 @@ not_alone : {A : Type 0} → (◌≡◌ {A = ℕ} 6 0 × A) ⊎ ⊥ → ⊥
 not_alone (inl f) = absurd (omega (arith, f.0))
 not_alone (inr f) = f
 
+-- the calls over an instrument that counts meet every premise of the laws
 any : AreInField counting AnyState kept_by (record { count = 27; keeps = None }) chain.begun chain.first chain.second
 unfolding header_at reply_at digits
 any =
@@ -105,6 +107,7 @@ any =
       };
     }
 
+-- the calls over the simulator meet every premise of the laws
 over_simulator :
     AreInField ends IsFittingState kept_of simulator_opening replies (codes "%R1P,0,0:0,123456") (codes "%R1P,0,1:0,123456")
 unfolding header_at reply_at handed exec digits
@@ -184,5 +187,6 @@ over_simulator =
       };
     }
 
+-- the law: there are calls that meet every premise of the laws
 pub in_field : SomeCallsAreInField
 in_field = record { any = any; simulator = over_simulator }

@@ -13,6 +13,7 @@ use Rattle.geocom_c.specs.declared.rest.GeocomRest.{GeocomRest}
 use Rattle.geocom_c.specs.declared.settled.GeocomSettlement.{GeocomSettlement}
 use Rattle.geocom_c.specs.declared.state.GeocomClient.{GeocomClient}
 
+-- none of the three frames that a line feed makes is `More`
 pick : (a b : Bool) (l : Frame) → (l ≡ More → ⊥) → (if a then (if b then Overlong else l) else Cleared) ≡ More → ⊥
 pick false b l other e = let bad : Cleared ≡ More = e in cc
 pick true true l other e = let bad : Overlong ≡ More = e in cc
@@ -22,7 +23,7 @@ pick true false l other e = other e
 pub never_more : (bs : List ℕ) → frame_of bs ≡ More → ⊥
 never_more bs e = pick (ends_in_return bs) (nat_lt 512 (length bs - 1)) (Line (record { items = take (length bs - 1) bs })) (λ same. cc) e
 
--- other bytes of a line under way
+-- a state stands for the same client with other bytes since the last line feed
 pub with_rest : (s : GeocomClient) (r : GeocomRest) (c : Windowed) (old new : List ℕ) → StandsFor s c old → IsRest r new → StandsFor (record s { rest = r }) c new
 with_rest s r c old new is rest =
     record {
@@ -34,7 +35,7 @@ with_rest s r c old new is rest =
       under_way = rest;
     }
 
--- how many bytes were used doesn't count
+-- what was fed stays so with another number of used bytes
 pub fed_used : (c : Windowed) (f g : Frame) (r q : GeocomHeard) (records : List GeocomSettlement) (text : List ℕ) (used : ℕ) → f ≡ g
     → q ≡ record r { used = used } → IsFed c f r records text → IsFed c g q records text
 fed_used c f g r q records text used e same is =

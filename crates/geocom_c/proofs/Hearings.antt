@@ -23,12 +23,14 @@ past width x Cleared = x
 past width x Overlong = x
 past width x More = x
 
+-- the client behind a frame is that of the course behind it
 pub behind_past : (width : ℕ) (x : Course) (f : Frame) → behind (record { width = width; ids = x.client }) f ≡ record { width = width; ids = (past width x f).client }
 behind_past width x (Line line) = refl
 behind_past width x Cleared = refl
 behind_past width x Overlong = refl
 behind_past width x More = refl
 
+-- the frames of bytes are heard one after the other
 frame_first : (width : ℕ) (x : Course) (f : Frame) (fs : List Frame) → course width x (map one.Hear (filter_map line_in (f ∷ fs))) ≡ course width
     (past width x f) (map one.Hear (filter_map line_in fs))
 frame_first width x (Line line) fs = refl
@@ -36,24 +38,26 @@ frame_first width x Cleared fs = refl
 frame_first width x Overlong fs = refl
 frame_first width x More fs = refl
 
--- without a line feed nothing is heard
+-- of bytes without a line feed nothing is heard
 pub none_heard : (width : ℕ) (x : Course) (rest bytes : List ℕ) → position is_line_feed bytes ≡ None → hearing width x rest bytes ≡ x
 none_heard width x rest bytes e = ap (λ ps. course width x (map one.Hear (filter_map line_in (map frame_of ps)))) (cut_none rest bytes e).0
 
+-- bytes without a line feed are added to those since the last one
 pub none_left : (rest bytes : List ℕ) → position is_line_feed bytes ≡ None → rest_behind rest bytes ≡ rest ++ bytes
 none_left rest bytes e = (cut_none rest bytes e).1
 
--- with one, the first frame is
+-- of bytes with a line feed the first frame is heard, and then the others
 pub some_heard : (width : ℕ) (x : Course) (rest bytes : List ℕ) (at : ℕ) → position is_line_feed bytes ≡ Some at
     → hearing width (past width x (frame_of (rest ++ take at bytes))) [] (drop (at + 1) bytes) ≡ hearing width x rest bytes
 some_heard width x rest bytes at e =
     sym (ap (λ ps. course width x (map one.Hear (filter_map line_in (map frame_of ps)))) (cut_some rest bytes at e).0
     ∙ frame_first width x (frame_of (rest ++ take at bytes)) (map frame_of (pieces_behind [] (drop (at + 1) bytes))))
 
+-- behind the first line feed the bytes before it count no more
 pub some_left : (rest bytes : List ℕ) (at : ℕ) → position is_line_feed bytes ≡ Some at → rest_behind [] (drop (at + 1) bytes) ≡ rest_behind rest bytes
 some_left rest bytes at e = sym (cut_some rest bytes at e).1
 
--- all was used, and no line feed came
+-- where no line feed came, and the bytes were kept, all of them were fed
 pub fed_none : (width : ℕ) (x : Course) (rest bytes : List ℕ) (state : GeocomClient) (left : List ℕ) → position is_line_feed bytes ≡ None → left ≡ []
     → StandsFor state (record { width = width; ids = x.client }) (rest ++ bytes) → FedTo width x rest bytes state left
 fed_none width x rest bytes state left e none s =
@@ -65,7 +69,7 @@ fed_none width x rest bytes state left e none s =
       behind = ap (rest_behind (rest ++ bytes)) none ∙ sym (none_left rest bytes e);
     }
 
--- the bytes through the first line feed were
+-- where the first line feed ended a frame, which the client heard, the bytes through that line feed were fed
 pub fed_some : (width : ℕ) (x : Course) (rest bytes : List ℕ) (state : GeocomClient) (used at : ℕ) → position is_line_feed bytes ≡ Some at → used ≡ at + 1
     → StandsFor state (behind (record { width = width; ids = x.client }) (frame_of (rest ++ take at bytes))) [] → FedTo width x rest bytes state (drop used bytes)
 fed_some width x rest bytes state used at e n s =
@@ -77,7 +81,7 @@ fed_some width x rest bytes state used at e n s =
       behind = ap (λ m. rest_behind [] (drop m bytes)) n ∙ some_left rest bytes at e;
     }
 
--- what is fed further
+-- where some of the bytes were fed, and then some more, all of these were fed
 pub fed_on : (width : ℕ) (x : Course) (rest bytes left end : List ℕ) (state new : GeocomClient) (f : FedTo width x rest bytes state left)
     → FedTo width f.reached f.now left new end → FedTo width x rest bytes new end
 fed_on width x rest bytes left end state new f g = record { reached = g.reached; now = g.now; stands = g.stands; same = g.same ∙ f.same; behind = g.behind ∙ f.behind }
@@ -87,13 +91,14 @@ pub either : {P : Type 0} (o : Option ℕ) → (o ≡ None → P) → ((at : ℕ
 either None f g = f refl
 either (Some at) f g = g at refl
 
+-- where all bytes were used, none is left
 pub nothing_left : (bytes : List ℕ) (used : ℕ) → used ≡ length bytes → drop used bytes ≡ []
 nothing_left bytes used e = ap (λ n. drop n bytes) e ∙ none bytes where
   none : (xs : List ℕ) → drop (length xs) xs ≡ []
   none [] = refl
   none (x ∷ xs) = none xs
 
--- where all was fed
+-- where all bytes were fed, the state stands for what all of them make of the client
 pub fed_all : (width : ℕ) (x : Course) (rest bytes left : List ℕ) (state : GeocomClient) → FedTo width x rest bytes state left → left ≡ []
     → StandsFor state (record { width = width; ids = (hearing width x rest bytes).client }) (rest_behind rest bytes)
 fed_all width x rest bytes left state f none =
@@ -102,7 +107,7 @@ fed_all width x rest bytes left state f none =
     subst (λ (y : Course). StandsFor state (record { width = width; ids = y.client }) (rest_behind rest bytes)) same
     (subst (λ (r : List ℕ). StandsFor state (record { width = width; ids = f.reached.client }) r) behind f.stands)
 
--- a send that the rule takes or refuses
+-- behind a send, taken or refused by the rule, the state stands for the course that goes on with it
 pub sent_course : (width : ℕ) (x : Course) (rest : List ℕ) (call : Call) (target : ℕ) (o : Option (Sending ById)) (sent : Sent)
     → StandsFor sent.old (record { width = width; ids = x.client }) rest → IsSent (record { width = width; ids = x.client }) rest call o sent
     → StandsFor sent.new (record { width = width; ids = (sent_on x target call o).client }) rest
@@ -118,6 +123,7 @@ decided {P} n m f g = elim (eqb n m) as (λ v. eqb n m ≡ v → P) [
   clash : {b : Bool} → b ≡ true → b ≡ false → ⊥
   clash e f = let bad = sym e ∙ f in cc
 
+-- a list of length 0 is empty
 pub empty_is : (xs : List ℕ) → length xs ≡ 0 → xs ≡ []
 empty_is [] e = refl
 empty_is (x ∷ xs) e = absurd (omega (arith, e))

@@ -10,19 +10,20 @@ use Rattle.gc_lines.specs.Headers.{id_text}
 use Rattle.geocom_c.specs.Settled.{StandsAt, total}
 use Rattle.geocom_c.specs.declared.listed.GeocomItem.{GeocomItem}
 
--- how many bytes the first k + 1 have
+-- the first k + 1 items have the bytes of the first k, and those of item k
 pub total_turn : (items : List (List ℕ)) (k : ℕ) → k < length items → total (take (suc k) items) ≡ total (take k items) + length (get_or items k [])
 total_turn [] k lt = absurd (omega (arith, lt))
 total_turn (i ∷ items) zero lt = omega arith
 total_turn (i ∷ items) (suc k) lt = omega (arith, total_turn items k (omega (arith, lt)))
 
+-- the first items have no more bytes than all
 pub total_first : (items : List (List ℕ)) (k : ℕ) → total (take k items) ≤ total items
 total_first [] zero = omega arith
 total_first [] (suc k) = omega arith
 total_first (i ∷ items) zero = omega arith
 total_first (i ∷ items) (suc k) = omega (arith, total_first items k)
 
--- items are no more than what they are cut of
+-- items have no more bytes than the pieces that they are cut of
 pieces_total : (pieces items : List (List ℕ)) → ArePieces pieces items → total items ≤ total pieces
 pieces_total [] [] are = omega arith
 pieces_total [] (i ∷ items) are = absurd are
@@ -32,14 +33,17 @@ pieces_total (p ∷ pieces) (i ∷ items) are =
     let n = ap length is.piece_is in
     omega (arith, n, length-append (replicate is.before 32) (i ++ replicate is.behind 32), length-append i (replicate is.behind 32), pieces_total pieces items are.2)
 
+-- items have no more bytes than they have with a comma before each
 flat_total : (ts : List (List ℕ)) → total ts ≤ length (flat_map (λ (u : List ℕ). 44 ∷ u) ts)
 flat_total [] = omega arith
 flat_total (t ∷ ts) = omega (arith, flat_total ts, length-append (44 ∷ t) (flat_map (λ (u : List ℕ). 44 ∷ u) ts))
 
+-- items have no more bytes than they have joined by commas
 joined_total : (ts : List (List ℕ)) → total ts ≤ length (joined ts)
 joined_total [] = omega arith
 joined_total (t ∷ ts) = omega (arith, flat_total ts, length-append t (flat_map (λ (u : List ℕ). 44 ∷ u) ts))
 
+-- items have no more bytes than the parameters that they are cut of
 pub items_total : (params : List ℕ) (items : List (List ℕ)) → IsParams params items → total items ≤ length params
 items_total params [] is = omega arith
 items_total params (i ∷ items) is = let n = ap length is.bytes_are in omega (arith, n, joined_total is.pieces, pieces_total is.pieces (i ∷ items) is.pieces_are)
@@ -70,18 +74,18 @@ items_length [] (v ∷ vs) are = absurd are
 items_length (i ∷ items) [] are = absurd are
 items_length (i ∷ items) (v ∷ vs) are = omega (arith, items_length items vs are.1)
 
--- behind a text
+-- behind the length of a first text stands the second
 drop_exact : (t u : List ℕ) → drop (length t) (t ++ u) ≡ u
 drop_exact [] u = refl
 drop_exact (x ∷ t) u = drop_exact t u
 
--- within a front
+-- what stands within a front stays where more is appended
 take_drop_front : (n k : ℕ) (t u : List ℕ) → n + k ≤ length t → take k (drop n (t ++ u)) ≡ take k (drop n t)
 take_drop_front zero k t u fits = take-append-le k t u (omega (arith, fits))
 take_drop_front (suc n) k [] u fits = absurd (omega (arith, fits))
 take_drop_front (suc n) k (x ∷ t) u fits = take_drop_front n k t u (omega (arith, fits))
 
--- an item that is appended
+-- an item that is appended stands at the end of the text before it
 pub stands_here : (text item : List ℕ) (place : GeocomItem) → place.offset ≡ length text → place.length ≡ length item → StandsAt (text ++ item) place item
 stands_here text item place o n =
     record {

@@ -13,10 +13,11 @@ use Rattle.gc_lines.proofs.Keeping.{take-append, last-append}
 abbrev pub last_of : List ℕ → ℕ
 last_of t = get_or t (length t - 1) 0
 
--- what a line feed makes of more than 513 bytes rests on the last
+-- what a line feed makes of more than 513 bytes depends on the last alone
 long_frame : (t : List ℕ) → 513 < length t → frame_of t ≡ (if last_of t == 13 then Overlong else Cleared)
 long_frame t h = rw (lt-ltb 0 (length t) (omega (arith, h)), lt-ltb 512 (length t - 1) (omega (arith, h))) refl
 
+-- bytes with the same last byte have the same one behind the same further bytes
 last_same : (t u more : List ℕ) → last_of t ≡ last_of u → last_of (t ++ more) ≡ last_of (u ++ more)
 last_same t u [] e = ap last_of (append-nil t) ∙ e ∙ sym (ap last_of (append-nil u))
 last_same t u (b ∷ bs) e = last-append t (b ∷ bs) (omega arith) ∙ sym (last-append u (b ∷ bs) (omega arith))
@@ -31,28 +32,30 @@ cut_same t more h =
     ∙ ap (λ b. if b == 13 then Overlong else Cleared) (last_same u t more l)
     ∙ sym (long_frame (t ++ more) (omega (arith, h, length-append t more)))
 
--- however it goes on, the same frame comes of both
+-- however both go on, the same frame comes of them
 abbrev pub GoAlike : List ℕ → List ℕ → Type 0
 GoAlike t rest = (more : List ℕ) → frame_of (t ++ more) ≡ frame_of (rest ++ more)
 
--- all of a piece was kept
+-- where the bytes kept and those that came go on alike, they still do with a piece behind both
 pub alike_all : (t p rest : List ℕ) → GoAlike t rest → GoAlike (t ++ p) (rest ++ p)
 alike_all t p rest same more = ap frame_of (append_assoc t p more) ∙ same (p ++ more) ∙ sym (ap frame_of (append_assoc rest p more))
 
--- all of it was, but of more than 513 bytes the first 513 and the last
+-- where they go on alike, and with a piece are more than 513, they still do where the first 513 and the last are kept
 pub alike_cut : (t p rest : List ℕ) → 513 < length (t ++ p) → GoAlike t rest → GoAlike (take 513 (t ++ p) ++ last_of (t ++ p) ∷ []) (rest ++ p)
 alike_cut t p rest h same more = cut_same (t ++ p) more h ∙ alike_all t p rest same more
 
+-- of the first n items the first k are the first k of all, where k is at most n
 shorter : {A : Type 0} (k n : ℕ) (xs : List A) → k ≤ n → take k (take n xs) ≡ take k xs
 shorter zero n xs le = refl
 shorter (suc k) zero xs le = absurd (omega (arith, le))
 shorter (suc k) (suc n) [] le = refl
 shorter (suc k) (suc n) (x ∷ xs) le = ap (λ ys. x ∷ ys) (shorter k n xs (omega (arith, le)))
 
--- a part of a piece fills what is kept
+-- the part of a piece for which there is room decides the first 513 bytes
 filled : (t p : List ℕ) (n : ℕ) → length t ≤ 514 → n ≡ 514 - length t → n ≤ length p → take 513 (t ++ take n p) ≡ take 513 (t ++ p)
 filled t p n short room fits = take-append 513 t (take n p) ∙ ap (λ xs. take 513 t ++ xs) (shorter (513 - length t) n p (omega (arith, room))) ∙ sym (take-append 513 t p)
 
+-- what holds of all items holds of the first
 all_of_take : (P : ℕ → Type 0) (k : ℕ) (xs : List ℕ) → All P xs → All P (take k xs)
 all_of_take P k xs all i d lt =
     let n = length-take k xs in
@@ -71,7 +74,7 @@ module _ (bytes t p rest : List ℕ) (n f : ℕ) (is : n ≡ length t) (clean : 
         same = λ more. ap (λ u. frame_of (u ++ more)) text ∙ alike_all t p rest same more;
       }
 
-  -- a part of it was, and its last byte
+  -- a part of a piece was kept, and its last byte
   pub cut_rest : (last : ℕ) → n ≤ 514 → f ≡ 514 - n → f < length p → take (n + f) bytes ≡ t ++ take f p → 513 < length bytes → last ≡ last_of p
       → IsRest (record { length = n + f; bytes = slice_set bytes 513 last }) (rest ++ p)
   cut_rest last short room more text within e =

@@ -6,26 +6,28 @@ use Rattle.std.proofs.lemmas.List.Sums.{prefix_len_passes, prefix_len_stops}
 use Rattle.gc_lines.specs.Frames.{is_line_feed}
 use Rattle.gc_lines.proofs.Cutting.{goes_on}
 
+-- a byte at which the search stops is a line feed
 is_feed : (b : ℕ) → goes_on b ≡ false → b ≡ 10
 is_feed b e = eqb-true b 10 (flip (is_line_feed b) e) where
   flip : (v : Bool) → not v ≡ false → v ≡ true
   flip true e = refl
   flip false e = cc
 
+-- a byte at which the search goes on is no line feed
 no_feed : (b : ℕ) → goes_on b ≡ true → b ≢ 10
 no_feed b e same = clash (is_line_feed b) e (eq-eqb b 10 same) where
   clash : (v : Bool) → not v ≡ true → v ≡ true → ⊥
   clash true e t = cc
   clash false e t = cc
 
--- none is found in them
+-- in bytes without a line feed none is found
 pub clean_none : (xs : List ℕ) → All (λ b. b ≢ 10) xs → position is_line_feed xs ≡ None
 clean_none xs clean = elim (ltb (prefix_len goes_on xs) (length xs)) as (λ v. ltb (prefix_len goes_on xs) (length xs) ≡ v → cond v (Some (prefix_len goes_on xs)) None ≡ None) [
   | true ↦ λ t. let within = ltb-true _ _ t in absurd (clean (prefix_len goes_on xs) 0 within (is_feed _ (prefix_len_stops goes_on xs 0 within)))
   | false ↦ λ _. refl
 ] refl
 
--- bytes in which none is found
+-- bytes in which no line feed is found have none
 pub none_clean : (xs : List ℕ) → position is_line_feed xs ≡ None → All (λ b. b ≢ 10) xs
 none_clean xs e k d lt =
     let past : length xs ≤ prefix_len goes_on xs = elim (ltb (prefix_len goes_on xs) (length xs)) as

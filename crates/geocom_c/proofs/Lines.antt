@@ -11,7 +11,7 @@ use Rattle.gc_catalogue.specs.Texts.{request_line, request_of}
 use Rattle.gc_catalogue.specs.Calls.{IsCall}
 use Rattle.geocom_c.specs.State.{IsLineOf}
 
--- a call's own line
+-- the request line of a call without an id is a line of that call
 pub own_line : (line : List ℕ) (call : Call) → ReadsBackCall None call → line ≡ request_line None call → IsLineOf line call
 own_line line call back e =
     record {
@@ -25,7 +25,7 @@ own_line line call back e =
 pub never_bad : (line : List ℕ) (call : Call) (f : LineFault) → request_at line ≡ Err f → IsLineOf line call → ⊥
 never_bad line call f e is = let both : Ok is.fields ≡ Err f = sym (request_again line is.fields is.is_request) ∙ e in cc
 
--- a line that reads is the call's with what is read
+-- where a line reads, and is a call's, what is read is that call's
 pub read_same : (line : List ℕ) (call : Call) (r : RequestFields) → request_at line ≡ Ok r → IsLineOf line call → (r.id ≡ None) × IsCall r.rpc r.params call
 read_same line call r e is =
     let both : Ok is.fields ≡ Ok r = sym (request_again line is.fields is.is_request) ∙ e in

@@ -14,15 +14,17 @@ use Rattle.geocom_c.specs.Laws.{IsOwnAnswer}
 use Rattle.geocom_c.specs.Runs.{Part, begun_at, world}
 use Rattle.geocom_c.proofs.Places.{got}
 
--- what holds of each by its place
+-- what holds of the item at each place holds of all
 all_of_places : {A : Type 0} (P : A → Type 0) (xs : List A) → ((m : ℕ) (x : A) → slice_get xs m ≡ Some x → P x) → AllByRecursion P xs
 all_of_places P [] f = tt
 all_of_places P (x ∷ xs) f = (f 0 x refl, all_of_places P xs (λ m y e. f (suc m) y e))
 
+-- where all items have something, and that gives something else, all have that, too
 pub all_weaker : {A : Type 0} (P Q : A → Type 0) → ((x : A) → P x → Q x) → (xs : List A) → AllByRecursion P xs → AllByRecursion Q xs
 all_weaker P Q f [] h = tt
 all_weaker P Q f (x ∷ xs) h = (f x h.0, all_weaker P Q f xs h.1)
 
+-- what holds of all items of two lists holds of all of both together
 pub all_joined : {A : Type 0} (P : A → Type 0) (xs ys : List A) → AllByRecursion P xs → AllByRecursion P ys → AllByRecursion P (xs ++ ys)
 all_joined P [] ys f g = g
 all_joined P (x ∷ xs) ys f g = (f.0, all_joined P xs ys f.1 g)
@@ -33,17 +35,18 @@ within [] m x e = cc
 within (y ∷ xs) zero x e = omega arith
 within (y ∷ xs) (suc m) x e = omega (arith, within xs m x e)
 
--- a place behind the first k
+-- a place behind the first k items is one of the whole list, at k or behind it
 behind_first : {A : Type 0} (k m : ℕ) (xs : List A) (x : A) → slice_get (drop k xs) m ≡ Some x → (n : ℕ) × (k ≤ n) × (slice_get xs n ≡ Some x)
 behind_first zero m xs x e = (m, omega arith, e)
 behind_first {A} (suc k) m [] x e = (let bad : m < length {A = A} [] = within {A = A} [] m x e in absurd (omega (arith, bad)))
 behind_first (suc k) m (y ∷ xs) x e = let more = behind_first k m xs x e in (suc more.0, omega (arith, more.1), more.2)
 
+-- a request and a settlement with one target and call ask the same
 same_asked : (r : Sent) (s : Settlement) → s.target ≡ r.target → s.call ≡ r.call → asked r ≡ of_settled s
 same_asked r s t c = rw (t, c) refl
 
 module _ {State : Type 0} (width : ℕ) (ends : Ends State) (Good : State → Type 0) (kept : State → Option KeptReply) where
-  -- what a run settled
+  -- an answer that a run settled is its own request's, in the list that begins with this run
   here : (p : Part State) (ps : List (Part State)) → IsFaithful width ends (leaves (begun_at width ends p)) p.run.moves Good kept → (m : ℕ) (x : Settlement)
       → 8 ≤ m → slice_get (world width ends p).wire.settled m ≡ Some x → IsOwnAnswer width ends Good kept (p ∷ ps) x
   here p ps f m x command e = λ line is.
@@ -66,12 +69,13 @@ module _ {State : Type 0} (width : ℕ) (ends : Ends State) (Good : State → Ty
         made_on = f.made_on m x line command e is;
       }
 
+  -- so is each answer behind the null procedures
   pub own_here : (p : Part State) (ps : List (Part State)) → IsFaithful width ends (leaves (begun_at width ends p)) p.run.moves Good kept
       → AllByRecursion (IsOwnAnswer width ends Good kept (p ∷ ps)) (drop 8 (world width ends p).wire.settled)
   own_here p ps f = all_of_places (IsOwnAnswer width ends Good kept (p ∷ ps)) (drop 8 (world width ends p).wire.settled)
       (λ m x e. let at = behind_first 8 m (world width ends p).wire.settled x e in here p ps f at.0 x at.1 at.2)
 
-  -- what a later one did
+  -- an answer of a later run is its own request's in the list with one more run in front, too
   pub later_own : (p : Part State) (ps : List (Part State)) (x : Settlement) → IsOwnAnswer width ends Good kept ps x → IsOwnAnswer width ends Good kept (p ∷ ps) x
   later_own p ps x own = λ line is.
       let o = own line is in

@@ -34,13 +34,16 @@ record Behind (old : List Settlement) (x y : Course) : Type 0 where
   settled : x.settlements ≡ old ++ y.settlements
   client : x.client ≡ y.client
 
+-- settlements in front stay in front over a send
 behind_send : (old : List Settlement) (x y : Course) (target : ℕ) (call : Call) (o : Option (Sending ById)) → Behind old x y → Behind old (sent_on x target call o) (sent_on y target call o)
 behind_send old x y target call None h = h
 behind_send old x y target call (Some s) h = record { settled = h.settled; client = refl }
 
+-- settlements in front stay in front over what a step settles
 behind_settled : (old : List Settlement) (x y : Course) (s : Settled ById) → Behind old x y → Behind old (settled_on x s) (settled_on y s)
 behind_settled old x y s h = record { settled = ap (λ l. l ++ s.settlements) h.settled ∙ append_assoc old y.settlements s.settlements; client = refl }
 
+-- settlements in front stay in front over a step
 behind_step : (width : ℕ) (old : List Settlement) (x y : Course) (step : Step) → Behind old x y → Behind old (goes width x step) (goes width y step)
 behind_step width old x y (Send target call deadline) h =
     subst (λ c. Behind old (sent_on x target call (sends width c target call deadline)) (sent_on y target call (sends width y.client target call deadline))) (sym h.client)
@@ -52,16 +55,19 @@ behind_step width old x y (Expire now) h = record { settled = h.settled; client 
 behind_step width old x y Restart h =
     subst (λ c. Behind old (settled_on x (restarts c)) (settled_on y (restarts y.client))) (sym h.client) (behind_settled old x y (restarts y.client) h)
 
+-- settlements in front stay in front over all steps
 behind_all : (width : ℕ) (old : List Settlement) (steps : List Step) (x y : Course) → Behind old x y → Behind old (course width x steps) (course width y steps)
 behind_all width old [] x y h = h
 behind_all width old (step ∷ steps) x y h = behind_all width old steps _ _ (behind_step width old x y step h)
 
+-- the course over steps, and others behind them, is that over the others from where the first lead
 course_append : (width : ℕ) (first later : List Step) (x : Course) → course width x (first ++ later) ≡ course width (course width x first) later
 course_append width [] later x = refl
 course_append width (step ∷ first) later x = course_append width first later (goes width x step)
 
 -- Steps among events.
 
+-- the steps among events that begin with steps
 steps_went : (steps : List Step) (es : List Event) → steps_among (map Went steps ++ es) ≡ steps ++ steps_among es
 steps_went [] es = refl
 steps_went (step ∷ steps) es = ap (λ l. step ∷ l) (steps_went steps es)
@@ -69,16 +75,17 @@ steps_went (step ∷ steps) es = ap (λ l. step ∷ l) (steps_went steps es)
 over_none : (asked : ℕ) (later : List ℕ) → asked ∷ later ≡ [] → ⊥
 over_none asked later e = cc
 
--- none comes before the eighth answer
+-- no step comes before the eighth answer
 none_went : (asked : ℕ) (later : List ℕ) (steps : List Step) (es : List Event) → AreInTurn (asked ∷ later) (map Went steps ++ es) → steps ≡ []
 none_went asked later [] es h = refl
 none_went asked later (step ∷ steps) es h = absurd (over_none asked later h.0)
 
+-- no restart comes before the eighth answer, as a step
 no_restart : (asked : ℕ) (later : List ℕ) (steps : List Step) (es : List Event) → AreInTurn (asked ∷ later) (map Went steps ++ Went Restart ∷ es) → ⊥
 no_restart asked later [] es h = over_none asked later h.0
 no_restart asked later (step ∷ steps) es h = over_none asked later h.0
 
--- behind moves it has begun as before
+-- moves of the field change nothing in that a client has begun
 went_on : {State : Type 0} (ms : List (Move State)) (es : List Event) → AreInTurn [] (map Went (seen ms) ++ es) → AreInTurn [] es
 went_on [] es h = h
 went_on (Sends target call deadline ∷ ms) es h = went_on ms es h.1
@@ -90,6 +97,7 @@ went_on (field.Anew ∷ ms) es h = went_on ms es h
 went_on (field.Changes state ∷ ms) es h = went_on ms es h
 went_on (Joins line ∷ ms) es h = went_on ms es h
 
+-- moves of the field leave no id of a beginning unanswered
 went_left : {State : Type 0} (ms : List (Move State)) (es : List Event) → left_among [] (map Went (seen ms) ++ es) ≡ left_among [] es
 went_left [] es = refl
 went_left (Sends target call deadline ∷ ms) es = went_left ms es
@@ -108,6 +116,7 @@ module _ {State : Type 0} (width : ℕ) (ends : Ends State) where
     left : (es : List Event) → left_among s.left (front ++ es) ≡ left_among after.left es
     steps : (es : List Event) → steps_among (front ++ es) ≡ steps_among es
 
+  -- a turn that leaves the ids as they were is no event
   turned_same : (s after : Model State) → after.left ≡ s.left → Turned s after []
   turned_same s after e =
       record {
@@ -116,18 +125,22 @@ module _ {State : Type 0} (width : ℕ) (ends : Ends State) where
         steps = λ es. refl;
       }
 
+  -- a null procedure that goes out leaves the ids as its event does
   turned_asked : (s : Model State) (left : List ℕ) → Turned s (asks s left) (asked_of left)
   turned_asked s [] = turned_same s s refl
   turned_asked s (asked ∷ later) = record { turns = λ es h. h; left = λ es. refl; steps = λ es. refl }
 
+  -- a line that comes leaves the ids as its event does
   turned_front : (s : Model State) (down : List (Aged (List ℕ))) → Turned s (comes s down) (front_of down)
   turned_front s [] = turned_same s s refl
   turned_front s (x ∷ rest) = record { turns = λ es h. h; left = λ es. refl; steps = λ es. refl }
 
+  -- a request that reaches the instrument answers nothing
   reached_left : (s : Model State) (up : List (Aged Request)) → (reaches ends s up).left ≡ s.left
   reached_left s [] = refl
   reached_left s (x ∷ rest) = refl
 
+  -- one turn of a beginning leaves the ids as its events do
   turned_one : (s : Model State) (t : Turn State) → Turned s (turns ends s t) (event_of s t)
   turned_one s Asks = turned_asked s s.left
   turned_one s Comes = turned_front s s.down
@@ -140,6 +153,7 @@ module _ {State : Type 0} (width : ℕ) (ends : Ends State) where
   turned_one s Anew = turned_same s _ refl
   turned_one s (Changes state) = turned_same s _ refl
 
+  -- the turns of a beginning leave the ids as their events do
   turned_all : (ts : List (Turn State)) (s : Model State) → Turned s (turned ends ts s) (events_of width ends s ts)
   turned_all [] s = turned_same s s refl
   turned_all (t ∷ ts) s =
@@ -154,21 +168,23 @@ module _ {State : Type 0} (width : ℕ) (ends : Ends State) where
       }
 
   module _ (Good : State → Type 0) (kept : State → Option KeptReply) (is : IsAnInstrument ends Good kept) (narrow : width ≤ 7) where
-    -- what has begun cleanly leaves clean lines
+    -- where all requests under way are the eighth null procedure, so are their lines
     clean_up : (xs : List (Aged Request)) → Each (λ x. (x.old ≡ false) × (x.line ≡ eighth)) xs → Each (λ x. x ≡ eighth) (map (λ x. x.line) xs)
     clean_up [] h = tt
     clean_up (x ∷ xs) h = (h.0.1, clean_up xs h.1)
 
+    -- where all replies under way have id 7, so have their lines
     clean_down : (xs : List (Aged (List ℕ))) → Each (λ x. (x.old ≡ false) × (heard x.line ≡ Some 7)) xs → Each (λ line. heard line ≡ Some 7) (map (λ x. x.line) xs)
     clean_down [] h = tt
     clean_down (x ∷ xs) h = (h.0.1, clean_down xs h.1)
 
-    -- a run that has begun
+    -- a run that has begun is faithful, and leaves lines among which the next run may begin
     record Begins (u : UnderWay State) (r : Run State) : Type 0 where
       own : IsOwnIf width ends Good kept [] (stood width ends u r) r.moves
       lines : AreLines Good (left_if width ends [] (stood width ends u r) r.moves)
       may : MayBegin (left_if width ends [] (stood width ends u r) r.moves)
 
+    -- a run among lines that may begin, all of whose null procedures are answered, has begun so
     begins_own : (u : UnderWay State) (r : Run State) → AreLines Good u → MayBegin u → AreTurns ends Good kept r.turns (begins u)
         → ArePossible ends Good kept (by_ids width ends) r.moves (ids_begun (leaves (stood width ends u r))) → (stood width ends u r).left ≡ [] → Begins u r
     begins_own u r lines may ts possible e =
@@ -197,7 +213,7 @@ module _ {State : Type 0} (width : ℕ) (ends : Ends State) where
       own : OwnAll ps (settled_over width ends ps)
       each : AllByRecursion OwnPart ps
 
-    -- the last run
+    -- what holds of the last run, begun or not
     last_holds : (p : Part State) (left : List ℕ) → (begun_at width ends p).left ≡ left → AreLines Good p.before → MayBegin p.before → AreTurns ends Good kept p.run.turns (begins p.before)
         → ArePossible ends Good kept (by_ids width ends) p.run.moves (ids_begun (leaves (begun_at width ends p)))
         → AreInTurn the_word (events_of width ends (begins p.before) p.run.turns ++ map Went (seen p.run.moves))
@@ -237,12 +253,13 @@ module _ {State : Type 0} (width : ℕ) (ends : Ends State) where
           each = (subst (λ l. IsOwnIf width ends Good kept l s p.run.moves) (sym e) tt, tt);
         }
 
-    -- a run that restarts
+    -- a run behind which the client restarts has begun
     record Passes (p : Part State) (rest : List Event) : Type 0 where
       begins : Begins p.before p.run
       done : (begun_at width ends p).left ≡ []
       turns : AreInTurn the_word rest
 
+    -- a restart comes in its turn only behind a run that has begun
     passes : (p : Part State) (left : List ℕ) (rest : List Event) → (begun_at width ends p).left ≡ left → AreLines Good p.before → MayBegin p.before
         → AreTurns ends Good kept p.run.turns (begins p.before)
         → ArePossible ends Good kept (by_ids width ends) p.run.moves (ids_begun (leaves (begun_at width ends p)))
@@ -258,6 +275,7 @@ module _ {State : Type 0} (width : ℕ) (ends : Ends State) where
         let turn = (turned_all p.run.turns (begins p.before)).turns (map Went (seen p.run.moves) ++ Went Restart ∷ rest) h in
         absurd (no_restart asked later (seen p.run.moves) rest (subst (λ l. AreInTurn l (map Went (seen p.run.moves) ++ Went Restart ∷ rest)) e turn))
 
+    -- what holds of later runs holds of one more in front of them
     passed_holds : (p next : Part State) (others : List (Part State)) (rest : List Event) → Passes p rest → Holds (next ∷ others) rest
         → Holds (p ∷ next ∷ others) (events_of width ends (begins p.before) p.run.turns ++ (map Went (seen p.run.moves) ++ Went Restart ∷ rest))
     passed_holds p next others rest pass more =
@@ -301,6 +319,7 @@ module _ {State : Type 0} (width : ℕ) (ends : Ends State) where
           each = (subst (λ l. IsOwnIf width ends Good kept l s p.run.moves) (sym e) pass.begins.own, more.each);
         }
 
+    -- what holds of all runs, one after the other
     all_hold : (rs : List (Run State)) (u : UnderWay State) → AreLines Good u → MayBegin u → ArePossibleRuns width ends Good kept u rs
         → AreInTurn the_word (events_over width ends u rs) → Holds (parts width ends u rs) (events_over width ends u rs)
     all_hold [] u lines may possible h = record { settled = refl; client = refl; left = refl; own = tt; each = tt }
@@ -315,6 +334,7 @@ module _ {State : Type 0} (width : ℕ) (ends : Ends State) where
         passed_holds p (record { before = after; run = next }) (parts width ends (left_by_run width ends after next) others) (events_over width ends after (next ∷ others)) pass
         (all_hold (next ∷ others) after now again possible.1 pass.turns)
 
+    -- the law: what holds of calls that are these runs
     pub owned : (calls : List call.Step) (t : Stage) → CallsReach width opened calls t → (u : UnderWay State) → AreLines Good u → MayBegin u
         → (rs : List (Run State)) → AreEvents the_word [] calls (events_over width ends u rs) → ArePossibleRuns width ends Good kept u rs
         → AreOwn width ends Good kept (parts width ends u rs) t

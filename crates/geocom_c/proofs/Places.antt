@@ -6,18 +6,18 @@ use Rattle.gc_client.specs.declared.pending.Pending.{Pending}
 use Rattle.geocom_c.specs.FirstAre.{FirstAre}
 
 module _ {A B : Type 0} (Is : A → B → Type 0) where
-  -- none
+  -- no item goes with the front of any list
   pub first_none : (xs : List A) → FirstAre Is xs []
   first_none xs = tt
 
-  -- one more is read
+  -- one more item was read
   pub first_more : (xs : List A) (ys : List B) (x : A) (y : B) → FirstAre Is xs ys → slice_get xs (length ys) ≡ Some x → Is x y → FirstAre Is xs (ys ++ y ∷ [])
   first_more [] [] x y are e is = cc
   first_more (a ∷ xs) [] x y are e is = let same : x ≡ a = cc in (subst (λ z. Is z y) same is, tt)
   first_more [] (b ∷ ys) x y are e is = absurd are
   first_more (a ∷ xs) (b ∷ ys) x y are e is = (are.0, first_more xs ys x y are.1 e is)
 
-  -- what stands at a place
+  -- the items at one place go together
   pub first_at : (xs : List A) (ys : List B) (k : ℕ) (x : A) (y : B) → FirstAre Is xs ys → slice_get xs k ≡ Some x → slice_get ys k ≡ Some y → Is x y
   first_at xs [] zero x y are e f = cc
   first_at xs [] (suc k) x y are e f = cc
@@ -25,7 +25,7 @@ module _ {A B : Type 0} (Is : A → B → Type 0) where
   first_at (a ∷ xs) (b ∷ ys) zero x y are e f = let s : a ≡ x = cc in let t : b ≡ y = cc in subst (λ z. Is z y) s (subst (λ z. Is a z) t are.0)
   first_at (a ∷ xs) (b ∷ ys) (suc k) x y are e f = first_at xs ys k x y are.1 e f
 
-  -- one more is written
+  -- one more item was written
   pub first_written : (xs : List A) (ys : List B) (k : ℕ) (x : A) (y : B) → FirstAre Is xs (take k ys) → k < length xs → slice_get ys k ≡ Some y → Is x y
       → FirstAre Is (slice_set xs k x) (take (suc k) ys)
   first_written [] ys k x y are lt f is = absurd (omega (arith, lt))
@@ -33,13 +33,13 @@ module _ {A B : Type 0} (Is : A → B → Type 0) where
   first_written (a ∷ xs) (b ∷ ys) zero x y are lt f is = let t : y ≡ b = cc in (subst (λ z. Is x z) t is, tt)
   first_written (a ∷ xs) (b ∷ ys) (suc k) x y are lt f is = (are.0, first_written xs ys k x y are.1 (omega (arith, lt)) f is)
 
-  -- they are no more
+  -- there are no more of the second than of the first
   pub first_fewer : (xs : List A) (ys : List B) → FirstAre Is xs ys → length ys ≤ length xs
   first_fewer xs [] are = omega arith
   first_fewer [] (b ∷ ys) are = absurd are
   first_fewer (a ∷ xs) (b ∷ ys) are = omega (arith, first_fewer xs ys are.1)
 
--- what holds of each
+-- where each pair that is one way (`Is`) is another way (`Be`), too, so are the lists
 pub first_map : {A B : Type 0} (Is Be : A → B → Type 0) → ((x : A) (y : B) → Is x y → Be x y) → (xs : List A) (ys : List B) → FirstAre Is xs ys → FirstAre Be xs ys
 first_map Is Be step xs [] are = tt
 first_map Is Be step [] (b ∷ ys) are = absurd are
@@ -53,7 +53,7 @@ same_pending p target call deadline given_up a b d e =
     let e' : given_up ≡ p.given_up = cc in
     rw (a, b', d, e') refl
 
--- what stands at a place within a list
+-- a place within a list has an item
 pub got : {A : Type 0} (xs : List A) (k : ℕ) → k < length xs → (x : A) × (slice_get xs k ≡ Some x)
 got [] k lt = absurd (omega (arith, lt))
 got (x ∷ xs) zero lt = (x, refl)

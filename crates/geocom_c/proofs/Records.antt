@@ -21,7 +21,7 @@ use Rattle.geocom_c.specs.declared.settled.GeocomSettlement.{GeocomSettlement}
 use Rattle.geocom_c.proofs.Places.{first_map}
 use Rattle.geocom_c.proofs.Items.{stands_more}
 
--- an answer has few values
+-- an answer has at most 16 values
 few_values : (a : Answer) → length (answer_fields a).values ≤ 16
 few_values answer.Nothing = omega arith
 few_values (answer.Short n) = omega arith
@@ -36,7 +36,7 @@ few_values (answer.Angles hz v) = omega arith
 few_values (answer.Measured hz v d) = omega arith
 few_values (answer.MeasuredMode hz v d m) = omega arith
 
--- a reading of a reply whose text was written
+-- the record of a reply whose text was written has its reading
 pub has_reading : (r : GeocomSettlement) (text line : List ℕ) (count : ℕ) (call : Call) (reply : ReplyFields) (reading : Reading)
     → IsTold text count r.places line → IsReply line reply → IsReading call reply reading → IsKind reading r.reading r.code
     → (r.reading ≡ 1 → r.items ≡ count) → ((n : ℕ) → r.reading ≡ suc (suc n) → r.items ≡ 0) → HasReading r text reply.params reading
@@ -46,7 +46,7 @@ has_reading r text line count call reply (Refused rc) told is reads kind some no
 has_reading r text line count call reply (ComFault rc) told is reads kind some none = (kind.0, kind.1, none 1 kind.0)
 has_reading r text line count call reply (Unreadable e) told is reads kind some none = (kind.0, kind.1, none 2 kind.0)
 
--- a record still says so as more stands behind the text
+-- a record still has its reading as more stands behind the text
 more_reading : (r : GeocomSettlement) (text more params : List ℕ) (reading : Reading) → HasReading r text params reading → HasReading r (text ++ more) params reading
 more_reading r text more params (Value a) has =
     let are = has.2 in (
@@ -65,6 +65,7 @@ more_reading r text more params (Refused rc) has = has
 more_reading r text more params (ComFault rc) has = has
 more_reading r text more params (Unreadable e) has = has
 
+-- a record still says how its request ended as more stands behind the text
 more_outcome : (text more : List ℕ) (r : GeocomSettlement) (call : Call) (o : Rule.Outcome) → HasOutcome r text call o → HasOutcome r (text ++ more) call o
 more_outcome text more r call (Rule.Answered line) is =
     let n = ap length is.front in
@@ -81,6 +82,7 @@ more_outcome text more r call (Rule.Answered line) is =
 more_outcome text more r call Rule.Late is = is
 more_outcome text more r call Rule.Lost is = is
 
+-- a record still is one of its settlement as more stands behind the text
 pub more_record : (text more : List ℕ) (r : GeocomSettlement) (s : Settlement) → IsRecord text r s → IsRecord (text ++ more) r s
 more_record text more r s is = record { target = is.target; procedure = is.procedure; outcome = more_outcome text more r s.call s.outcome is.outcome }
 
@@ -89,43 +91,49 @@ met_by : (p : Pending) (line : List ℕ) (b : Bool) → IsBy line (if b then Rul
 met_by p line true = tt
 met_by p line false = refl
 
+-- what a line settles is answered by no other line
 settle_by : (k : ℕ) (line : List ℕ) (ps : List Pending) → AreBy line (settle k line ps)
 settle_by k line [] = tt
 settle_by zero line (p ∷ ps) = (met_by p line p.given_up, tt)
 settle_by (suc k) line (p ∷ ps) = (tt, settle_by k line ps)
 
+-- what a client settles by a line with the id of place k, whether a request waits there (true) or none does, no other line answers
 chosen_by : (c : ById) (line : List ℕ) (k : ℕ) (b : Bool) → AreBy line (id_settled c line k b).settlements
 chosen_by c line k true = settle_by k line c.waiting
 chosen_by c line k false = tt
 
+-- of what a client settles by a line, nothing is answered by another line
 pub hears_by : (c : ById) (line : List ℕ) (id : Option ℕ) → AreBy line (hears c line id).settlements
 hears_by c line None = tt
 hears_by c line (Some id) = chosen_by c line (place_in c id) _
 
+-- what holds of all settlements by a line holds of the one at a place
 pub by_at : (line : List ℕ) (ss : List Settlement) (k : ℕ) (s : Settlement) → AreBy line ss → slice_get ss k ≡ Some s → IsBy line s.outcome
 by_at line [] k s are e = cc
 by_at line (a ∷ ss) zero s are e = let same : a ≡ s = cc in subst (λ (x : Settlement). IsBy line x.outcome) same are.0
 by_at line (a ∷ ss) (suc k) s are e = by_at line ss k s are.1 e
 
--- what is lost is lost
+-- each of the settlements that are lost is lost
 pub lost_at : (ps : List Pending) (k : ℕ) (s : Settlement) → slice_get (map lost ps) k ≡ Some s → s.outcome ≡ Rule.Lost
 lost_at [] k s e = cc
 lost_at (p ∷ ps) zero s e = let same : lost p ≡ s = cc in sym (ap (λ (x : Settlement). x.outcome) same)
 lost_at (p ∷ ps) (suc k) s e = lost_at ps k s e
 
--- the kinds of lines
+-- a reply that fits has the kind of a line that settled
 pub settling : (c : ById) (r : Result ReplyFields LineFault) → fits c (id_in r) ≡ true → (1 ≡ line_kind r (fits c (id_in r))) × (0 ≡ number_in r)
 settling c (Ok reply) e = (rw e refl, refl)
 settling c (Err f) e = absurd (clash e) where
   clash : false ≡ true → ⊥
   clash e = cc
 
+-- a reply that doesn't fit has the kind of a stray
 pub straying : (c : ById) (r : Result ReplyFields LineFault) → IsOk r → fits c (id_in r) ≡ false → (2 ≡ line_kind r (fits c (id_in r))) × (0 ≡ number_in r)
 straying c (Ok reply) ok e = (rw e refl, refl)
 straying c (Err f) ok e = absurd (clash ok) where
   clash : false ≡ true → ⊥
   clash e = cc
 
+-- a line that is no reply has the kind and the number of its fault
 pub unread : (c : ById) (r : Result ReplyFields LineFault) (f : LineFault) → r ≡ Err f → (3 ≡ line_kind r (fits c (id_in r))) × (fault_number f ≡ number_in r)
 unread c (Ok reply) f e = cc
 unread c (Err g) f e = (refl, let same : g ≡ f = cc in ap fault_number (sym same))

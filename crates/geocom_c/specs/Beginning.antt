@@ -1,4 +1,5 @@
--- A beginning over calls on a state, this project's own: what it makes of the bytes that come, and which line goes out.
+-- A beginning over calls on a state, this project's own: what it makes of the bytes that come, and which line goes out. Its word is the ids of
+-- its null procedures, in the order in which they are asked.
 use Rattle.std.specs.Prelude.{◌≡◌, ℕ, Bool, true, false, List, [], ◌∷◌, length, take, nat_eq, Option, Some, None}
 use Rattle.gc_lines.specs.Lines.{with_end}
 use Rattle.gc_lines.specs.declared.frame.Frame.{Frame}
@@ -26,13 +27,15 @@ left_past left Cleared = left
 left_past left Overlong = left
 left_past left More = left
 
--- the line that goes out behind these bytes, where one word wasn't answered before them and another isn't behind them.
--- Without bytes it is the null procedure that is asked for, the first time or again; where one was answered, it is the next
--- one; else, and once the client has begun, none goes out
+-- the line that goes out, by whether a reply is still waited for and by the ids that aren't answered: none while one is, or once the client
+-- has begun
 abbrev pub given_if : Bool → List ℕ → Option (List ℕ)
 given_if true after = None
 given_if false after = asks after
 
+-- the line that goes out behind these bytes, by the ids that aren't answered before and behind them. Without bytes it is the null
+-- procedure that is asked for, the first time or again; where one was answered, it is the next one; else, and once the client has
+-- begun, none goes out
 abbrev pub given : List ℕ → List ℕ → List ℕ → Option (List ℕ)
 given [] before after = asks after
 given (byte ∷ bytes) before after = given_if (nat_eq (length before) (length after)) after

@@ -1,5 +1,5 @@
 -- Some calls are such that the laws speak of them, this project's own. An old reply is under way, with the id that the first command has. It is
--- dropped, the eight null procedures are answered, two commands go out at once, and a moment is told; both are answered. Then the client
+-- dropped, the eight null procedures are answered, two commands go out at once, and a moment passes; both are answered. Then the client
 -- restarts, and begins anew.
 use Rattle.std.specs.Prelude.{◌≡◌, ℕ, List, [], ◌∷◌, ◌++◌, codes, drop, Option, None}
 use Rattle.gc_lines.specs.Lines.{with_end}
@@ -28,10 +28,11 @@ use Rattle.geocom_c.specs.Steps.{AreEvents, steps_among}
 use Rattle.geocom_c.specs.declared.following.Step.{Step}
 use Rattle.geocom_c.specs.declared.following.Step.TheVariants.{Send, Begin, Feed, Expire, Restart}
 
--- a reply from before is under way, and nothing else
+-- an old reply, from before the client begins, with the id that the first command has
 abbrev pub old : List ℕ
 old = codes "%R1P,0,0:0,654321"
 
+-- that reply is under way, and nothing else
 abbrev pub before : {State : Type 0} → State → UnderWay State
 before state = record { up = []; down = old ∷ []; state = state }
 
@@ -40,7 +41,7 @@ abbrev pub begin_calls : List (List ℕ) → List Step → List Step
 begin_calls [] later = later
 begin_calls (reply ∷ replies) later = Begin (record { ref_ptr = (0, 0); now = with_end reply }) ∷ begin_calls replies later
 
--- two commands go out at once, a moment is told, and these are fed as the replies to both
+-- the calls: the beginning with these replies, two commands, a moment, these two lines as their replies, a restart, and a beginning anew
 abbrev pub calls : List (List ℕ) → List ℕ → List ℕ → List Step
 calls replies one other =
     Begin (record { ref_ptr = (0, 0); now = [] })
@@ -61,6 +62,7 @@ beginning = Asks ∷ Comes ∷ drop 1 eight
 abbrev pub moves : {State : Type 0} → List ℕ → List ℕ → List (Move State)
 moves one other = Sends 7 InstrumentNo 9 ∷ Sends 8 InstrumentNo 9 ∷ Tells 5 ∷ OnLine Up_deliver ∷ OnLine Up_deliver ∷ field.Comes one ∷ field.Comes other ∷ []
 
+-- the runs of the field for these calls: one with these moves, and behind the restart one that has only asked
 abbrev pub runs : {State : Type 0} → List ℕ → List ℕ → List (Run State)
 runs one other = record { turns = beginning; moves = moves one other } ∷ record { turns = Asks ∷ []; moves = [] } ∷ []
 

@@ -1,7 +1,7 @@
 -- Two lists side by side.
 use Rattle.std.specs.Prelude.{List, [], ◌∷◌}
 
--- the first of xs go with those of ys, one for one
+-- `Is` holds of the first of xs and those of ys, one for one; xs may have more
 abbrev pub FirstAre : {A B : Type 0} → (A → B → Type 0) → List A → List B → Type 0
 FirstAre Is xs [] = Unit {0}
 FirstAre Is [] (y ∷ ys) = ⊥

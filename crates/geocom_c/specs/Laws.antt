@@ -21,11 +21,11 @@ use Rattle.geocom_c.specs.Runs.{Part, ArePossibleRuns, begun_at, client_over, ev
 use Rattle.geocom_c.specs.Steps.{AreEvents, IsOverEvents}
 use Rattle.geocom_c.specs.declared.following.Step.{Step}
 
--- for every width, all calls on a state, and what they come to
+-- for every width, all calls on a state are events, and lead where these lead
 abbrev pub CallsAreEvents : Type 0
 CallsAreEvents = (width : ℕ) (calls : List Step) (t : Stage) → CallsReach width opened calls t → IsOverEvents width calls t
 
--- the word isn't under way: its ids aren't a subsequence of those of the replies and the requests that are
+-- the word isn't under way: its ids aren't a subsequence of the ids of the replies and requests under way
 abbrev pub MayBegin : {State : Type 0} → UnderWay State → Type 0
 MayBegin u = IsSubsequence the_word (ids_under_way u) → ⊥
 
@@ -49,6 +49,7 @@ module _ {State : Type 0} (width : ℕ) (ends : Ends State) (Good : State → Ty
     -- executed it, and this line was its reply
     pub made_on : WasMadeOn width ends (leaves (begun_at width ends part)) part.run.moves m s.call line
 
+  -- where a settlement is an answer, its line was made for that very request (`IsItsOwn`)
   abbrev pub IsOwnAnswer : List (Part State) → Settlement → Type 0
   IsOwnAnswer ps s = (line : List ℕ) → s.outcome ≡ Answered line → IsItsOwn ps s line
 
@@ -65,8 +66,8 @@ module _ {State : Type 0} (width : ℕ) (ends : Ends State) (Good : State → Ty
     -- a first reply in time is booked
     pub each : AllByRecursion (λ p. IsOwnIf width ends Good kept (begun_at width ends p).left (begun_at width ends p) p.run.moves) ps
 
--- for any instrument, every width, all calls on a state, whatever is under way when it is made, unless the word is, and all that the line and
--- the instrument may do meanwhile
+-- each answer is its own request's (`AreOwn`), for any instrument, every width, all calls on a state, whatever is under way when the state is
+-- made, unless the word is, and all that the line and the instrument may do meanwhile
 abbrev pub AnswersAreTheirOwn : Type 0 → Type 0
 AnswersAreTheirOwn State =
     (ends : Ends State) (kept : State → Option KeptReply) → IsAnInstrument ends AnyState kept →
@@ -75,7 +76,7 @@ AnswersAreTheirOwn State =
     (rs : List (Run State)) → AreEvents the_word [] calls (events_over width ends u rs) → ArePossibleRuns width ends AnyState kept u rs →
     AreOwn width ends AnyState kept (parts width ends u rs) t
 
--- the same for the simulated instrument, in any state that fits
+-- the same as `AnswersAreTheirOwn` for the simulated instrument, in any state that fits
 abbrev pub SimulatorsAnswersAreTheirOwn : Type 0
 SimulatorsAnswersAreTheirOwn =
     (width : ℕ) → IsWidth width → (calls : List Step) (t : Stage) → CallsReach width opened calls t →

@@ -20,7 +20,7 @@ abbrev pub asked_of : List ℕ → List Event
 asked_of [] = []
 asked_of (asked ∷ later) = Asked ∷ []
 
--- the line in front comes, where there is one
+-- the event of the line in front, which comes; none where there is no line
 abbrev pub front_of : List (Aged (List ℕ)) → List Event
 front_of [] = []
 front_of (x ∷ rest) = Came x.line ∷ []
@@ -44,11 +44,12 @@ pub record Part (State : Type 0) : Type 0 where
   pub run : Run State
 
 module _ {State : Type 0} (width : ℕ) (ends : Ends State) where
+  -- the events that the turns of a beginning are to the library
   abbrev pub events_of : Model State → List (Turn State) → List Event
   events_of s [] = []
   events_of s (t ∷ ts) = event_of s t ++ events_of (turns ends s t) ts
 
-  -- what runs are to it: the client restarts between them
+  -- the events that runs are to the library: the client restarts between them
   abbrev pub events_over : UnderWay State → List (Run State) → List Event
   events_over u [] = []
   events_over u (r ∷ []) = events_of (begins u) r.turns ++ map Went (seen r.moves)
@@ -56,14 +57,15 @@ module _ {State : Type 0} (width : ℕ) (ends : Ends State) where
 
   -- Runs, one after the other.
 
-  -- where its beginning stood at the end, and the world behind the run
+  -- where the beginning of a run stood at its end
   abbrev pub begun_at : Part State → Model State
   begun_at p = stood width ends p.before p.run
 
+  -- the world behind a run
   abbrev pub world : Part State → World ById State
   world p = behind width ends (leaves (begun_at p)) p.run.moves
 
-  -- what they leave under way
+  -- what runs leave under way
   abbrev pub left_by_runs : UnderWay State → List (Run State) → UnderWay State
   left_by_runs u [] = u
   left_by_runs u (r ∷ rs) = left_by_runs (left_by_run width ends u r) rs
@@ -82,31 +84,34 @@ module _ {State : Type 0} (width : ℕ) (ends : Ends State) where
 
   -- What they settle.
 
-  -- a run that has begun: all but its eight null procedures, and, where it restarts, what waits as lost. One that hasn't settles nothing
+  -- what the library settles in a run, by the ids that aren't answered: all but the eight null procedures once it has begun, and nothing before
   abbrev pub settled_if : List ℕ → World ById State → List Settlement
   settled_if [] w = drop 8 w.wire.settled
   settled_if (asked ∷ later) w = []
 
+  -- what the library settles at the restart behind a run: what waits, as lost, if the run has begun, else nothing
   abbrev pub lost_if : List ℕ → World ById State → List Settlement
   lost_if [] w = map lost w.client.waiting
   lost_if (asked ∷ later) w = []
 
+  -- what the library settles over runs with restarts between them
   abbrev pub settled_over : List (Part State) → List Settlement
   settled_over [] = []
   settled_over (p ∷ []) = settled_if (begun_at p).left (world p)
   settled_over (p ∷ next ∷ others) = (settled_if (begun_at p).left (world p) ++ lost_if (begun_at p).left (world p)) ++ settled_over (next ∷ others)
 
-  -- and the client behind it: that of the last run, which is new where that hasn't begun
+  -- the client behind a run, which is new where the run hasn't begun
   abbrev pub client_if : List ℕ → World ById State → ById
   client_if [] w = w.client
   client_if (asked ∷ later) w = fresh
 
+  -- the client behind runs: that behind the last one
   abbrev pub client_over : List (Part State) → ById
   client_over [] = fresh
   client_over (p ∷ []) = client_if (begun_at p).left (world p)
   client_over (p ∷ next ∷ others) = client_over (next ∷ others)
 
-  -- and what isn't answered then
+  -- the ids of a beginning that aren't answered behind runs: those of the last one
   abbrev pub left_over : List (Part State) → List ℕ
   left_over [] = the_word
   left_over (p ∷ []) = (begun_at p).left

@@ -9,7 +9,7 @@ use Rattle.geocom_c.specs.declared.answers.GeocomCount.{GeocomCount}
 use Rattle.geocom_c.specs.declared.header.TheConstants.{WINDOW_FULL}
 use Rattle.geocom_c.specs.declared.state.GeocomClient.{GeocomClient}
 
--- the state and the room for the line before and behind a send, and what it told
+-- the state and the room for the line before and behind a send, and what the send returned
 pub record Sent : Type 0 where
   pub old : GeocomClient
   pub new : GeocomClient
@@ -17,7 +17,8 @@ pub record Sent : Type 0 where
   pub after : List ℕ
   pub told : GeocomCount
 
--- a send that the rule refuses is told that the window is full, and changes nothing; else the line was written with its CR LF, and the state is the rule's
+-- a send that the rule refuses returns that the window is full, and changes nothing; else the line was written with its CR LF, and the state
+-- is the rule's
 abbrev pub IsSent : (c : Windowed) (rest : List ℕ) (call : Call) → Option (Sending ById) → Sent → Type 0
 IsSent c rest call None sent = (sent.told.fault ≡ WINDOW_FULL) × (sent.new ≡ sent.old) × (sent.after ≡ sent.before)
 IsSent c rest call (Some s) sent =

@@ -30,14 +30,14 @@ pub record AreListed (count : ℕ) (places : List GeocomItem) (text params : Lis
   pub counted : count ≡ length items
   pub stand : FirstAre (StandsAt text) places items
 
--- the kind of a reading and its code; beside a value stand the items that are read as its values
+-- the record has the kind and the code of this reading, and for a value the items that are read as its values
 abbrev pub HasReading : GeocomSettlement → List ℕ → List ℕ → Reading → Type 0
 HasReading r text params (Value answer) = (r.reading ≡ VALUE) × (r.code ≡ 0) × AreListed r.items r.places text params (answer_fields answer).values
 HasReading r text params (Refused code) = (r.reading ≡ REFUSED) × (r.code ≡ code) × (r.items ≡ 0)
 HasReading r text params (ComFault code) = (r.reading ≡ COM_FAULT) × (r.code ≡ code) × (r.items ≡ 0)
 HasReading r text params (Unreadable fault) = (r.reading ≡ UNREADABLE) × (r.code ≡ fault_number fault) × (r.items ≡ 0)
 
--- the line of an answer stands at the front of the text, and the record has what it says of the call
+-- a record of an answer: its line stands at the front of the text, and the record has what the line says as a reply to the call
 pub record IsAnswered (r : GeocomSettlement) (text : List ℕ) (call : Call) (line : List ℕ) : Type 0 where
   pub answered : r.outcome ≡ ANSWERED
   pub length : r.line_length ≡ length line
@@ -48,7 +48,7 @@ pub record IsAnswered (r : GeocomSettlement) (text : List ℕ) (call : Call) (li
   pub is_reading : IsReading call reply reading
   pub has_reading : HasReading r text reply.params reading
 
--- there is no answer: the request is late or lost
+-- a record without an answer, of a request with this outcome
 pub record IsUnanswered (r : GeocomSettlement) (outcome : ℕ) : Type 0 where
   pub unanswered : r.outcome ≡ outcome
   pub length : r.line_length ≡ 0
@@ -56,13 +56,14 @@ pub record IsUnanswered (r : GeocomSettlement) (outcome : ℕ) : Type 0 where
   pub code : r.code ≡ 0
   pub items : r.items ≡ 0
 
--- how a request ended
+-- a record says that its request had this outcome
 abbrev pub HasOutcome : GeocomSettlement → List ℕ → Call → Rule.Outcome → Type 0
 HasOutcome r text call (Rule.Answered line) = IsAnswered r text call line
 HasOutcome r text call Rule.Late = IsUnanswered r LATE
 HasOutcome r text call Rule.Lost = IsUnanswered r LOST
 
--- a record says how this request ended; of an answer's line and its items, it says where they stand in the text
+-- a record says whom a request was for, its procedure, and how it ended; of an answer's line and its items, it says where they stand in the
+-- text
 pub record IsRecord (text : List ℕ) (r : GeocomSettlement) (s : Rule.Settlement) : Type 0 where
   pub target : r.target ≡ s.target
   pub procedure : r.procedure ≡ (call_fields s.call).number
@@ -75,7 +76,7 @@ IsKind (Refused rc) kind code = (kind ≡ REFUSED) × (code ≡ rc)
 IsKind (ComFault rc_com) kind code = (kind ≡ COM_FAULT) × (code ≡ rc_com)
 IsKind (Unreadable fault) kind code = (kind ≡ UNREADABLE) × (code ≡ fault_number fault)
 
--- no part of a promise: how many bytes so many items have
+-- no part of a promise: how many bytes these items have together
 abbrev pub total : List (List ℕ) → ℕ
 total [] = 0
 total (item ∷ items) = length item + total items
@@ -85,12 +86,13 @@ pub record IsTold (text : List ℕ) (count : ℕ) (places : List GeocomItem) (li
   pub front : take (length line) text ≡ line
   pub listed : (reply : ReplyFields) (values : List Parameter) → IsReply line reply → length values ≤ 16 → AreParams reply.params values → AreListed count places text reply.params values
 
--- no part of a promise: no line but this one answers
+-- no part of a promise: an outcome that is an answer has this line
 abbrev pub IsBy : List ℕ → Rule.Outcome → Type 0
 IsBy line (Rule.Answered answer) = answer ≡ line
 IsBy line Rule.Late = Unit {0}
 IsBy line Rule.Lost = Unit {0}
 
+-- no part of a promise: each of these settlements that is an answer has this line
 abbrev pub AreBy : List ℕ → List Rule.Settlement → Type 0
 AreBy line [] = Unit {0}
 AreBy line (s ∷ ss) = IsBy line s.outcome × AreBy line ss

@@ -27,18 +27,18 @@ pub record IsPlace (w : GeocomWaiting) (p : Pending) : Type 0 where
   pub within : w.length ≤ 512
   pub line : IsLineOf (take w.length w.line) p.call
 
--- a client can have this width, this next id, so many requests waiting, and so many null procedures answered
+-- the numbers of a state can be a client's: the width, the next id, how many requests wait, and how many null procedures are answered
 pub record HasHead (s : GeocomClient) : Type 0 where
   pub width : IsWidth s.width
   pub digit : s.next < IDS
   pub few : s.waiting ≤ s.width
   pub part : s.answered ≤ 8
 
--- what isn't answered of the beginning's word
+-- the ids of the beginning's null procedures that aren't answered
 abbrev pub left_of : GeocomClient → List ℕ
 left_of s = drop s.answered the_word
 
--- the bytes of a state are those of this client, and these came since the last line feed
+-- the bytes of a state are those of this client, and the bytes `rest` came since the last line feed
 pub record StandsFor (s : GeocomClient) (c : Windowed) (rest : List ℕ) : Type 0 where
   pub width : s.width ≡ c.width
   pub next : s.next ≡ c.ids.next

@@ -13,31 +13,31 @@ use Rattle.geocom_c.specs.Rest.{lines_behind}
 use Rattle.geocom_c.specs.declared.following.Step.{Step}
 use Rattle.geocom_c.specs.declared.following.Step.TheVariants.{Send, Begin, Feed, Expire, Restart}
 
--- what happens to the two: while it begins, a null procedure goes out, or a line comes; once it has begun, a step of the client
+-- what happens to a client: while it begins, a null procedure goes out, or a line comes; once it has begun, it makes a step
 pub data Event : Type 0 where
   Asked : Event
   Came : (line : List ℕ) → Event
   Went : (step : one.Step) → Event
 
--- the event of a line that goes out while it begins: a null procedure is asked for. Without a line there is no event
+-- the event of a line that goes out while the client begins: a null procedure is asked for. Without a line there is no event
 abbrev pub asked_by : Option (List ℕ) → List Event
 asked_by None = []
 asked_by (Some line) = Asked ∷ []
 
--- what a begin is: while it begins, each line that the bytes end comes, and then a null procedure may go out. Once it has begun it is nothing,
--- and its lines are dropped
+-- the events of a begin: while the client begins, each line that the bytes end comes, and then a null procedure may go out. Once it has begun
+-- there are none, and the lines are dropped
 abbrev pub begins_by : List ℕ → List ℕ → List ℕ → List Event
 begins_by [] rest bytes = []
 begins_by (asked ∷ later) rest bytes = map Came (lines_behind rest bytes) ++ asked_by (given bytes (asked ∷ later) (left_behind (asked ∷ later) rest bytes))
 
--- what a step of the client is: nothing while it begins
+-- the events of steps of the client: none while it begins
 abbrev pub goes_by : List ℕ → List one.Step → List Event
 goes_by [] steps = map Went steps
 goes_by (asked ∷ later) steps = []
 
--- these calls are these events, where this isn't answered of the word, and behind these bytes since the last line feed. A send is a step where
--- it has begun, and its number and parameters are a call's, with room in the window or not; else it is nothing. Each line that bytes end is a
--- step, and so is a moment; a restart is one, and forgets the bytes of a line. Lines that are fed while it begins are nothing: they are dropped
+-- these calls are these events, by the ids that aren't answered and the bytes since the last line feed. A send is a step where the client has
+-- begun, and its number and parameters are a call's, with room in the window or not; else it is nothing. Each line that bytes end is a step,
+-- and so is a moment; a restart is one, and forgets the bytes of a line. Lines that are fed while the client begins are dropped
 abbrev pub AreEvents : List ℕ → List ℕ → List Step → List Event → Type 0
 AreEvents left rest [] events = events ≡ []
 AreEvents left rest (Send target deadline procedure params ∷ calls) events =
@@ -78,8 +78,8 @@ AreInTurn left (Asked ∷ events) = AreInTurn left events
 AreInTurn left (Came line ∷ events) = AreInTurn (left_by left (heard line)) events
 AreInTurn left (Went step ∷ events) = (left ≡ []) × AreInTurn (left_by_step step) events
 
--- these calls are some list of events, and no other, each in its turn; and the calls bring the client where the client's
--- rule comes to over the steps among those events
+-- these calls are one list of events, and no other, each in its turn; and they bring the client to what its rule makes of the steps
+-- among those events
 pub record IsOverEvents (width : ℕ) (calls : List Step) (t : Stage) : Type 0 where
   pub events : List Event
   pub are : AreEvents the_word [] calls events

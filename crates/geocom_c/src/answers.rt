@@ -1,11 +1,11 @@
-//! What a call answers, in plain fields.
+//! What a call returns, in plain fields.
 
 ghost use Rattle.std.specs.Prelude.{◌≡◌, ◌↔◌};
 ghost use Rattle.geocom_c.specs.declared.header.TheConstants.{MORE};
 
 use crate::header::MORE;
 
-/// A fault or 0, and how many there are of what the call gives.
+/// A fault or 0, and a count of bytes, targets, records or requests, as the call says.
 #[repr(C)]
 #[derive(Clone, Copy)]
 pub struct GeocomCount {
@@ -92,7 +92,7 @@ pub(crate) fn unbegun(fault: u32) -> GeocomBeginning
     }
 }
 
-// Success of a feed whose bytes ended a line of this kind; how many they are is filled in by `using`.
+// Success of a feed whose bytes ended a frame of this kind, and which wrote `count` records. `used` is 0 here; `using` sets it.
 pub(crate) fn heard(kind: u32, line_fault: u32, count: u32) -> GeocomHeard
     ensures { result ≡ record { used = 0; fault = 0; count = count; kind = kind; line_fault = line_fault } }
 {

@@ -1,4 +1,4 @@
-//! The beginning: a client sends nothing before eight null procedures were answered, by which nothing from before is taken for an answer.
+//! The beginning: a client sends nothing before eight null procedures were answered, so that no old reply is taken for an answer.
 
 ghost use Rattle.std.specs.Prelude.{◌≡◌, ◌≢◌, ◌↔◌, ◌<◌, ◌≤◌, ◌+◌, ◌++◌, ℕ, Bool, List, [], length, take, drop, Some, None, true, false};
 ghost use Rattle.std.specs.List.{position};
@@ -18,7 +18,7 @@ use crate::state::{GeocomClient, load};
 use gc_client::Beginning;
 use gc_lines::Frame;
 
-// Hands a frame to the beginning.
+// Hands the beginning the line that a frame is, if it is one.
 fn hear_frame(beginning: &mut Beginning, frame: &Frame)
     ensures { beginning.new ≡ left_past beginning.old frame.now }
 {
@@ -30,7 +30,8 @@ fn hear_frame(beginning: &mut Beginning, frame: &Frame)
     }
 }
 
-// Hears bytes through the first line feed, and says how many were used.
+// Takes bytes through the first line feed, and hands the line that it ends to the beginning. Without a line feed all bytes are
+// kept. Returns how many were used.
 fn hear_line(rest: &mut GeocomRest, beginning: &mut Beginning, bytes: &[u8]) -> usize
     requires { IsCut rest.old }
     ensures used { (result ≤ length bytes.now) × (0 < length bytes.now → 0 < result) }
@@ -53,7 +54,7 @@ fn hear_line(rest: &mut GeocomRest, beginning: &mut Beginning, bytes: &[u8]) -> 
     }
 }
 
-// Hears all bytes: each line that they end, and those behind the eighth answer too, which are dropped.
+// Uses all bytes: hands each line that they end to the beginning, which drops those behind the eighth answer.
 fn hear_all(rest: &mut GeocomRest, beginning: &mut Beginning, bytes: &[u8])
     requires { IsCut rest.old }
     ensures { (r : List ℕ) → IsRest rest.old r
@@ -66,7 +67,7 @@ fn hear_all(rest: &mut GeocomRest, beginning: &mut Beginning, bytes: &[u8])
     }
 }
 
-// Writes the line of the null procedure that is asked for, with CR LF, and says how many bytes that are; none once it has begun.
+// Writes the line of the null procedure that is asked for, with CR LF, and returns its length: 0 once the client has begun.
 fn ask(beginning: &Beginning, line: &mut [u8]) -> u32
     requires { LINE_ROOM ≤ length line.old }
     ensures asked { (told : GeocomBeginning) → told.count ≡ result → IsGiven (asks beginning.now) told line.new }
@@ -112,8 +113,8 @@ fn is_waiting(bytes: &[u8], before: u8, after: u8) -> bool
 /// eighth is answered, `has_begun` is 1, and requests go out.
 ///
 /// Call it without bytes for the first line, and again where nothing came in time: it gives the same line again. Where bytes came, and
-/// answered nothing, `count` is 0: read on. It takes all bytes; what comes behind the eighth answer is dropped, too. Once it has begun it
-/// gives no line, and drops what it is handed: then bytes go to `geocom_client_feed`.
+/// answered nothing, `count` is 0: read on. All bytes are used; what comes behind the eighth answer is dropped, too. Once the
+/// client has begun, the call gives no line, and drops what it is handed: then bytes go to `geocom_client_feed`.
 ///
 /// Faults: 62, `line` has fewer than 514 bytes; 63, the state is no client's. After a fault nothing has changed.
 #[unsafe(no_mangle)]

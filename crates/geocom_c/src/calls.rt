@@ -14,7 +14,7 @@ use crate::header::{NO_CLIENT, NO_ROOM, NO_WIDTH, VERSION};
 use crate::state::{GeocomClient, fresh, load, store};
 use gc_client::WINDOW;
 
-// No deadline.
+// The answer where no request has a deadline.
 const UNSET: GeocomDeadline = GeocomDeadline {
     deadline: 0,
     fault: 0,
@@ -45,7 +45,7 @@ pub extern "C" fn geocom_client_init(state: &mut GeocomClient, width: u8) -> u32
     0
 }
 
-// Writes targets to the front.
+// Writes the targets `due` to the front of `targets`.
 fn put_targets(targets: &mut [u32], due: &[u32])
     requires { length due.now ≤ length targets.old }
     ensures targets { take (length due.now) targets.new ≡ due.now }

@@ -32,7 +32,8 @@ fn has_room(settlements: &[GeocomSettlement], text: &[u8]) -> bool
     settlements.len() >= WINDOW && text.len() >= TEXT_ROOM
 }
 
-// Hands a line to the client, and writes what it settled.
+// Hands a line to the client, writes the text and a record for each request that the line settled, and returns what came of the
+// line.
 fn hear(
     state: &mut GeocomClient,
     mut client: Client<Slots>,
@@ -65,7 +66,7 @@ fn hear(
     }
 }
 
-// Hands a frame to the client.
+// Hands the client the line that a frame is, if it is one, and returns what came of the frame.
 fn feed_frame(
     state: &mut GeocomClient,
     client: Client<Slots>,
@@ -91,7 +92,7 @@ fn feed_frame(
     }
 }
 
-// Takes bytes through the first line feed.
+// Takes bytes through the first line feed, and hands the client the frame that it ends. Without a line feed all bytes are kept.
 fn feed(
     state: &mut GeocomClient,
     client: Client<Slots>,
@@ -174,7 +175,7 @@ pub extern "C" fn geocom_client_feed(
     }
 }
 
-// How many null procedures are answered behind a restart: none of a client that had begun.
+// How many null procedures count as answered behind a restart: none where the client had begun, else those that were.
 fn answered_anew(answered: u8) -> u8
     ensures left { drop result the_word ≡ anew (drop answered the_word) }
     ensures within { result ≤ 8 }
@@ -186,9 +187,9 @@ fn answered_anew(answered: u8) -> u8
     answered
 }
 
-/// Settles all that wait as lost, in order, and writes a record for each: `count` of them, and nothing behind these. The ids begin at 0
-/// again, at the start of a line, and the width stays. A client that had begun has to begin anew (`geocom_client_begin`); one that hadn't goes
-/// on with the null procedure that it was at, so it may be restarted as often as you like. Nothing has to be vouched for.
+/// Settles all requests that wait as lost, in order, and writes a record for each: `count` of them, and nothing behind these. The next
+/// id is 0, the bytes of a line that hasn't ended are forgotten, and the width stays. A client that had begun has to begin again
+/// (`geocom_client_begin`). One that hadn't goes on with the null procedure that it was at, so it may be restarted any number of times.
 ///
 /// Faults: 62, `settlements` has fewer than seven places; 63, the state is no client's. After a fault nothing has changed.
 #[unsafe(no_mangle)]

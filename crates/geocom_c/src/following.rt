@@ -48,7 +48,7 @@ const VACANT: GeocomSettlement = GeocomSettlement {
     reading: NONE,
 };
 
-// Feeds bytes through the first line feed, and says how many were used.
+// Feeds bytes through the first line feed, and returns how many were used: all where there is none, or where the feed has a fault.
 fn feed_line(state: &mut GeocomClient, bytes: &[u8]) -> usize
     ensures used { (result ≤ length bytes.now) × (0 < length bytes.now → 0 < result) }
     ensures fed { (width : ℕ) (x : Course) (rest : List ℕ) → StandsFor state.old (record { width = width; ids = x.client }) rest
@@ -77,7 +77,7 @@ fn feed_all(state: &mut GeocomClient, bytes: &[u8])
     }
 }
 
-// Makes a call.
+// Makes the call that a step is, with ample room.
 fn call(state: &mut GeocomClient, step: &Step<'_>)
     ensures { (width : ℕ) (s : Stage) (steps : List Step) → IsAt width s state.old
         → Reached width s (step.now ∷ steps) state.new steps }

@@ -83,8 +83,8 @@ pub const CLEARED: u32 = 4;
 /// A line of more than 512 bytes, which is dropped.
 pub const OVERLONG: u32 = 5;
 
-/// The constants have the values of the header, and so have the faults of a call, which are gc_catalogue's. It does nothing:
-/// its contract is the law.
+/// The constants have the values of the header, and so have the faults of a call, which are gc_catalogue's. The function does
+/// nothing: its contract is the law.
 pub fn numbers()
     ensures version { VERSION ≡ 2 }
     ensures rooms { (LINE_ROOM ≡ 514) × (TEXT_ROOM ≡ 1024) }

@@ -3,26 +3,28 @@
 ghost use Rattle.geocom_c.specs.FieldWitness.{SomeCallsAreInField};
 ghost use Rattle.geocom_c.specs.Laws.{AnswersAreTheirOwn, CallsAreEvents, FewKilledMayBegin, SimulatorsAnswersAreTheirOwn};
 
-/// Calls on a state are a beginning's null procedures and the lines that come to it, and steps of a client that has begun, and only these: a
-/// send whose parameters are a call's, each line that bytes end, a moment, a restart. No step comes before the eighth answer. What `follow`
-/// reaches is what a client comes to over them.
+/// Any calls on a state are one list of events: the null procedures of a beginning and the lines that come to it, and, once the
+/// client has begun, its steps: a send whose parameters are a call's, each line that bytes end, a moment, a restart. No step
+/// comes before the eighth answer. What `follow` reaches is what the client's rule makes of these steps.
 pub fn calls_are_events()
     ensures { CallsAreEvents }
 {}
 
-/// For any instrument: there may be any number of connections, and it may start anew and change by itself at any time. Each answer that the
-/// library books was made by the instrument on executing that very request, from the first one on. What is settled, and the client behind it,
-/// are those of the field. When the client was made anything may have been under way, but for the ids 6 5 4 3 2 1 0 7 in this order.
+/// For any instrument, which may start anew and change by itself at any time, and over any number of connections: each answer
+/// that the library books was made by the instrument on executing that very request, from the first one on. What is settled,
+/// and the client behind it, are those of the field. When the client was made anything may have been under way, but for the
+/// ids 6 5 4 3 2 1 0 7 in this order.
 pub fn answers_are_their_own<State>()
     ensures { AnswersAreTheirOwn State }
 {}
 
-/// The same of the simulator, in any state that fits.
+/// The law of `answers_are_their_own` for the simulator, in any state that fits.
 pub fn simulators_answers_are_their_own()
     ensures { SimulatorsAnswersAreTheirOwn }
 {}
 
-/// These ids aren't under way, whatever ran before, as long as fewer than six clients in a row ended while they began.
+/// Where the first client finds under way no more than a client that had begun leaves, or nothing, the ids 6 5 4 3 2 1 0 7
+/// aren't under way in this order behind any clients, as long as fewer than six of them in a row ended while they began.
 pub fn few_killed_may_begin<State>()
     ensures { FewKilledMayBegin State }
 {}

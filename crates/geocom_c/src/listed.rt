@@ -21,7 +21,7 @@ pub struct GeocomItem {
     pub length: u16,
 }
 
-/// Nowhere.
+/// The place of an item that isn't there.
 pub(crate) const NOWHERE: GeocomItem = GeocomItem {
     offset: 0,
     length: 0,
@@ -35,7 +35,7 @@ pub(crate) struct Told {
     pub places: [GeocomItem; MOST_ITEMS],
 }
 
-// Appends items to a text, and says where each stands.
+// Appends items to a text, and writes into `places` where each stands.
 fn put_items(text: &mut ArrayVec<u8, TEXT_ROOM>, places: &mut [GeocomItem], items: &Items<'_>)
     requires few { length items.now ≤ length places.old }
     requires room { array_vec_len text.old + total items.now ≤ TEXT_ROOM }
@@ -53,7 +53,7 @@ fn put_items(text: &mut ArrayVec<u8, TEXT_ROOM>, places: &mut [GeocomItem], item
     }
 }
 
-// Appends the items of parameters, where they are a list.
+// Appends the items of parameters, where these are a list, and notes how many there are and where they stand.
 fn list(told: &mut Told, params: &[u8])
     requires { array_vec_len told.old.text + length params.now ≤ TEXT_ROOM }
     ensures front { (more : List ℕ) × (told.new.text.items ≡ told.old.text.items ++ more) }

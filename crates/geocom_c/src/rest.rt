@@ -30,7 +30,7 @@ impl GeocomRest {
         }
     }
 
-    // Whether these are bytes of a line under way.
+    // Whether at most 514 bytes are kept, and no line feed among them.
     pub(crate) fn is_cut(&self) -> bool
         ensures { IsTrue result ↔ IsCut self.now }
     {
@@ -38,7 +38,8 @@ impl GeocomRest {
         length <= KEPT && has_no_line_feed(&self.bytes[..length])
     }
 
-    // The frame that the first line feed of a piece ends, and how many bytes of the piece that uses.
+    // How many bytes of a piece stand through its first line feed, and the frame that this ends, with the bytes that are kept
+    // in front of the piece. Without a line feed: all bytes, and `More`.
     pub(crate) fn frame(&self, piece: &[u8]) -> (usize, Frame)
         requires { IsCut self.now }
         ensures used { (result.0 ≤ length piece.now) × (0 < length piece.now → 0 < result.0) }
@@ -52,7 +53,8 @@ impl GeocomRest {
         assembler.take(piece)
     }
 
-    // Keeps what has to be kept of more bytes.
+    // Keeps more bytes, none of which is a line feed: as many as there is room for. Where not all fit, the last of them stands
+    // in the last place.
     pub(crate) fn keep(&mut self, piece: &[u8])
         requires { IsCut self.old }
         ensures { (rest : List ℕ) → IsRest self.old rest → position is_line_feed piece.now ≡ None
@@ -76,7 +78,7 @@ fn has_no_line_feed(bytes: &[u8]) -> bool
     bytes.iter().all(|b| *b != b'\n')
 }
 
-/// Writes a text at a place.
+/// Writes a text over the bytes from place `at` on.
 pub(crate) fn put(bytes: &mut [u8], at: usize, text: &[u8])
     requires { at + length text.now ≤ length bytes.old }
     ensures text { take (at + length text.now) bytes.new ≡ take at bytes.old ++ text.now }

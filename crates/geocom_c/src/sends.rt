@@ -19,7 +19,7 @@ use gc_catalogue::{Call, decode_call};
 use gc_client::{Client, Slots};
 use gc_lines::Request;
 
-// Sends a call.
+// Sends a call, and writes its line with CR LF into `line`. Where the window is full, the fault is 31, and nothing has changed.
 fn send_call(
     state: &mut GeocomClient,
     mut client: Client<Slots>,

@@ -38,7 +38,7 @@ pub struct GeocomSettlement {
     pub reading: u8,
 }
 
-// The record of a request that ended so, without an answer.
+// The record of a request that ended with this outcome, without an answer.
 fn unanswered(settlement: &Settlement, outcome: u8) -> GeocomSettlement
     ensures target { result.target ≡ settlement.now.target }
     ensures procedure { result.procedure ≡ (call_fields settlement.now.call).number }
@@ -56,7 +56,7 @@ fn unanswered(settlement: &Settlement, outcome: u8) -> GeocomSettlement
     }
 }
 
-// The kind of a reading, and its code.
+// The number of a reading's kind, and its code: 0 for a value, else that of the refusal or of the fault.
 fn kind_of(reading: &Reading) -> (u8, u16)
     ensures { IsKind reading.now result.0 result.1 }
 {
@@ -106,7 +106,7 @@ fn record_of(settlement: &Settlement, told: &Told) -> GeocomSettlement
     }
 }
 
-// Writes the records of settlements.
+// Writes the records of settlements to the front of `records`. `told` is the text of the line that settled them.
 pub(crate) fn put_records(records: &mut [GeocomSettlement], settled: &[Settlement], told: &Told)
     requires room { length settled.now ≤ length records.old }
     requires told { (line : List ℕ) × IsTold told.now.text.items told.now.items told.now.places line × AreBy line (map settlement_seen settled.now) }
@@ -120,7 +120,7 @@ pub(crate) fn put_records(records: &mut [GeocomSettlement], settled: &[Settlemen
     }
 }
 
-// Writes the records of requests that are lost.
+// Writes the records of requests that are lost to the front of `records`.
 pub(crate) fn put_lost(records: &mut [GeocomSettlement], settled: &[Settlement])
     requires room { length settled.now ≤ length records.old }
     requires lost { (ps : List Pending) × (map settlement_seen settled.now ≡ map lost ps) }

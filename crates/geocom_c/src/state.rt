@@ -66,7 +66,7 @@ pub(crate) fn fresh(width: u8) -> GeocomClient
     }
 }
 
-// The call of a request without an id.
+// The call of a request without an id. `None`: it has an id, or its number and parameters are no call's.
 fn call_of(request: &Request<'_>) -> Option<Call>
     ensures found { IfSome result (λ call. (request.now.id ≡ None) × IsCall request.now.rpc request.now.params.now call) }
     ensures only { (call : Call) → request.now.id ≡ None → IsCall request.now.rpc request.now.params.now call
@@ -78,7 +78,7 @@ fn call_of(request: &Request<'_>) -> Option<Call>
     decode_call(request).ok()
 }
 
-// The call of a request line without an id.
+// The call of a request line without an id. `None`: the line is no such line.
 fn call_in(line: &[u8]) -> Option<Call>
     ensures found { IfSome result (λ call. IsLineOf line.now call) }
     ensures only { (call : Call) → IsLineOf line.now call → result ≡ Some call }
@@ -89,7 +89,7 @@ fn call_in(line: &[u8]) -> Option<Call>
     }
 }
 
-// The call that a place's line is for.
+// The call that a place's line is for. `None`: the length is above 512, or the line is no request line without an id.
 fn call_at(place: &GeocomWaiting) -> Option<Call>
     ensures within { IfSome result (λ _. place.now.length ≤ 512) }
     ensures found { IfSome result (λ call. IsLineOf (take place.now.length place.now.line) call) }
@@ -103,7 +103,7 @@ fn call_at(place: &GeocomWaiting) -> Option<Call>
     call_in(&place.line[..length])
 }
 
-// The mark that a byte stands for: 0 is false and 1 true.
+// The mark that a byte stands for: 0 is false and 1 true. `None`: any other byte.
 fn mark_of(byte: u8) -> Option<bool>
     ensures found { IfSome result (λ mark. byte ≡ (if mark then 1 else 0)) }
     ensures only { (mark : Bool) → byte ≡ (if mark then 1 else 0) → result ≡ Some mark }
@@ -115,7 +115,7 @@ fn mark_of(byte: u8) -> Option<bool>
     }
 }
 
-// The request that a place's bytes are.
+// The request that a place's bytes stand for. `None`: they stand for no request.
 fn read_place(place: &GeocomWaiting) -> Option<Pending>
     ensures found { IfSome result (λ p. IsPlace place.now p) }
     ensures only { (p : Pending) → IsPlace place.now p → result ≡ Some p }
@@ -143,7 +143,7 @@ fn padded(line: &Line) -> [u8; 512]
     bytes
 }
 
-// The bytes of a request.
+// The place that holds a request's bytes.
 fn write_place(p: &Pending) -> GeocomWaiting
     ensures { IsPlace result p.now }
 {
@@ -198,7 +198,7 @@ fn has_head(state: &GeocomClient) -> bool
         && state.answered <= 8
 }
 
-// The client that a state's bytes are.
+// The client that a state's bytes stand for. `None`: they stand for no client.
 pub(crate) fn load(state: &GeocomClient) -> Option<Client<Slots>>
     ensures found { IfSome result (λ c. StandsFor state.now c (kept state.now.rest)) }
     ensures only { (c : Windowed) (rest : List ℕ) → StandsFor state.now c rest → result ≡ Some c }

@@ -35,7 +35,8 @@ impl Instrument {
         (rc, answer)
     }
 
-    // Carries out a call, and gives the return code. An answer other than `Answer::Nothing` is written over what stands there.
+    // Carries out a call, and gives the return code. An answer other than `Answer::Nothing` is written into `answer`.
+    #[inline(always)]
     #[tactic(auto, unfolding(crate::specs::Execution::exec))]
     pub(super) fn carry_out(&mut self, call: &Call, answer: &mut Answer) -> u16
         requires { answer.old ≡ Nothing }
@@ -101,7 +102,7 @@ impl Instrument {
         }
     }
 
-    // Sets the number of places, 0 to 15.
+    // Sets the number of places, 0 to 15. Another number is refused.
     #[tactic(auto, unfolding(crate::specs::Execution::exec))]
     fn set_precision(&mut self, places: i16) -> u16
         ensures { Executes self.old (SetPrecision places) self.new result Nothing }
@@ -114,7 +115,7 @@ impl Instrument {
         }
     }
 
-    // Sets the date and time.
+    // Sets the date and time. Those that the clock doesn't take are refused.
     #[tactic(auto, unfolding(crate::specs::Execution::exec))]
     #[inline(never)]
     fn set_date(&mut self, date: DateTime) -> u16
@@ -128,7 +129,7 @@ impl Instrument {
         }
     }
 
-    // The instrument's name.
+    // Answers the instrument's name.
     #[inline(never)]
     fn tell_name(&self, answer: &mut Answer) -> u16
         ensures { Gives (done self.now (Name self.now.name)) self.now result answer.new }
@@ -137,7 +138,7 @@ impl Instrument {
         0
     }
 
-    // The station.
+    // Answers the station.
     #[inline(never)]
     fn tell_station(&self, answer: &mut Answer) -> u16
         ensures { Gives (done self.now (Place self.now.station)) self.now result answer.new }
@@ -165,7 +166,7 @@ impl Instrument {
         0
     }
 
-    // Measures, or clears the distance, as commanded.
+    // Measures (1), clears the distance (3), or does nothing (0), as commanded. Another command is refused.
     #[inline(never)]
     fn measure_as(&mut self, command: i32) -> u16
         ensures { Gives (commanded self.old command) self.new result Nothing }
@@ -184,7 +185,7 @@ impl Instrument {
         }
     }
 
-    // Measures the first target where the telescope points, if there is one.
+    // Measures the distance of the first target that lies exactly where the telescope points. Without one the distance is cleared.
     fn measure(&mut self)
         ensures { self.new ≡ measured self.old }
     {
@@ -192,7 +193,7 @@ impl Instrument {
         self.settings.distance = target.map(|target| target.distance);
     }
 
-    // The angles.
+    // Answers the angles.
     #[inline(never)]
     fn angles(&self, answer: &mut Answer) -> u16
         ensures { Gives (done self.now (Angles self.now.pointing.hz self.now.pointing.v))
@@ -203,7 +204,7 @@ impl Instrument {
         0
     }
 
-    // The angles and the distance, where there is one.
+    // Answers the angles and the distance. Where there is no distance, the code is 1285, without an answer.
     #[inline(never)]
     fn simple_measurement(&self, answer: &mut Answer) -> u16
         requires { answer.old ≡ Nothing }
@@ -218,7 +219,7 @@ impl Instrument {
         0
     }
 
-    // Measures, and gives the angles and the distance, where there is one.
+    // Measures, and answers as `simple_measurement` does.
     #[tactic(auto, unfolding(crate::specs::Execution::exec))]
     #[inline(never)]
     fn quick_distance(&mut self, answer: &mut Answer) -> u16
@@ -229,7 +230,7 @@ impl Instrument {
         self.simple_measurement(answer)
     }
 
-    // Sets the prism type, at least 0.
+    // Sets the prism type, at least 0. A negative one is refused.
     #[tactic(auto, unfolding(crate::specs::Execution::exec))]
     fn set_prism(&mut self, prism: i32) -> u16
         ensures { Executes self.old (SetPrism prism) self.new result Nothing }
@@ -241,7 +242,7 @@ impl Instrument {
         0
     }
 
-    // Measures, and gives the angles, the distance and the mode, where there is a distance.
+    // Measures, and answers the angles, the distance and the mode. Where there is no distance, the code is 1285, without an answer.
     #[tactic(auto, unfolding(crate::specs::Execution::exec))]
     #[inline(never)]
     fn measured_distance(&mut self, mode: i32, answer: &mut Answer) -> u16
@@ -262,7 +263,7 @@ impl Instrument {
         0
     }
 
-    // Turns the telescope, which clears the distance.
+    // Turns the telescope to these angles, which clears the distance.
     #[inline(never)]
     fn position(&mut self, hz: &Decimal, v: &Decimal) -> u16
         ensures { Gives (done (pointed self.old hz.now v.now) Nothing) self.new result Nothing }
@@ -282,7 +283,8 @@ impl Instrument {
         0
     }
 
-    // Turns the telescope to the first target within the areas, if there is one.
+    // Turns the telescope to the first target within the areas, which clears the distance. Where there is none, the code is 8710 and
+    // nothing changes. A negative area is refused.
     #[inline(never)]
     fn fine_adjust(&mut self, area_hz: &Decimal, area_v: &Decimal) -> u16
         ensures { Gives (searched self.old area_hz.now area_v.now) self.new result Nothing }

@@ -10,7 +10,7 @@ use std::marker::Model;
 const ROOM: usize = 512;
 
 /// The id of a request and the line of its reply, or nothing. The line is written in place. Bytes of a longer earlier
-/// line stay behind it, since each request would pay for blanking them.
+/// line stay behind it, because each request would pay for blanking them.
 #[derive(Debug, Drop)]
 pub struct Kept {
     id: Option<u8>,
@@ -31,7 +31,7 @@ impl Model for Kept {
 }
 
 impl Kept {
-    /// Neither an id nor a line.
+    /// Keeps neither an id nor a line.
     pub fn nothing() -> Kept
         ensures { result ≡ None }
     {
@@ -42,7 +42,7 @@ impl Kept {
         }
     }
 
-    /// The id of what is kept.
+    /// The id that is kept, if one is.
     #[tactic(auto, using(crate::proofs::Keeping::id_kept))]
     pub fn id(&self) -> Option<u8>
         ensures { result ≡ option_map (λ k. k.id) self.now }
@@ -57,7 +57,7 @@ impl Kept {
         self.id = None;
     }
 
-    /// The line that is kept, where it is kept for this id.
+    /// The line that is kept for this id. `None`: there is no id, or none is kept, or another one is.
     #[tactic(auto, using(crate::proofs::Keeping::none_asked, crate::proofs::Keeping::none_kept, crate::proofs::Keeping::same_kept, crate::proofs::Keeping::other_kept))]
     #[inline]
     pub fn line_of(&self, id: Option<u8>) -> Option<&[u8]>

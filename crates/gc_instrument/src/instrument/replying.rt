@@ -50,7 +50,7 @@ impl Instrument {
     }
 
     /// Appends the reply to a line to `out`, if the line is a request, and says whether it is one.
-    /// Else `out` stays as it is. It is [`Instrument::on_line`] in place.
+    /// Else `out` stays as it is. The reply is that of [`Instrument::on_line`].
     #[inline(always)]
     pub fn reply_onto<const N: usize>(&mut self, line: &[u8], out: &mut ArrayVec<u8, N>) -> bool
         requires { array_vec_len out.old + 512 ≤ N }
@@ -69,7 +69,7 @@ impl Instrument {
         }
     }
 
-    // Appends the reply to a request.
+    // Appends the reply to a request: with the communication code 3081 or 3080 where it names no call, and else that of `answer_call`.
     #[inline]
     fn reply_to<const N: usize>(&mut self, request: &Request<'_>, out: &mut ArrayVec<u8, N>)
         requires id { ForSome request.now.id (λ id. id < 8) }
@@ -84,7 +84,7 @@ impl Instrument {
         }
     }
 
-    // Appends the reply to a call: the kept one to a repeat, and else a new one, which is kept.
+    // Appends the reply to a call: the kept one to a repeat, and else a new one, which is kept where the request carries an id.
     #[inline]
     fn answer_call<const N: usize>(
         &mut self,
@@ -106,7 +106,7 @@ impl Instrument {
         self.kept.keep(id, &out[start..]);
     }
 
-    // Carries out a call, and appends its reply.
+    // Carries out a call, and appends its reply, with this id and without CR LF.
     #[inline]
     fn carry_out_onto<const N: usize>(&mut self, id: u8, call: &Call, out: &mut ArrayVec<u8, N>)
         requires id { id < 8 }

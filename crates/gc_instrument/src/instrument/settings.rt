@@ -1,4 +1,4 @@
-//! What calls set in an instrument, and what a restart makes of it.
+//! What calls set in an instrument, and how these settings begin.
 
 use crate::face::Face;
 use crate::pointing::Pointing;
@@ -24,7 +24,7 @@ impl Settings {
     ghost use Rattle.gc_instrument.specs.State.{origin, ahead, first_date};
     ghost use Rattle.gc_instrument.specs.declared.face.Face.TheVariants.{Normal};
 
-    /// The settings at the start, with this precision.
+    /// The settings at the start, with this precision: zeros, the normal face, no distance, and the date 1996-07-25 16:19:47.
     pub fn opening(precision: u8) -> Settings
         ensures { result ≡ record {
           precision = precision;

@@ -101,7 +101,7 @@ returns-in-Err-clause-asks g c =
       too_many = λ is. omega (arith, c.loop-place.invariant.reads, c.in-Err.ensures.reads, c.in-Err.ensures.too_many is);
     }
 
--- what went well is no fault
+-- a good end is no fault
 went_well : (e : RunFault) → ◌≡◌ {A = LinkEnd} (Ok tt) (Err e) → ⊥
 went_well e is = cc
 

@@ -11,13 +11,13 @@ use Rattle.gc_catalogue.proofs.Plain.{plain_reply}
 use Rattle.gc_catalogue.proofs.Table.{few_values_out, values-rounded}
 use Rattle.gc_catalogue.proofs.replies.encode_answer_onto.Goals as goal
 
--- the values before commas, and that they lie in their ranges
+-- the answer's values were appended, each before a comma, and lie in their ranges
 handed : (g : _) (c : goal.After-pop g) → (c.write_row.new.to.items ≡ c.push.new.self.items ++ before_commas
     (shown_values (Some c.args.places) (answer_fields c.args.answer.now).values))
     × AreValues (shown_values (Some c.args.places) (answer_fields c.args.answer.now).values)
 handed g c = c.write_row.ensures c.write_row.new.to (sym (append-nil _), tt)
 
--- the reply through its return code, and the values behind commas
+-- behind the reply's return code stand the rounded answer's values, each behind a comma
 listed : (g : _) (c : goal.After-pop g) → c.pop.new.self.items ≡ c.push_reply.new.to.items ++ behind_commas (answer_fields (rounded_answer c.args.places c.args.answer.now)).values
 listed g c =
     comma_list c.push_reply.new.to.items (shown_values (Some c.args.places) (answer_fields c.args.answer.now).values) c.push.new.self.items

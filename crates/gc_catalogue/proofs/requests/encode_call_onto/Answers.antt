@@ -9,7 +9,7 @@ use Rattle.gc_catalogue.proofs.Plain.{plain_request}
 use Rattle.gc_catalogue.proofs.Table.{number_fits}
 use Rattle.gc_catalogue.proofs.requests.encode_call_onto.Goals as goal
 
--- the head and the values before commas, and that the values lie in their ranges
+-- the request's head and the call's values before commas were appended, and the values lie in their ranges
 begun : (g : _) (c : goal.After-end_list g) → (c.write_row.new.to.items ≡ c.args.out.now.items ++
     (request_text (record { rpc = (call_fields c.args.call.now).number; id = c.args.id; params = [] }) ++ before_commas (call_fields c.args.call.now).values))
     × AreValues (call_fields c.args.call.now).values

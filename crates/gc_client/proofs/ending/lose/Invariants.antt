@@ -3,7 +3,7 @@ use Rattle.gc_client.specs.Rule.{lost}
 use Rattle.gc_client.specs.Settlements.{AreSettlements}
 use Rattle.gc_client.proofs.ending.lose.Given as goal
 
--- what is settled are the first so many, and the others wait
+-- the first k requests are settled as lost, and the others wait
 abbrev pub invariant-loop-k : goal.invariant-loop-k
 invariant-loop-k g l =
     let pendings = g.W.Window.pendings in

@@ -1,6 +1,6 @@
 use Rattle.std.proofs.Common.{◌≡◌, ◌≤◌, length}
 use Rattle.gc_client.proofs.ending.make_places.Given as goal
 
--- so many are there
+-- the list has as many settlements as the counter says
 abbrev pub invariant-loop : goal.invariant-loop
 invariant-loop l = (length l.settled.items ≡ l.counter) × (l.counter ≤ l.count)

@@ -15,17 +15,17 @@ returns-in_default-distance c t p =
     (with_rest 32 c.args.words.now c.cut_at.result.0.now (option_copied c.cut_at.result.1) (Some c.in-Some.rest.now) c.cut_at.ensures (ap option_copied c.in-Some.is))
     (with_rest 32 c.in-Some.rest.now c.cut_at-2.result.0.now (option_copied c.cut_at-2.result.1) None c.cut_at-2.ensures (search rules))
 
-pub returns-in_default-decimal_of : goal.returns-in_default-decimal_of
-returns-in_default-decimal_of c t p =
+pub returns-in_default-read_double : goal.returns-in_default-read_double
+returns-in_default-read_double c t p =
     has_hz c.args.words.now t p c.cut_at.result.0.now c.in-Some.rest.now
     (with_rest 32 c.args.words.now c.cut_at.result.0.now (option_copied c.cut_at.result.1) (Some c.in-Some.rest.now) c.cut_at.ensures (ap option_copied c.in-Some.is))
-    c.in_default-decimal_of.ensures
+    c.in_default-read_double.ensures
 
-pub returns-in_default-decimal_of-2 : goal.returns-in_default-decimal_of-2
-returns-in_default-decimal_of-2 c t p =
+pub returns-in_default-read_double-2 : goal.returns-in_default-read_double-2
+returns-in_default-read_double-2 c t p =
     has_v c.args.words.now t p c.cut_at.result.0.now c.in-Some.rest.now c.cut_at-2.result.0.now (option_copied c.cut_at-2.result.1)
     (with_rest 32 c.args.words.now c.cut_at.result.0.now (option_copied c.cut_at.result.1) (Some c.in-Some.rest.now) c.cut_at.ensures (ap option_copied c.in-Some.is))
-    c.cut_at-2.ensures c.in_default-decimal_of-2.ensures
+    c.cut_at-2.ensures c.in_default-read_double-2.ensures
 
 pub returns-in-None : goal.returns-in-None
 returns-in-None c t p =

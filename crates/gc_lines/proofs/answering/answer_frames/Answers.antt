@@ -5,6 +5,7 @@ use Rattle.gc_lines.proofs.Exactly.{ended_exactly}
 use Rattle.gc_lines.proofs.Given.{given_more, given_part, given_end}
 use Rattle.gc_lines.proofs.answering.answer_frames.Goals as goal
 
+-- a number that isn't 0 fails the test for 0
 not_zero : (n : ℕ) → (n ≡ 0 → ⊥) → eqb n 0 ≡ false
 not_zero n h = grind (arith, nat_tests)
 

@@ -4,6 +4,7 @@ use Rattle.gc_values.specs.Digits.{number}
 use Rattle.gc_values.specs.Spelling.{IsShort, mark}
 use Rattle.gc_values.proofs.cutting.exponent.Goals as goal
 
+-- a mark, a sign and one to three digits are read as an exponent
 read : (text rest digits : List ℕ) (negative : Bool) (n : ℕ) → (capital : Bool) × (text ≡ mark capital ∷ rest) → CutsSign rest negative digits → IsShort digits × (n ≡ number digits) →
     ReadsExponent text (cond negative 0 n) (cond negative n 0)
 read text rest digits negative n marked signed short = record {

@@ -18,6 +18,7 @@ returns-in_err-up-clause-none c = rw c.from_residual.ensures (λ p n e.
     let same = same_parts c.args.text.now _ _ _ _ _ _ c.cut_sign-negative.ensures c.cut_digits.ensures c.cut_fraction.ensures p n e in
     c.in_err-up.ensures.none p.exponent n.exponent same.rest_is)
 
+-- the parts that were cut off, with at least one digit, are a numeral's
 joined : (text r1 r2 r3 : List ℕ) (negative : Bool) (whole fraction : List ℕ) (up down : ℕ) → CutsSign text negative r1 → CutsDigits r1 whole r2
     → CutsFraction r2 fraction r3 → ReadsExponent r3 up down → 0 < length whole + length fraction →
     ReadsNumeral text negative whole fraction up down

@@ -23,7 +23,7 @@ loop-event-preserved g c =
     let counts = counts_at c.args.width opening events (i + 1) s.report shows.lines.reports (omega (arith, c.loop-event-test.true)) in
     record { shows = shows; refused = counts.0; idle = counts.1 }
 
--- the event that wanted memory was none that takes none
+-- the event for which memory ran out is none of those that take none
 pub returns-in_err-happen-clause-spare : goal.returns-in_err-happen-clause-spare
 returns-in_err-happen-clause-spare g c =
     let i = c.loop-event.event-index in

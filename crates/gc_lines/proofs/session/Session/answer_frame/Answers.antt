@@ -6,14 +6,15 @@ use Rattle.gc_lines.specs.declared.frame.Lent.TheVariants.{Line, Cleared, Overlo
 use Rattle.gc_lines.proofs.Gathering.{gathering_silent, gathering_more, gathering_start, gathering_written, answered_part}
 use Rattle.gc_lines.proofs.session.Session.answer_frame.Goals as goal
 
--- a frame that a line feed has ended
+-- a frame other than `More` is completed
 ended : (frame : Lent) → (frame ≡ More → ⊥) → completed (lent_seen frame) ≡ lent_seen frame ∷ []
 ended (Line line) not = refl
 ended Cleared not = refl
 ended Overlong not = refl
 ended More not = absurd (not refl)
 
--- what is kept of a text that was appended is its length
+-- where `more` was appended to a text, and the text's length before was taken from that now and the difference pushed, the length of `more` was
+-- pushed
 kept : (old new more lengths lengths' : List ℕ) (before now : ℕ) → before ≡ length old → now ≡ length new → new ≡ old ++ more → lengths' ≡ lengths ++ (now - before) ∷ []
     → lengths' ≡ lengths ++ length more ∷ []
 kept old new more lengths lengths' before now at to is pushed =

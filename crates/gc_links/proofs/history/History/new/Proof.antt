@@ -66,11 +66,13 @@ module _ {M : Type 1} {𝓤 : Ura M} (𝓛 : Logic 𝓤) (at_mem : Memory → SP
         suffices ! _ (ends_at 𝓛 ended stayed held z none history tt tt) $ says ! refl $
         nothing ! $ move ! (2 ∷ 0 ∷ 1 ∷ []) $ done !)
 
+  -- the body meets the contract
   meets : (𝓣 : Tables 𝓤 H) → Meets 𝓛 ended.signature (WpFn 𝓤 H 𝓣.C 𝓣.Λ function) (closing 𝓛 ended held)
   meets 𝓣 =
       walk_Meets 𝓛 ended stayed tt held
       (WpFn 𝓤 H 𝓣.C 𝓣.Λ function) (WpFn-mono 𝓤 H 𝓛.laws 𝓣 function) (walks 𝓣.C 𝓣.Λ)
 
+-- the contract of `new`, as the kit states it
 pub new_spec : {M : Type 1} → stated.statement M
 unfolding tables_of
 new_spec 𝓤 𝓛 𝓜 𝓡 wired =

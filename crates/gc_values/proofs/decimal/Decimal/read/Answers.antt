@@ -7,6 +7,7 @@ use Rattle.gc_values.proofs.Reading.{IsReading, reads_parts}
 use Rattle.gc_values.proofs.decimal.Decimal.read.Goals as goal
 use Rattle.gc_values.proofs.decimal.Decimal.read.Goals.{After-in_range}
 
+-- the result of the parts of a numeral is a reading of the text
 reading : (c : After-in_range) → IsReading c.args.text.now c.in_range.result
 reading c =
     reads_parts c.args.text.now _ _ _ _ _ _ _ c.in_range.result c.in-Some.ensures.found c.units-magnitude.ensures c.in_range.ensures.made c.in_range.ensures.exact
@@ -26,6 +27,7 @@ returns-clause-spelling c = (reading c).spelling
 pub returns-clause-faults : goal.returns-clause-faults
 returns-clause-faults c = (reading c).faults
 
+-- a decimal's written text spells it
 spelled : (d : Decimal) → Spells (written d.digits d.scale) d.digits d.scale
 spelled = written_spells_decimal
 

@@ -6,9 +6,11 @@ use Rattle.gc_values.specs.declared.decimal.Decimal.{Decimal}
 use Rattle.gc_values.proofs.WithinLemmas.{compared, compared_exact, apart_fits}
 use Rattle.gc_values.proofs.decimal.Decimal.within.Goals as goal
 
+-- 128 bits hold the distance of two decimals' units
 passed : (x : ℤ) → unsigned_abs x ≤ 2 * 10 ^ 37 → to_z w128 (of_z w128 x) ≡ x
 passed x small = to_z-of_z w128 x (fits_signed_from_abs w128 x (omega arith))
 
+-- the distance that 128 bits hold is that of the units
 difference_is : (u v x : ℤ) (a b : Decimal) → u ≡ units a → v ≡ units b → unsigned_abs u ≤ 10 ^ 37 → unsigned_abs v ≤ 10 ^ 37 →
     x ≡ pos (unsigned_abs (to_z w128 (of_z w128 (to_z w128 (of_z w128 u) -ℤ to_z w128 (of_z w128 v))))) → to_z w128 (of_z w128 x) ≡ pos (unsigned_abs (units a -ℤ units b))
 difference_is u v x a b e f hu hv is =

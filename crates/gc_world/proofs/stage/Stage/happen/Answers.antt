@@ -63,7 +63,7 @@ returns-in_ok-repeat-in-DownRepeat-clause-follows g c =
     subst (λ event. Follows s event (record s { report = record s.report { idle_events = c.repeat-in-DownRepeat.new.idle }; down = c.repeat-in-DownRepeat.new.self })) (sym c.in-DownRepeat.is)
     (λ width v h. down_repeated width (seen s) v h c.in-DownRepeat.k c.repeat-in-DownRepeat.new.self c.repeat-in-DownRepeat.new.idle c.in_ok-repeat-in-DownRepeat.ensures.changes)
 
--- An event that takes none wants none.
+-- An event that takes no memory doesn't fail for memory.
 
 pub returns-in_err-send-in-Send-clause-spare : goal.returns-in_err-send-in-Send-clause-spare
 returns-in_err-send-in-Send-clause-spare g c =

@@ -1,0 +1,77 @@
+-- Settlements, requests and records at a place of a list that was appended or cut.
+use Rattle.std.proofs.Common.{◌≡◌, ℕ, zero, suc, ◌+◌, true, false, List, [], ◌∷◌, ◌++◌, map, Some, refl, ◌∙◌, ap, subst, arith, drop}
+use Rattle.std.specs.Prelude.{slice_get}
+use Rattle.std.specs.List.{AllByRecursion}
+use Rattle.gc_client.specs.OneForOne.{Asked}
+use Rattle.gc_client.specs.declared.pending.Pending.{Pending}
+use Rattle.gc_client.specs.Rule.{Answered, Late, Lost, Settlement, lost}
+use Rattle.gc_station.specs.Records.{Record}
+use Rattle.gc_world.specs.World.{Sent}
+use Rattle.gc_world.proofs.Options.{none_is_not}
+use Rattle.gc_field.specs.Begun.{behind}
+use Rattle.gc_field.specs.Laws.{asked}
+
+-- an answer among settlements and lost requests is among the settlements
+pub among_settled : (xs : List Settlement) (ps : List Pending) (n : ℕ) (x : Settlement) (line : List ℕ) → slice_get (xs ++ map lost ps) n ≡ Some x → x.outcome ≡ Answered line → slice_get xs n ≡ Some x
+among_settled (y ∷ xs) ps zero x line got answered = got
+among_settled (y ∷ xs) ps (suc n) x line got answered = among_settled xs ps n x line got answered
+among_settled [] ps n x line got answered = absurd (never ps n got) where
+  some_same : (a b : Settlement) → Some a ≡ Some b → a ≡ b
+  some_same a b e = cc
+
+  lost_not : (p : Pending) → lost p ≡ x → ⊥
+  lost_not p e = let other : Lost ≡ Answered line = ap (λ (s : Settlement). s.outcome) e ∙ answered in cc
+
+  never : (ps : List Pending) (n : ℕ) → slice_get (map lost ps) n ≡ Some x → ⊥
+  never [] n e = cc
+  never (p ∷ ps) zero e = lost_not p (some_same (lost p) x e)
+  never (p ∷ ps) (suc n) e = never ps n e
+
+pub true_is_not : true ≡ false → ⊥
+true_is_not e = cc
+
+-- a late settlement among settlements and lost requests is among the settlements
+pub among_late : (xs : List Settlement) (ps : List Pending) (n : ℕ) (x : Settlement) → slice_get (xs ++ map lost ps) n ≡ Some x → x.outcome ≡ Late → slice_get xs n ≡ Some x
+among_late (y ∷ xs) ps zero x got late = got
+among_late (y ∷ xs) ps (suc n) x got late = among_late xs ps n x got late
+among_late [] ps n x got late = absurd (never ps n got) where
+  some_same : (a b : Settlement) → Some a ≡ Some b → a ≡ b
+  some_same a b e = cc
+
+  lost_not : (p : Pending) → lost p ≡ x → ⊥
+  lost_not p e = let other : Lost ≡ Late = ap (λ (s : Settlement). s.outcome) e ∙ late in cc
+
+  never : (ps : List Pending) (n : ℕ) → slice_get (map lost ps) n ≡ Some x → ⊥
+  never [] n e = cc
+  never (p ∷ ps) zero e = lost_not p (some_same (lost p) x e)
+  never (p ∷ ps) (suc n) e = never ps n e
+
+-- the request whose question is at a place is at that place
+pub asked_at : (rs : List Sent) (n : ℕ) (a : Asked) → slice_get (map asked rs) n ≡ Some a → (r : Sent) × (slice_get rs n ≡ Some r) × (asked r ≡ a)
+asked_at [] n a e = cc
+asked_at (r ∷ rs) zero a e = (r, refl, same (asked r) a e) where
+  same : (x y : Asked) → Some x ≡ Some y → x ≡ y
+  same x y e = cc
+asked_at (r ∷ rs) (suc n) a e = asked_at rs n a e
+
+-- what holds of the records of two lists holds of those of both, one behind the other
+pub all_append : (P : Record → Type 0) (xs ys : List Record) → AllByRecursion P xs → AllByRecursion P ys → AllByRecursion P (xs ++ ys)
+all_append P [] ys h g = g
+all_append P (x ∷ xs) ys h g = (h.0, all_append P xs ys h.1 g)
+
+-- an element that is at place n behind the first k is at place k + n of the whole list
+pub get_behind : {A : Type 0} (k n j : ℕ) (xs : List A) (x : A) → j ≡ k + n → slice_get (drop k xs) n ≡ Some x → slice_get xs j ≡ Some x
+get_behind zero n j xs x e got = let same : n ≡ j = omega (arith, e) in subst (λ i. slice_get xs i ≡ Some x) same got
+get_behind (suc k) n j [] x e got = absurd (none_is_not x got)
+get_behind (suc k) n zero (y ∷ xs) x e got = absurd (omega (arith, e))
+get_behind (suc k) n (suc j) (y ∷ xs) x e got = get_behind k n j xs x (omega (arith, e)) got
+
+-- an element that is at place n behind the first k is at place k + n
+pub get_drop : {A : Type 0} (k n : ℕ) (xs : List A) (x : A) → slice_get (drop k xs) n ≡ Some x → slice_get xs (k + n) ≡ Some x
+get_drop k n xs x got = get_behind k n (k + n) xs x refl got
+
+-- mapping and dropping the first k elements may be done in either order
+pub map_drop : {A B : Type 0} (f : A → B) (k : ℕ) (xs : List A) → map f (drop k xs) ≡ drop k (map f xs)
+map_drop f zero xs = refl
+map_drop f (suc k) [] = refl
+map_drop f (suc k) (x ∷ xs) = map_drop f k xs
