@@ -14,7 +14,7 @@ impl<'a> Case<'a> {
         self.value_at(key, 0).unwrap_or("")
     }
 
-    /// The value of a line with this key, by its place among these, counted from 0; none behind the last one.
+    /// The value of a line with this key, by its place among these, counted from 0. `None`: there is no line at this place.
     pub fn value_at(&self, key: &str, place: usize) -> Option<&'a str> {
         let mut left = place;
         for line in self.lines.lines() {
@@ -43,7 +43,7 @@ fn value_of<'a>(line: &'a str, key: &str) -> Option<&'a str> {
     rest.strip_prefix(' ')
 }
 
-/// The first case of a text, and the text behind it; none where there is no case.
+/// The first case of a text, and the text behind it. `None`: the text has no case.
 pub fn cut_case(text: &str) -> Option<(Case<'_>, &str)> {
     let (_, cases) = text.split_once("== ")?;
     let (name, behind) = cases.split_once('\n').unwrap_or((cases, ""));

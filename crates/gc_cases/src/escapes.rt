@@ -60,44 +60,11 @@ fn escape_of(rest: &[u8]) -> (u8, &[u8]) {
     }
 }
 
+// The value of a digit, 0 to 9 and a to f; of another byte 0.
 fn digit_of(digit: u8) -> u8 {
     match digit {
         b'0'..=b'9' => digit - b'0',
         b'a'..=b'f' => digit - b'a' + 10,
         _ => 0,
     }
-}
-
-/// A value that stands for these bytes.
-pub fn text_of(alloc: Global, bytes: &[u8]) -> Result<String, AllocError> {
-    let mut text = String::new(alloc);
-    push_text(&mut text, bytes)?;
-    Ok(text)
-}
-
-/// Appends a value that stands for these bytes.
-pub fn push_text(text: &mut String, bytes: &[u8]) -> Result<(), AllocError> {
-    for byte in bytes {
-        push_escaped(text, *byte)?;
-    }
-    Ok(())
-}
-
-fn push_escaped(text: &mut String, byte: u8) -> Result<(), AllocError> {
-    match byte {
-        b'\n' => text.push_str("\\n"),
-        b'\r' => text.push_str("\\r"),
-        b'\t' => text.push_str("\\t"),
-        b'\\' => text.push_str("\\\\"),
-        b' '..=b'~' => text.push(char::from(byte)),
-        _ => {
-            text.push_str("\\x")?;
-            text.push(hex_of(byte / 16))?;
-            text.push(hex_of(byte % 16))
-        }
-    }
-}
-
-fn hex_of(digit: u8) -> char {
-    char::from(*b"0123456789abcdef".get(usize::from(digit)).unwrap_or(&b'?'))
 }

@@ -2,6 +2,8 @@
 //!
 //! A line `== NAME` begins a case, up to the next one. Each other line is a key and, behind a space, its value. A line that is empty or
 //! begins with `#` says nothing. In a value `\n`, `\r`, `\t`, `\\` and `\xHH` (two digits, 0 to 9 and a to f) stand for bytes.
+//!
+//! What came is told to a text that keeps a want of memory to itself (`Told`), so a player has no answer to pass on.
 #![tactic(auto)]
 
 mod case;
@@ -10,11 +12,11 @@ mod input;
 mod playing;
 mod rows;
 mod telling;
-pub mod told;
+mod told;
 
-pub use case::{Case, cut_case};
-pub use escapes::{bytes_of, push_all, push_text, text_of};
+pub use case::Case;
+pub use escapes::{bytes_of, push_all};
 pub use input::input_of;
 pub use playing::{Player, names_of, play_folder};
-pub use rows::{Rows, cut_word, play_rows, push_bytes};
-pub use telling::tell;
+pub use rows::{Rows, bytes_behind, cut_word, play_rows};
+pub use told::{Told, number_or};

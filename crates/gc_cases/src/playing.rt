@@ -1,27 +1,26 @@
 //! The files of a folder, played.
 
 use crate::case::{Case, cut_case};
+use crate::told::Told;
 use std::alloc::{AllocError, Global};
 use std::{fs, io};
 
 /// Plays the cases of files with one ending.
 pub trait Player {
-    /// What the names of its files end in, as `.stations`.
-    fn ending(&self) -> &'static str;
-
-    /// Plays a case, and tells what came for each of its keys (`tell`), which says in `wrong` where that isn't what the case expects.
-    fn play(&self, rt: &HostRuntime, case: &Case<'_>, wrong: &mut String) -> io::Result<()>;
+    /// Plays a case, and appends a line to `wrong` for each key where something else came than the case expects (`Case::tell`).
+    fn play(&self, rt: &HostRuntime, case: &Case<'_>, wrong: &mut Told) -> io::Result<()>;
 }
 
-/// Plays each file of a folder that has the player's ending, in the order of their names; prints a line for each of them, and for each
-/// case what came otherwise; and says whether all came to what they expect.
-pub fn play_folder<P: Player>(rt: &HostRuntime, folder: &str, player: &P) -> io::Result<bool> {
-    let names = names_of(rt, folder, player.ending())?;
-    let mut are_right = true;
-    for name in &names {
-        are_right &= play_file(rt, folder, player, name.as_str())?;
-    }
-    Ok(are_right)
+/// Plays each file of a folder with this ending, as `.stations`, in the order of their names; prints a line for each of them, and for
+/// each case what came otherwise; and says whether all came to what they expect.
+pub fn play_folder<P: Player>(
+    rt: &HostRuntime,
+    folder: &str,
+    ending: &str,
+    player: &P,
+) -> io::Result<bool> {
+    let names = names_of(rt, folder, ending)?;
+    play_files(rt, folder, names.as_slice(), player)
 }
 
 /// The names of a folder's files that have an ending, in order.
@@ -56,26 +55,54 @@ fn add_name(
     Ok(())
 }
 
+// Plays these files of a folder, and says whether all their cases came to what they expect.
+fn play_files<P: Player>(
+    rt: &HostRuntime,
+    folder: &str,
+    names: &[String],
+    player: &P,
+) -> io::Result<bool> {
+    let mut are_right = true;
+    for name in names {
+        are_right &= play_file(rt, folder, name.as_str(), player)?;
+    }
+    Ok(are_right)
+}
+
+// Plays a file of a folder, prints its lines, and says whether all its cases came to what they expect.
 fn play_file<P: Player>(
     rt: &HostRuntime,
     folder: &str,
-    player: &P,
     name: &str,
+    player: &P,
 ) -> io::Result<bool> {
     let text = text_of_file(rt, folder, name)?;
-    let (count, right) = play_text(rt, player, text.as_str())?;
-    let wrong = count.saturating_sub(right);
-    println!(rt; "{name}: {right} as expected, {wrong} otherwise")?;
-    Ok(wrong == 0)
+    let mut wrong = Told::new(rt.alloc());
+    let (count, right) = play_text(rt, text.as_str(), player, &mut wrong);
+    let wrong = str::from_utf8(wrong.as_bytes()).unwrap_or("no text");
+    tell_file(rt, name, count, right, wrong)
 }
 
-pub(crate) fn text_of_file(rt: &HostRuntime, folder: &str, name: &str) -> io::Result<String> {
+fn text_of_file(rt: &HostRuntime, folder: &str, name: &str) -> io::Result<String> {
     let path = format!(in rt.alloc(); "{folder}/{name}")?;
     fs::read_to_string(rt, path.as_str())
 }
 
+// Prints what came otherwise, and the line of a file, and says whether nothing did.
+fn tell_file(
+    rt: &HostRuntime,
+    name: &str,
+    count: u64,
+    right: u64,
+    wrong: &str,
+) -> io::Result<bool> {
+    let otherwise = count.saturating_sub(right);
+    println!(rt; "{wrong}{name}: {right} as expected, {otherwise} otherwise")?;
+    Ok(otherwise == 0)
+}
+
 // How many cases a text has, and how many came to what they expect.
-fn play_text<P: Player>(rt: &HostRuntime, player: &P, text: &str) -> io::Result<(u64, u64)> {
+fn play_text<P: Player>(rt: &HostRuntime, text: &str, player: &P, wrong: &mut Told) -> (u64, u64) {
     let mut count = 0u64;
     let mut right = 0u64;
     let mut rest = text;
@@ -85,18 +112,18 @@ fn play_text<P: Player>(rt: &HostRuntime, player: &P, text: &str) -> io::Result<
         };
         rest = behind;
         count = count.saturating_add(1);
-        right = right.saturating_add(is_right(rt, player, &case)?);
+        if is_right(rt, player, &case, wrong) {
+            right = right.saturating_add(1);
+        }
     }
-    Ok((count, right))
+    (count, right)
 }
 
-// Plays a case, and prints what came otherwise: 1 where nothing did, and 0 else.
-fn is_right<P: Player>(rt: &HostRuntime, player: &P, case: &Case<'_>) -> io::Result<u64> {
-    let mut wrong = String::new(rt.alloc());
-    player.play(rt, case, &mut wrong)?;
-    if wrong.is_empty() {
-        return Ok(1);
+// Plays a case, and says whether nothing came otherwise.
+fn is_right<P: Player>(rt: &HostRuntime, player: &P, case: &Case<'_>, wrong: &mut Told) -> bool {
+    let before = wrong.size();
+    if player.play(rt, case, wrong).is_err() {
+        case.tell_wrong("end", b"an error of the system", wrong);
     }
-    print!(rt; "{}", wrong.as_str())?;
-    Ok(0)
+    wrong.size() == before
 }

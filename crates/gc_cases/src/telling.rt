@@ -1,15 +1,36 @@
 //! What came of a case, beside what it expects.
 
 use crate::case::Case;
-use crate::escapes::{push_text, spells};
-use std::alloc::AllocError;
+use crate::escapes::spells;
+use crate::told::Told;
 
-/// Tells what came for a key. Where the case has something else there, a line with what came is appended to `wrong`.
-pub fn tell(case: &Case<'_>, key: &str, came: &[u8], wrong: &mut String) -> Result<(), AllocError> {
-    if spells(case.value(key), came) {
-        return Ok(());
+impl<'a> Case<'a> {
+    /// Whether the value under a key is this one.
+    pub fn has(&self, key: &str, value: &str) -> bool {
+        self.value(key) == value
     }
-    write!(wrong, "{}: {key} is ", case.name)?;
-    push_text(wrong, came)?;
-    wrong.push('\n')
+
+    /// Appends a line with what came for a key to `wrong`, where the case has something else there.
+    pub fn tell(&self, key: &str, came: &[u8], wrong: &mut Told) {
+        if !spells(self.value(key), came) {
+            self.tell_wrong(key, came, wrong);
+        }
+    }
+
+    /// Appends a line with what came for a key to `wrong`, where the case has something else there, or what came lacks a part.
+    pub fn tell_told(&self, key: &str, came: &Told, wrong: &mut Told) {
+        if !came.is(self.value(key)) {
+            self.tell_wrong(key, came.as_bytes(), wrong);
+        }
+    }
+
+    /// Appends a line with what came for a key to `wrong`.
+    pub fn tell_wrong(&self, key: &str, came: &[u8], wrong: &mut Told) {
+        wrong.text(self.name);
+        wrong.text(": ");
+        wrong.text(key);
+        wrong.text(" is ");
+        wrong.escaped(came);
+        wrong.text("\n");
+    }
 }

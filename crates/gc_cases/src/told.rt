@@ -1,18 +1,12 @@
-//! Cases played into a text of what came, in place of answers that may want memory.
-
-mod playing;
-mod rows;
-mod telling;
+//! A text of what came, in place of answers that may want memory.
 
 use crate::escapes::spells;
-pub use playing::{Player, play_folder};
-pub use rows::{Rows, play_rows};
 use std::alloc::Global;
 use std::fmt;
 use std::io::Write;
 
-/// A text that what came is appended to. A call gives no answer, so that a player has none to pass on: where memory is wanted for one,
-/// the text keeps that it lacks it, and from then on it is as no case expects it.
+/// A text to which what came is appended. Its calls return no error, so that a player has none to pass on: where memory runs out, the text
+/// notes that it lacks a part, and from then on it is what no case expects.
 #[derive(Drop)]
 pub struct Told {
     bytes: Vec<u8>,
@@ -20,7 +14,7 @@ pub struct Told {
 }
 
 impl Told {
-    /// Nothing yet.
+    /// An empty text.
     pub fn new(alloc: Global) -> Told {
         Told {
             bytes: Vec::new(alloc),
@@ -28,88 +22,95 @@ impl Told {
         }
     }
 
-    /// What was told.
+    /// The bytes of the text.
     pub fn as_bytes(&self) -> &[u8] {
         self.bytes.as_slice()
     }
 
-    /// The bytes that what comes is written to.
+    /// The bytes of the text, for what is written to it.
     pub fn writer(&mut self) -> &mut Vec<u8> {
         &mut self.bytes
     }
 
-    /// Whether memory was wanted for a part of it.
+    /// Whether memory ran out for a part of the text.
     pub fn is_lacking(&self) -> bool {
         self.lacks
     }
 
-    /// Whether a value of a case stands for what was told.
+    /// Whether a value of a case stands for the text, which lacks no part.
     pub fn is(&self, value: &str) -> bool {
         !self.lacks && spells(value, self.as_bytes())
     }
 
-    /// How many bytes were told, and one more where memory was wanted.
+    /// How many bytes the text has, and one more where it lacks a part.
     pub(crate) fn size(&self) -> usize {
         self.bytes.len().saturating_add(usize::from(self.lacks))
     }
 
-    /// Tells nothing but what is told from now on.
+    /// Empties the text. That it lacked a part stays noted.
     pub fn clear(&mut self) {
         self.bytes.clear();
     }
 
-    /// Tells that memory was wanted.
+    /// Notes that memory ran out for a part of the text.
     pub fn lack(&mut self) {
         self.lacks = true;
     }
 
-    /// A text.
+    /// Appends a text.
     pub fn text(&mut self, text: &str) {
         self.bytes(text.as_bytes());
     }
 
-    /// Bytes.
+    /// Appends bytes.
     pub fn bytes(&mut self, bytes: &[u8]) {
         let is_lacking = self.bytes.extend_from_slice(bytes).is_err();
         self.lacks |= is_lacking;
     }
 
-    /// One text where something is so, and another where it isn't.
+    /// What another one has, which lacks memory where that one does.
+    pub fn told(&mut self, other: &Told) {
+        self.bytes(other.as_bytes());
+        self.lacks |= other.lacks;
+    }
+
+    /// Appends `so` where something is so, and `otherwise` where it isn't.
     pub fn either(&mut self, is_so: bool, so: &str, otherwise: &str) {
         self.text(if is_so { so } else { otherwise });
     }
 
-    /// A value as `Display` prints it.
+    /// Appends a value as `Display` prints it.
     pub fn display<T: fmt::Display>(&mut self, value: &T) {
         let is_lacking = write!(self.bytes, "{value}").is_err();
         self.lacks |= is_lacking;
     }
 
-    /// A value as `Debug` prints it.
+    /// Appends a value as `Debug` prints it.
     pub fn debug<T: fmt::Debug>(&mut self, value: &T) {
         let is_lacking = write!(self.bytes, "{value:?}").is_err();
         self.lacks |= is_lacking;
     }
 
-    /// A value behind its title.
+    /// Appends a title, and a value behind it.
     pub fn titled<T: fmt::Display>(&mut self, title: &str, value: &T) {
         self.text(title);
         self.display(value);
     }
 
-    /// A value, and what is counted.
+    /// Appends a value, and what it counts behind it.
     pub fn counted<T: fmt::Display>(&mut self, value: &T, what: &str) {
         self.display(value);
         self.text(what);
     }
 
-    /// Bytes as a value of a case spells them.
+    /// Appends bytes as a value of a case spells them.
     pub fn escaped(&mut self, bytes: &[u8]) {
         for byte in bytes {
             self.escape(*byte);
         }
     }
 
+    // Appends a byte as a value of a case spells it.
     fn escape(&mut self, byte: u8) {
         match byte {
             b'\n' => self.text("\\n"),
@@ -122,6 +123,7 @@ impl Told {
     }
 }
 
+// The hexadecimal digit of a number below 16.
 fn hex_of(digit: u8) -> u8 {
     *b"0123456789abcdef".get(usize::from(digit)).unwrap_or(&b'?')
 }

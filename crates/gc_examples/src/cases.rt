@@ -22,10 +22,10 @@ use world::World;
 
 /// Plays the cases of a folder, and says whether each came to what it expects.
 pub fn play_cases(rt: &HostRuntime, folder: &str) -> io::Result<bool> {
-    let mut are_right = play_folder(rt, folder, &Engines)?;
-    are_right &= play_folder(rt, folder, &Failing)?;
-    are_right &= play_folder(rt, folder, &Texts)?;
-    are_right &= play_folder(rt, folder, &Records)?;
-    are_right &= play_folder(rt, folder, &World)?;
+    let mut are_right = play_folder(rt, folder, ".engines", &Engines)?;
+    are_right &= play_folder(rt, folder, ".failing", &Failing)?;
+    are_right &= play_folder(rt, folder, ".texts", &Texts)?;
+    are_right &= play_folder(rt, folder, ".records", &Records)?;
+    are_right &= play_folder(rt, folder, ".world", &World)?;
     Ok(are_right)
 }

@@ -1,7 +1,7 @@
 //! One example: what goes in, and what must come out.
 
 use crate::cases::{Engine, Setup, differing};
-use std::alloc::{AllocError, Global};
+use std::alloc::Global;
 use std::{fs, io};
 
 /// The files of an example.
@@ -13,7 +13,7 @@ pub struct Example {
 }
 
 impl Example {
-    /// Reads the example whose input has this name; none where it is the name of no input.
+    /// Reads the example whose input has this name. `None`: no input has such a name.
     pub fn find(rt: &HostRuntime, name: &str) -> io::Result<Option<Example>> {
         match parts_of(name) {
             Some((engine, stem, ending)) => Ok(Some(read(rt, engine, name, stem, ending)?)),
@@ -21,11 +21,11 @@ impl Example {
         }
     }
 
-    /// What is said where another output comes than is expected, whole or in some cut.
-    pub fn fault(&self, alloc: Global) -> Result<&'static str, AllocError> {
-        let whole = self.setup.run(alloc, &[])?;
+    /// In which way another output comes than is expected: whole, or in some cut. Empty: in none.
+    pub fn fault(&self, alloc: Global) -> &'static str {
+        let whole = self.setup.run(alloc, &[]);
         if !whole.wrote(self.expected.as_slice()) {
-            return Ok(", whole");
+            return ", whole";
         }
         differing(alloc, &self.setup, &whole, true)
     }

@@ -5,6 +5,7 @@ use crate::client::{client, ring};
 use crate::example::Example;
 use crate::links::{ask, loop_commands};
 use crate::outcome::Outcome;
+use gc_cases::Told;
 use gc_client::{Client, Ring, Slots, Window};
 use gc_engines::{read_schedule, run_check, run_drill, run_exec};
 use gc_instrument::Instrument;
@@ -12,7 +13,7 @@ use gc_lines::ToWriter;
 use gc_probes::{PieceSink, PieceSource};
 use gc_texts::RunFault;
 use gc_world::{Event, Report, play};
-use std::alloc::{AllocError, Global};
+use std::alloc::Global;
 use std::io;
 
 /// Plays each example once, and says whether none gave another answer than its own.
@@ -26,7 +27,7 @@ pub fn play_once(rt: &HostRuntime, names: &[String]) -> io::Result<bool> {
     Ok(is_right)
 }
 
-// Plays what has no files.
+// Plays the examples that have no files.
 fn play_parts(rt: &HostRuntime) -> io::Result<bool> {
     let alloc = rt.alloc();
     let mut is_right = tell(rt, "a client with places", "called", client())?;
@@ -42,12 +43,13 @@ fn play_example(rt: &HostRuntime, name: &str, example: &Example) -> io::Result<b
     match example.setup.engine {
         Engine::Exec => tell(rt, name, "served", serves(input, expected)),
         Engine::Check => tell(rt, name, "checked", checks(input, expected)),
-        _ => {
-            let is_drilled = tell(rt, name, "drilled", drills(rt.alloc(), input, expected))?;
-            let is_played = tell(rt, name, "played", plays(rt.alloc(), input))?;
-            Ok(is_drilled && is_played)
-        }
+        _ => play_schedule(rt, name, input, expected),
     }
+}
+
+fn play_schedule(rt: &HostRuntime, name: &str, input: &[u8], expected: &[u8]) -> io::Result<bool> {
+    let is_drilled = tell(rt, name, "drilled", drills(rt.alloc(), input, expected))?;
+    Ok(tell(rt, name, "played", plays(rt.alloc(), input))? && is_drilled)
 }
 
 // Prints the line of an example, and says whether it gave no other answer than its own.
@@ -59,7 +61,7 @@ fn tell(rt: &HostRuntime, name: &str, done: &str, outcome: Outcome) -> io::Resul
 // The most bytes that the output of a stream of the folder has.
 const ROOM: usize = 4096;
 
-// A stream through `exec`, into an array.
+// What a stream of requests comes to through `exec`, whose replies are written into an array.
 fn serves(input: &[u8], expected: &[u8]) -> Outcome {
     let mut taken = [0; ROOM];
     let is_done = is_served(input, &mut taken[..]);
@@ -71,7 +73,7 @@ fn is_served(input: &[u8], taken: &mut [u8]) -> bool {
     run_exec(&mut source, &mut ToWriter::new(taken), u32::MAX).is_ok()
 }
 
-// A recording through `check`, into an array.
+// What a recording comes to through `check`, whose verdicts are written into an array.
 fn checks(input: &[u8], expected: &[u8]) -> Outcome {
     let mut taken = [0; ROOM];
     let is_done = is_checked(input, &mut taken[..]);
@@ -88,7 +90,7 @@ fn holds(taken: &[u8; ROOM], expected: &[u8]) -> bool {
     taken.starts_with(expected) && taken.get(expected.len()) == Some(&0)
 }
 
-// A schedule through `drill --totals`.
+// What a schedule comes to through `drill --totals`.
 fn drills(alloc: Global, input: &[u8], expected: &[u8]) -> Outcome {
     let mut sink = PieceSink::new(alloc, 5, u64::MAX);
     let end = drill_into(alloc, input, &mut sink);
@@ -100,50 +102,65 @@ fn drill_into(alloc: Global, input: &[u8], sink: &mut PieceSink) -> Result<(), R
     run_drill(alloc, &mut source, sink, true)
 }
 
-// A schedule over a ring and over places: their reports are one. Where one allocation of the process is refused, one of the
-// two has all its memory.
+// What a schedule comes to over a ring and over places, whose reports have to be the same. Where one allocation of the process is
+// refused, one of the two has all its memory.
 fn plays(alloc: Global, input: &[u8]) -> Outcome {
     match read_schedule(alloc, input) {
-        Ok(events) => match agrees(alloc, events.as_slice()) {
-            Ok(is_same) => Outcome::of_answer(is_same),
-            Err(_) => Outcome::NoMemory,
-        },
+        Ok(events) => agrees(alloc, events.as_slice()),
         Err(RunFault::Memory) => Outcome::NoMemory,
         Err(_) => Outcome::Other,
     }
 }
 
 // Whether events lead to the same over both windows.
-fn agrees(alloc: Global, events: &[Event]) -> Result<bool, AllocError> {
-    let ring = told(alloc, Ring::new(alloc)?, events)?;
-    let places = told(alloc, Slots::new(), events)?;
-    Ok(ring.as_str() == places.as_str())
+fn agrees(alloc: Global, events: &[Event]) -> Outcome {
+    let mut ring = Told::new(alloc);
+    tell_ring(alloc, events, &mut ring);
+    let mut places = Told::new(alloc);
+    tell_over(alloc, Slots::new(), events, &mut places);
+    outcome_of(&ring, &places)
 }
 
-// All that events lead to over a window.
-fn told<W: Window>(alloc: Global, window: W, events: &[Event]) -> Result<String, AllocError> {
-    let (report, client) = play(alloc, Instrument::simulator(), window, events)?;
-    let mut told = String::new(alloc);
-    tell_lists(&report, &mut told)?;
-    tell_counts(&report, &client, &mut told)?;
-    Ok(told)
+fn outcome_of(ring: &Told, places: &Told) -> Outcome {
+    if ring.is_lacking() || places.is_lacking() {
+        return Outcome::NoMemory;
+    }
+    Outcome::of_answer(ring.as_bytes() == places.as_bytes())
 }
 
-fn tell_lists(report: &Report, told: &mut String) -> Result<(), AllocError> {
-    write!(told, "{:?}", report.sent.as_slice())?;
-    write!(told, "{:?}", report.executed.as_slice())?;
-    write!(told, "{:?}", report.made.as_slice())?;
-    write!(told, "{:?}", report.settled.as_slice())?;
-    write!(told, "{:?}", report.starts.as_slice())
+fn tell_ring(alloc: Global, events: &[Event], told: &mut Told) {
+    match Ring::new(alloc) {
+        Ok(ring) => tell_over(alloc, ring, events, told),
+        Err(_) => told.lack(),
+    }
 }
 
-fn tell_counts<W: Window>(
-    report: &Report,
-    client: &Client<W>,
-    told: &mut String,
-) -> Result<(), AllocError> {
-    let (up, down) = (report.up.at_start(), report.down.at_start());
-    write!(told, "{up} {down} ")?;
-    write!(told, "{} {} ", report.refused_sends, report.idle_events)?;
-    write!(told, "{} {}", client.waiting(), client.next_id())
+// Tells all that events lead to over a window.
+fn tell_over<W: Window>(alloc: Global, window: W, events: &[Event], told: &mut Told) {
+    match play(alloc, Instrument::simulator(), window, events) {
+        Ok((report, client)) => tell_all(&report, &client, told),
+        Err(_) => told.lack(),
+    }
+}
+
+fn tell_all<W: Window>(report: &Report, client: &Client<W>, told: &mut Told) {
+    tell_lists(report, told);
+    tell_counts(report, told);
+    told.counted(&client.waiting(), " ");
+    told.display(&client.next_id());
+}
+
+fn tell_lists(report: &Report, told: &mut Told) {
+    told.debug(&report.sent.as_slice());
+    told.debug(&report.executed.as_slice());
+    told.debug(&report.made.as_slice());
+    told.debug(&report.settled.as_slice());
+    told.debug(&report.starts.as_slice());
+}
+
+fn tell_counts(report: &Report, told: &mut Told) {
+    told.counted(&report.up.at_start(), " ");
+    told.counted(&report.down.at_start(), " ");
+    told.counted(&report.refused_sends, " ");
+    told.counted(&report.idle_events, " ");
 }

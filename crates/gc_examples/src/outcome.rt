@@ -9,7 +9,7 @@ use std::fmt;
 pub enum Outcome {
     /// Exactly its answer.
     Exact,
-    /// Want of memory, and nothing was sent or written.
+    /// Memory ran out, and nothing was sent or written.
     NoMemory,
     /// The fault of a port of the tests that couldn't store what it was given.
     PortLacksMemory,

@@ -1,6 +1,6 @@
 //! Rows of a beginning, one null procedure after the other.
 
-use gc_cases::told::{Rows, Told};
+use gc_cases::{Rows, Told};
 use gc_client::Beginning;
 use std::alloc::Global;
 
@@ -11,12 +11,14 @@ pub struct Beginnings {
 }
 
 impl Beginnings {
+    /// A beginning of which no null procedure is answered.
     pub fn new() -> Beginnings {
         Beginnings {
             beginning: Beginning::new(),
         }
     }
 
+    // Tells the line of the null procedure that is asked for.
     fn ask(&self, came: &mut Told) {
         match self.beginning.ask() {
             Some(line) => came.bytes(line.as_slice()),
@@ -24,12 +26,13 @@ impl Beginnings {
         }
     }
 
-    // How many null procedures are answered, and whether it has begun.
+    // Tells how many null procedures are answered, and whether all are.
     fn tell_answered(&self, came: &mut Told) {
         came.counted(&self.beginning.answered(), ", begun ");
         came.display(&self.beginning.has_begun());
     }
 
+    // Goes on in a new beginning that has as many null procedures answered.
     fn resume(&mut self) {
         self.beginning = Beginning::resume(self.beginning.answered());
     }

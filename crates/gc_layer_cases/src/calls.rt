@@ -1,7 +1,6 @@
 //! Rows of calls and answers on the line.
 
-use gc_cases::cut_word;
-use gc_cases::told::{Rows, Told};
+use gc_cases::{Rows, Told, cut_word};
 use gc_catalogue::{
     Answer, Call, CallFault, Reading, decode_answer, decode_call, encode_answer, encode_call,
 };
@@ -23,7 +22,7 @@ impl Rows for Calls {
     }
 }
 
-/// The call of a request's line; none where it is refused.
+/// The call of a request's line. `None`: the line is no request, or its call is refused.
 pub fn call_of(line: &[u8]) -> Option<Call> {
     match read_request(line) {
         Ok(request) => decode_call(&request).ok(),
@@ -31,13 +30,14 @@ pub fn call_of(line: &[u8]) -> Option<Call> {
     }
 }
 
+// Tells a fault by its number and its name.
 fn tell_fault(fault: CallFault, came: &mut Told) {
     came.titled("fault ", &fault.number());
     came.text(" ");
     came.debug(&fault);
 }
 
-// A call, and its line.
+// Tells the call that a request's line asks for, and behind it that call's line, written anew; or why there is no call.
 fn call_again(line: &[u8], came: &mut Told) {
     let Ok(request) = read_request(line) else {
         return came.text("no request");
@@ -52,7 +52,8 @@ fn call_again(line: &[u8], came: &mut Told) {
     }
 }
 
-// What a reply, the second word, says of the call of a request, the first one.
+// The reading of a reply, the second word, for the call of a request, the first one. `None`: the first word is no request
+// of a call, or the second one is no reply.
 fn reading_of(words: &str) -> Option<Reading> {
     let (request, reply) = cut_word(words);
     let call = call_of(request.as_bytes())?;
@@ -62,6 +63,7 @@ fn reading_of(words: &str) -> Option<Reading> {
     }
 }
 
+// Tells the reading of two words, as `reading_of` has it.
 fn tell_reading(words: &str, came: &mut Told) {
     match reading_of(words) {
         Some(reading) => came.debug(&reading),
@@ -69,7 +71,8 @@ fn tell_reading(words: &str, came: &mut Told) {
     }
 }
 
-// What a reply says, as an instrument with a precision of 3 would send it behind the id 4.
+// Tells the line that an instrument with a precision of 3 writes, for the id 4, of the reading of two words, as `reading_of`
+// has it.
 fn answer_again(words: &str, came: &mut Told) {
     match reading_of(words) {
         Some(Reading::Value(answer)) => { came.bytes(encode_answer(4, 0, &answer, 3).as_slice()) }

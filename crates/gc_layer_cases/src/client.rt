@@ -1,12 +1,11 @@
-//! Rows of a client: what happens to it, and what it gives. A case is played over each window.
+//! Rows of a client: what happens to the client, and what it gives. A case is played over each window.
 
 ghost use Rattle.std.specs.Prelude.{◌≤◌};
 ghost use Rattle.gc_client.specs.declared.window.TheConstants.{WINDOW};
 
 use crate::calls::call_of;
 use arrayvec::ArrayVec;
-use gc_cases::told::{Rows, Told, number_or, play_rows};
-use gc_cases::{Case, cut_word};
+use gc_cases::{Case, Rows, Told, cut_word, number_or, play_rows};
 use gc_catalogue::{Call, Reading};
 use gc_client::{Client, Hearing, Outcome, Ring, Settlement, Slots, WINDOW, Window};
 use gc_lines::Line;
@@ -30,6 +29,7 @@ pub fn play_clients(alloc: Global, case: &Case<'_>, wrong: &mut Told) {
     }
 }
 
+// Plays a case with a client over this window.
 fn play_over<W: Window>(alloc: Global, case: &Case<'_>, window: W, wrong: &mut Told) {
     let mut played = Played {
         client: Client::with_width(window, width_of(case)),
@@ -40,7 +40,7 @@ fn play_over<W: Window>(alloc: Global, case: &Case<'_>, window: W, wrong: &mut T
     play_rows(alloc, case, &mut played, wrong);
 }
 
-// How many requests may wait: two, or as many as there can be.
+// How many requests may wait: two where the case says so, else seven.
 fn width_of(case: &Case<'_>) -> u8
     ensures least { 1 ≤ result }
     ensures most { result ≤ WINDOW }
@@ -49,7 +49,7 @@ fn width_of(case: &Case<'_>) -> u8
 }
 
 impl<W: Window> Rows for Played<W> {
-    // What a row gives is told, and then how many wait and the next id.
+    // Plays a row, and tells what it gives, how many requests wait, and the next id.
     fn play(&mut self, _alloc: Global, word: &str, what: &str, bytes: &[u8], came: &mut Told) {
         self.play_word(word, what, bytes, came);
         came.titled("; ", &self.client.waiting());
@@ -58,6 +58,7 @@ impl<W: Window> Rows for Played<W> {
 }
 
 impl<W: Window> Played<W> {
+    // Makes the call of the client that the row's word names, and tells what it gives.
     fn play_word(&mut self, word: &str, what: &str, bytes: &[u8], came: &mut Told) {
         match word {
             "call" => self.take_call(bytes, came),
@@ -70,7 +71,7 @@ impl<W: Window> Played<W> {
         }
     }
 
-    // The call that is sent from now on.
+    // Reads the call that is sent from now on.
     fn take_call(&mut self, line: &[u8], came: &mut Told) {
         match call_of(line) {
             Some(call) => self.call = call,
@@ -78,7 +79,7 @@ impl<W: Window> Played<W> {
         }
     }
 
-    // Sends to the target of the first word, to be answered before the moment of the second one.
+    // Sends to the target of the first word, to be answered before the moment of the second one, and tells the line.
     fn send(&mut self, words: &str, came: &mut Told) {
         let (target, deadline) = cut_word(words);
         let target = u32::try_from(number_or(target, 0)).unwrap_or(0);
@@ -89,7 +90,8 @@ impl<W: Window> Played<W> {
         }
     }
 
-    // Hears a line, and tells the list that was used before in each case.
+    // Hears a line into the list of settlements that all rows share, and tells that list and whether the line is a stray or
+    // unread.
     fn hear(&mut self, line: &[u8], came: &mut Told) {
         match self.client.hear(line, &mut self.settled) {
             Hearing::Settled => {}
@@ -99,6 +101,7 @@ impl<W: Window> Played<W> {
         tell_all(self.settled.as_slice(), came)
     }
 
+    // Hands the client a moment, and tells the targets of the requests that it gives up.
     fn expire(&mut self, now: u64, came: &mut Told) {
         for target in self.client.expire(now).as_slice() {
             came.counted(target, ", ");
@@ -114,6 +117,7 @@ fn tell_all(settled: &[Settlement], came: &mut Told) {
     }
 }
 
+// Tells how a request ended.
 fn tell_outcome(outcome: &Outcome, came: &mut Told) {
     match outcome {
         Outcome::Answered(reading, line) => tell_answer(reading, line, came),
@@ -122,6 +126,7 @@ fn tell_outcome(outcome: &Outcome, came: &mut Told) {
     }
 }
 
+// Tells an answer by its reading and its line.
 fn tell_answer(reading: &Reading, line: &Line, came: &mut Told) {
     came.text(" ");
     came.debug(reading);

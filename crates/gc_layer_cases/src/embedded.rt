@@ -1,13 +1,14 @@
 //! An instrument behind any reader and writer, as `docs/INSTRUMENT.md` shows it.
 
-use gc_cases::told::Told;
+use gc_cases::Told;
 use gc_instrument::{Instrument, Served, Target, serve};
 use gc_lines::{FromReader, ToWriter};
 use gc_values::{Decimal, Text};
 use std::alloc::Global;
 use std::io::{Read, Write};
 
-// An instrument with a scene of its own behind any reader and writer.
+// Serves an instrument with a scene of its own behind any reader and writer. `None`: it couldn't be made, or serving ended with
+// a fault.
 fn serve_bench<R: Read + Drop, W: Write + Drop>(input: R, output: W) -> Option<Served> {
     let name = Text::new(b"BENCH").ok()?;
     let prism = Target {

@@ -1,13 +1,12 @@
-//! Rows of a file of rows, in memory: what its opening makes of what it held, and what it holds of what is written.
+//! Rows of a file of rows, in memory: what opening it leaves of the bytes that it held, and what it holds of those that are written.
 
-use gc_cases::told::{Rows, Told};
-use gc_cases::{bytes_of, cut_word};
+use gc_cases::{Rows, Told, bytes_of, cut_word};
 use gc_files::{MemoryFile, Refused, RowsFile, copy_lines, open_rows};
 use gc_lines::{Durable, PortFailed, Sink};
 use gc_values::read_whole;
 use std::alloc::{AllocError, Global};
 
-// What a new file gets first, and what an old one begins with.
+// The head: a new file gets it first, and an old one begins with it.
 const HEAD: &[u8] = b"run,sent\n";
 
 /// The file, once it is open.
@@ -17,11 +16,13 @@ pub struct Files {
 }
 
 impl Files {
+    /// No file is open.
     pub fn new() -> Files {
         Files { rows: None }
     }
 
-    // Opens a file that takes as many bytes as the first word says, and holds these.
+    // Opens a file that has room for as many bytes as the first word says and holds the bytes of the other words, and tells what
+    // opening it gave. `is_synced`: what is written is on the disk after each sync.
     fn open(&mut self, alloc: Global, is_synced: bool, words: &str, came: &mut Told) {
         match file_of(alloc, words) {
             Ok(file) => self.open_file(file, is_synced, came),
@@ -29,7 +30,7 @@ impl Files {
         }
     }
 
-    // Opens one whose syncs fail.
+    // Opens a file as `open` does, but one whose syncs fail.
     fn open_failing(&mut self, alloc: Global, words: &str, came: &mut Told) {
         match file_of(alloc, words) {
             Ok(mut file) => {
@@ -40,6 +41,7 @@ impl Files {
         }
     }
 
+    // Opens this file, and tells what opening it gave.
     fn open_file(&mut self, file: MemoryFile, is_synced: bool, came: &mut Told) {
         match open_rows(file, HEAD, HEAD, is_synced) {
             Ok(rows) => {
@@ -50,7 +52,7 @@ impl Files {
         }
     }
 
-    // Goes on in a copy of the file that is open.
+    // Copies the file that is open into a new one with room for 1000 bytes, and opens that one.
     fn copy(&mut self, alloc: Global, came: &mut Told) {
         match MemoryFile::new(alloc, b"", 1000) {
             Some(fresh) => self.copy_into(fresh, came),
@@ -58,6 +60,7 @@ impl Files {
         }
     }
 
+    // Copies all that the open file holds into this one, and tells how many lines that were, or that no file is open. Then opens this one.
     fn copy_into(&mut self, mut fresh: MemoryFile, came: &mut Told) {
         match &self.rows {
             Some(rows) => tell_copy(copy_lines(rows.file(), &mut fresh), came),
@@ -66,6 +69,7 @@ impl Files {
         self.open_file(fresh, true, came);
     }
 
+    // Plays a row on the file that is open.
     fn use_open(&mut self, word: &str, bytes: &[u8], came: &mut Told) {
         match &mut self.rows {
             Some(rows) => use_rows(rows, word, bytes, came),
@@ -86,7 +90,7 @@ impl Rows for Files {
     }
 }
 
-// A file that takes as many bytes as the first word says, and holds what stands behind it.
+// A file that has room for as many bytes as the first word says, and holds the bytes of the rest. `Err`: memory ran out.
 fn file_of(alloc: Global, words: &str) -> Result<MemoryFile, AllocError> {
     let (room, held) = cut_word(words);
     let held = bytes_of(alloc, held)?;
@@ -94,6 +98,7 @@ fn file_of(alloc: Global, words: &str) -> Result<MemoryFile, AllocError> {
     MemoryFile::new(alloc, held.as_slice(), room).ok_or(AllocError)
 }
 
+// Tells how many lines were copied.
 fn tell_copy(copied: Result<u64, PortFailed>, came: &mut Told) {
     match copied {
         Ok(lines) => came.counted(&lines, " lines copied, "),
@@ -101,18 +106,20 @@ fn tell_copy(copied: Result<u64, PortFailed>, came: &mut Told) {
     }
 }
 
+// Tells how many bytes opening the file cut off, and what it holds.
 fn tell_rows(rows: &RowsFile<MemoryFile>, came: &mut Told) {
     came.counted(&rows.torn(), " cut off, holds ");
     came.bytes(rows.file().bytes());
 }
 
+// Tells why a file was refused, and what it holds.
 fn tell_refused(why: Refused, file: &MemoryFile, came: &mut Told) {
     came.debug(&why);
     came.text(", holds ");
     came.bytes(file.bytes());
 }
 
-// Keeps what was written, writes, or tells what the file holds.
+// Syncs what was written, writes, or tells what the file holds, as the word says.
 fn use_rows(rows: &mut RowsFile<MemoryFile>, word: &str, bytes: &[u8], came: &mut Told) {
     match word {
         "keep" => keep(rows, came),
@@ -122,11 +129,12 @@ fn use_rows(rows: &mut RowsFile<MemoryFile>, word: &str, bytes: &[u8], came: &mu
     }
 }
 
+// Syncs what was written, and tells whether that succeeded.
 fn keep(rows: &mut RowsFile<MemoryFile>, came: &mut Told) {
     came.either(rows.sync().is_ok(), "kept", "failed");
 }
 
-// Writes what isn't empty.
+// Writes these bytes, if there are any, and tells how many were taken.
 fn write_to(rows: &mut RowsFile<MemoryFile>, bytes: &[u8], came: &mut Told) {
     if bytes.is_empty() {
         return came.text("nothing to write");

@@ -3,8 +3,7 @@
 use crate::calls::call_of;
 use crate::embedded::tell_embedded;
 use crate::twice::ask_twice;
-use gc_cases::cut_word;
-use gc_cases::told::{Rows, Told};
+use gc_cases::{Rows, Told, cut_word};
 use gc_instrument::{Instrument, Target};
 use gc_lines::Line;
 use gc_values::{Decimal, Text, read_long};
@@ -18,6 +17,7 @@ pub struct Instruments {
 }
 
 impl Instruments {
+    /// The simulator, and a scene without targets.
     pub fn new(alloc: Global) -> Instruments {
         Instruments {
             instrument: Instrument::simulator(),
@@ -25,7 +25,7 @@ impl Instruments {
         }
     }
 
-    // One more target, by its direction, its vertical angle and its distance.
+    // Adds a target to the scene, by its direction, its vertical angle and its distance.
     fn add_target(&mut self, words: &str, came: &mut Told) {
         match target_of(words) {
             Some(target) if self.scene.push(target).is_ok() => {}
@@ -33,7 +33,7 @@ impl Instruments {
         }
     }
 
-    // An instrument with the scene, by its serial number and its name.
+    // Makes an instrument with the scene, by its serial number and its name, and tells that it was made, or the fault.
     fn make(&mut self, words: &str, came: &mut Told) {
         let (serial, name) = cut_word(words);
         let (Ok(serial), Ok(name)) = (read_long(serial.as_bytes()), Text::new(name.as_bytes()))
@@ -49,6 +49,7 @@ impl Instruments {
         }
     }
 
+    // Executes the call of a request's line, and tells the return code and the answer.
     fn execute(&mut self, line: &[u8], came: &mut Told) {
         let Some(call) = call_of(line) else {
             return came.text("no call");
@@ -69,14 +70,14 @@ impl Instruments {
         }
     }
 
-    // What is set.
+    // Tells the height, the precision and the prism type.
     fn tell_settings(&self, came: &mut Told) {
         came.titled("height ", &self.instrument.height());
         came.titled(" precision ", &self.instrument.precision());
         came.titled(" prism ", &self.instrument.prism());
     }
 
-    // How the telescope stands.
+    // Tells where the telescope points.
     fn tell_pointing(&self, came: &mut Told) {
         let pointing = self.instrument.pointing();
         came.titled("hz ", &pointing.hz);
@@ -98,6 +99,7 @@ impl Rows for Instruments {
     }
 }
 
+// The target of three words: its direction, its vertical angle and its distance. `None`: a word is no decimal.
 fn target_of(words: &str) -> Option<Target> {
     let (hz, rest) = cut_word(words);
     let (v, distance) = cut_word(rest);
@@ -120,6 +122,7 @@ pub fn hand_in(instrument: &mut Instrument, bytes: &[u8], came: &mut Told) {
     }
 }
 
+// Hands in a line, and tells the reply.
 fn push_reply(instrument: &mut Instrument, bytes: &[u8], came: &mut Told) {
     let mut line = Line::new();
     if line.try_extend_from_slice(bytes).is_err() {

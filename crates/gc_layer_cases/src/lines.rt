@@ -1,7 +1,6 @@
 //! Rows of lines: requests and replies read and written again, headers, and what an assembler makes of a piece.
 
-use gc_cases::cut_word;
-use gc_cases::told::{Rows, Told, number_or};
+use gc_cases::{Rows, Told, cut_word, number_or};
 use gc_lines::{
     Assembler, Lent, Line, LineFault, is_plain, push_reply, push_request, read_reply, read_request,
     write_reply, write_request,
@@ -15,6 +14,7 @@ pub struct Lines {
 }
 
 impl Lines {
+    /// An assembler at the start of a line.
     pub fn new() -> Lines {
         Lines {
             assembler: Assembler::new(),
@@ -35,6 +35,7 @@ impl Rows for Lines {
     }
 }
 
+// Tells the line that was written, or the fault.
 fn tell_written(written: Result<Line, LineFault>, came: &mut Told) {
     match written {
         Ok(line) => came.bytes(line.as_slice()),
@@ -42,6 +43,7 @@ fn tell_written(written: Result<Line, LineFault>, came: &mut Told) {
     }
 }
 
+// Tells a request that was read, written anew; or the fault.
 fn request_again(line: &[u8], came: &mut Told) {
     match read_request(line) {
         Ok(request) if is_plain(request.params) => tell_written(write_request(&request), came),
@@ -50,6 +52,7 @@ fn request_again(line: &[u8], came: &mut Told) {
     }
 }
 
+// Tells a reply that was read, written anew; or the fault.
 fn reply_again(line: &[u8], came: &mut Told) {
     match read_reply(line) {
         Ok(reply) if is_plain(reply.params) => tell_written(write_reply(&reply), came),
@@ -58,12 +61,12 @@ fn reply_again(line: &[u8], came: &mut Told) {
     }
 }
 
-// A number of 16 bits.
+// The number of 16 bits that a word is. `None`: the word is none.
 fn number(word: &str) -> Option<u16> {
     u16::try_from(number_or(word, u64::MAX)).ok()
 }
 
-// The header of a request, from its number, or of a reply, from its communication code, its id and its return code.
+// Tells the header of a request, by its number, or of a reply, by its communication code, its id and its return code.
 fn header(words: &str, came: &mut Told) {
     match header_of(words) {
         Some(line) => came.bytes(line.as_slice()),
@@ -71,6 +74,7 @@ fn header(words: &str, came: &mut Told) {
     }
 }
 
+// The header that `header` tells. `None`: a word is no number of 16 bits, or the id is above 7.
 fn header_of(words: &str) -> Option<Line> {
     let (first, rest) = cut_word(words);
     let first = number(first)?;
@@ -88,7 +92,7 @@ fn header_of(words: &str) -> Option<Line> {
     Some(line)
 }
 
-// How many bytes of a piece the assembler used, and what came of them.
+// Tells how many bytes of a piece the assembler used, and the frame that they gave.
 fn piece(assembler: &mut Assembler, piece: &[u8], came: &mut Told) {
     let mut cut = Line::new();
     let (used, lent) = assembler.next(piece, &mut cut);

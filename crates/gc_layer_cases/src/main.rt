@@ -17,8 +17,7 @@ use beginning::Beginnings;
 use calls::Calls;
 use client::play_clients;
 use files::Files;
-use gc_cases::Case;
-use gc_cases::told::{Player, Told, play_folder, play_rows};
+use gc_cases::{Case, Player, Told, play_folder, play_rows};
 use instrument::Instruments;
 use lines::Lines;
 use measuring::Stations;
@@ -28,19 +27,21 @@ use std::io;
 use std::process::ExitCode;
 use values::Values;
 
-// What the rows of a file are of, as its name ends.
+// The layer that the rows of a file play: the end of the file's name.
 #[derive(Drop)]
 struct Layer {
     name: &'static str,
 }
 
 impl Player for Layer {
+    // Plays a case of the layer. It never fails.
     fn play(&self, rt: &HostRuntime, case: &Case<'_>, wrong: &mut Told) -> io::Result<()> {
         play_case(self.name, rt.alloc(), case, wrong);
         Ok(())
     }
 }
 
+// Plays a case of this layer.
 fn play_case(layer: &str, alloc: Global, case: &Case<'_>, wrong: &mut Told) {
     match layer {
         "lines" => play_rows(alloc, case, &mut Lines::new(), wrong),
@@ -55,6 +56,7 @@ fn play_case(layer: &str, alloc: Global, case: &Case<'_>, wrong: &mut Told) {
     }
 }
 
+// Plays all cases. The exit code is 1 where one went wrong.
 fn main(rt: HostRuntime) -> io::Result<ExitCode> {
     let mut are_right = true;
     for name in [

@@ -1,8 +1,7 @@
 //! A station of one page, as `docs/CLIENT.md` shows it: it sends calls to targets, and tells how each request ended. Behind it are the rows
 //! of a case with one.
 
-use gc_cases::cut_word;
-use gc_cases::told::{Rows, Told, number_or};
+use gc_cases::{Rows, Told, bytes_behind, cut_word, number_or};
 use gc_catalogue::{Answer, Call, Reading};
 use gc_client::{Client, Heard, Outcome, Settlement, Slots};
 use gc_lines::{Assembler, Frame};
@@ -17,6 +16,7 @@ struct Station {
 }
 
 impl Station {
+    /// A station that has sent nothing, at the start of a line.
     fn new() -> Station {
         Station {
             client: Client::new(Slots::new()),
@@ -40,7 +40,8 @@ impl Station {
         Ok(true)
     }
 
-    /// Takes the bytes of one read, and the moment after it.
+    /// Takes the bytes of one read, and the moment after it: gives up the requests whose deadline has come, and tells in `told` what the
+    /// bytes settle. `Err`: memory ran out.
     fn hear(&mut self, bytes: &[u8], now: u64, told: &mut String) -> Result<(), AllocError> {
         self.client.expire(now);
         let mut left = bytes;
@@ -52,6 +53,7 @@ impl Station {
         Ok(())
     }
 
+    /// Takes a frame: where it is a line that settles requests, tells how they ended.
     fn hear_frame(&mut self, frame: &Frame, told: &mut String) -> Result<(), AllocError> {
         let Frame::Line(line) = frame else {
             return Ok(());
@@ -67,13 +69,15 @@ impl Station {
         self.assembler = Assembler::new();
     }
 
-    /// Begins anew on such a connection: what waits is lost. A null procedure has to be answered next.
+    /// Begins anew over a connection that was closed, opened again and drained: tells that what waits is lost. A null procedure has to
+    /// be answered next.
     fn begin_anew(&mut self, told: &mut String) -> Result<(), AllocError> {
         self.assembler = Assembler::new();
         tell_all(&self.client.restart(), told)
     }
 }
 
+// Tells how these requests ended, each in a line.
 fn tell_all(settled: &[Settlement], told: &mut String) -> Result<(), AllocError> {
     for settlement in settled {
         tell(settlement, told)?;
@@ -81,7 +85,7 @@ fn tell_all(settled: &[Settlement], told: &mut String) -> Result<(), AllocError>
     Ok(())
 }
 
-// How a request ended, in a line.
+// Tells how a request ended, in a line.
 fn tell(settlement: &Settlement, told: &mut String) -> Result<(), AllocError> {
     let target = settlement.target;
     match &settlement.outcome {
@@ -103,6 +107,7 @@ pub struct Stations {
 }
 
 impl Stations {
+    /// A station that has sent nothing.
     pub fn new(alloc: Global) -> Stations {
         Stations {
             station: Station::new(),
@@ -129,12 +134,13 @@ impl Stations {
         }
     }
 
-    // Hears the bytes behind a moment.
+    // Hands the station the bytes that stand behind a moment, as those that its read gave at that moment.
     fn hear(&mut self, now: &str, bytes: &[u8], told: &mut String) -> Result<(), AllocError> {
-        let read = bytes.get(now.len().saturating_add(1)..).unwrap_or(b"");
+        let read = bytes_behind(now, bytes);
         self.station.hear(read, number_or(now, 0), told)
     }
 
+    // Plays a row at which the station tells how requests ended.
     fn tell(
         &mut self,
         word: &str,
@@ -149,7 +155,7 @@ impl Stations {
         }
     }
 
-    // Tells what the station tells.
+    // Plays a row as `tell` does, and shows in `came` what the station told.
     fn tell_all(&mut self, alloc: Global, word: &str, what: &str, bytes: &[u8], came: &mut Told) {
         let mut told = String::new(alloc);
         if self.tell(word, what, bytes, &mut told).is_err() {

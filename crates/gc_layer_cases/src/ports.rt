@@ -1,22 +1,21 @@
-//! Rows of the ports over a reader and a writer of std: how often a reader is asked and for how much, and what fits into a writer.
+//! Rows of the ports over a reader and a writer of std: how often a reader is asked and for how many bytes, and what fits into a writer.
 
 ghost use Rattle.std.specs.Prelude.{None};
 
-use gc_cases::cut_word;
-use gc_cases::told::{Rows, Told, number_or};
+use gc_cases::{Rows, Told, cut_word, number_or};
 use gc_lines::{FromReader, Line, ReadAhead, Sink, Source, ToWriter, begin_request, write_line};
 use std::alloc::Global;
 use std::cell::Cell;
 use std::io::{self, ErrorKind, Read};
 
-// How often a reader was asked, and for how much the last time.
+// How often a reader was asked, and for how many bytes the last time.
 #[derive(Drop)]
 struct Asked {
     calls: Cell<u64>,
     room: Cell<usize>,
 }
 
-// A reader that gives at most so many bytes a read, and is interrupted at one of them.
+// A reader that gives `left`, at most `most` bytes a read, and is interrupted at read number `fails_at`, counted from 0.
 #[derive(Drop)]
 struct Slow<'a, 'b> {
     left: &'a [u8],
@@ -28,6 +27,7 @@ struct Slow<'a, 'b> {
 impl Read for Slow<'_, '_> {
     ghost remaining = { λ _. None };
 
+    // Notes the call and the room for its bytes, and gives the next bytes, or an interruption at its number.
     fn read(&mut self, buf: &mut [u8]) -> io::Result<usize> {
         let call = self.asked.calls.get();
         self.asked.calls.set(call.saturating_add(1));
@@ -59,8 +59,8 @@ impl Rows for Ports {
     }
 }
 
-// Reads the bytes of the third word through a port, read ahead or not. The first word says how many the reader gives at most, and the
-// second at which call it fails, counted from 0.
+// Reads the bytes of the third word through a port, read ahead or not. The first word says how many the reader gives a read at most, and
+// the second at which read it fails, counted from 0.
 fn read_through(is_ahead: bool, words: &str, came: &mut Told) {
     let (most, rest) = cut_word(words);
     let (fails_at, left) = cut_word(rest);
@@ -81,7 +81,8 @@ fn read_through(is_ahead: bool, words: &str, came: &mut Told) {
     }
 }
 
-// Reads four times into four bytes, by the trait's bound alone.
+// Reads four times into four bytes, by the trait's bound alone, and tells of each read what came and what the reader was asked
+// by then.
 fn read_all<S: Source>(source: &mut S, asked: &Asked, came: &mut Told) {
     for _ in 0..4 {
         read_one(source, came);
@@ -91,6 +92,7 @@ fn read_all<S: Source>(source: &mut S, asked: &Asked, came: &mut Told) {
     }
 }
 
+// Reads once into four bytes, and tells what came and, by `!`, whether the source has failed.
 fn read_one<S: Source>(source: &mut S, came: &mut Told) {
     let mut buf = [0u8; 4];
     match source.read(&mut buf) {
@@ -109,7 +111,7 @@ fn write_through(room: &str, came: &mut Told) {
     write_all(&mut ToWriter::new(&mut bytes[..room]), came);
 }
 
-// Writes by the trait's bound alone.
+// Writes three bytes four times, by the trait's bound alone, and tells how many were taken.
 fn write_all<K: Sink>(sink: &mut K, came: &mut Told) {
     for _ in 0..4 {
         match sink.write(b"abc") {
@@ -120,13 +122,14 @@ fn write_all<K: Sink>(sink: &mut K, came: &mut Told) {
     }
 }
 
-// Writes a line three times, and tells what was taken.
+// Writes a line three times into 16 bytes, and tells what they then hold.
 fn write_lines(room: &mut [u8; 16], came: &mut Told) {
     let line = begin_request(0, Some(1));
     write_thrice(&mut ToWriter::new(&mut room[..]), &line, came);
     came.bytes(room.as_slice());
 }
 
+// Writes a line three times, and tells of each time whether it went out whole.
 fn write_thrice<K: Sink>(sink: &mut K, line: &Line, came: &mut Told) {
     for _ in 0..3 {
         match write_line(sink, line) {

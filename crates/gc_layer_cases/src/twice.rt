@@ -2,7 +2,7 @@
 
 use crate::calls::call_of;
 use crate::instrument::hand_in;
-use gc_cases::told::Told;
+use gc_cases::Told;
 use gc_instrument::Instrument;
 
 // Requests whose calls are carried out between a request and its repeat, without a line: whatever can be set is set to something
@@ -18,20 +18,22 @@ const ALL_SET: [&[u8]; 8] = [
     b"%R1Q,2008,0:1,1",
 ];
 
+// Carries out the calls of `ALL_SET`.
 fn set_all(instrument: &mut Instrument) {
     for line in ALL_SET.as_slice() {
         execute(instrument, line);
     }
 }
 
+// Carries out the call of a request's line.
 fn execute(instrument: &mut Instrument, line: &[u8]) {
     if let Some(call) = call_of(line) {
         let _ = instrument.execute(&call);
     }
 }
 
-/// Hands a request to a new simulator, sets all, and hands it in again: the replies with the ids that are kept, and the distance,
-/// which is as it was set.
+/// Hands a request to a new simulator, sets all, and hands the same request in again. Tells both replies with the ids that are kept,
+/// and the distance, which has to be as it was set.
 pub fn ask_twice(request: &[u8], came: &mut Told) {
     let mut instrument = Instrument::simulator();
     hand_in(&mut instrument, request, came);
@@ -41,6 +43,7 @@ pub fn ask_twice(request: &[u8], came: &mut Told) {
     tell_distance(&instrument, came)
 }
 
+// Tells the distance, if there is one.
 fn tell_distance(instrument: &Instrument, came: &mut Told) {
     match instrument.distance() {
         Some(distance) => came.titled("; as set ", &distance),

@@ -2,8 +2,7 @@
 
 ghost use Rattle.std.specs.Prelude.{◌≤◌};
 
-use gc_cases::cut_word;
-use gc_cases::told::{Rows, Told, number_or};
+use gc_cases::{Rows, Told, cut_word, number_or};
 use gc_values::{
     Decimal, Items, Kind, Text, Value, ValueFault, read_bool, read_byte, read_long, read_text,
     read_whole, split,
@@ -31,7 +30,7 @@ impl Rows for Values {
     }
 }
 
-// Reads an item.
+// Reads an item of the kind that the word says, and tells its value.
 fn play_item(word: &str, item: &[u8], came: &mut Told) {
     match word {
         "byte" => tell_read(read_byte(item), came),
@@ -42,7 +41,7 @@ fn play_item(word: &str, item: &[u8], came: &mut Told) {
     }
 }
 
-// What was read, or the fault.
+// Tells the value that was read, or the fault.
 fn tell_read<T: fmt::Display + Drop>(read: Result<T, ValueFault>, came: &mut Told) {
     match read {
         Ok(value) => came.display(&value),
@@ -50,7 +49,7 @@ fn tell_read<T: fmt::Display + Drop>(read: Result<T, ValueFault>, came: &mut Tol
     }
 }
 
-// How many items a list has, and each in angle brackets.
+// Tells the items of a list, or the fault.
 fn split_list(list: &[u8], came: &mut Told) {
     match split(list) {
         Ok(items) => tell_items(&items, came),
@@ -58,6 +57,7 @@ fn split_list(list: &[u8], came: &mut Told) {
     }
 }
 
+// Tells how many items there are, and each in angle brackets.
 fn tell_items(items: &Items<'_>, came: &mut Told) {
     came.counted(&items.len(), " items");
     for k in 0..items.len() {
@@ -67,7 +67,7 @@ fn tell_items(items: &Items<'_>, came: &mut Told) {
     }
 }
 
-// The decimals of two words.
+// The decimals of two words. `None`: a word is no decimal.
 fn two_decimals(words: &str) -> Option<(Decimal, Decimal)> {
     let (first, second) = cut_word(words);
     match (
@@ -79,7 +79,7 @@ fn two_decimals(words: &str) -> Option<(Decimal, Decimal)> {
     }
 }
 
-// A decimal of its digits and its scale: both as it keeps them, and its text.
+// Makes a decimal of digits and a scale, and tells both as the decimal keeps them, and its text.
 fn new_decimal(words: &str, came: &mut Told) {
     let (digits, scale) = cut_word(words);
     let digits = i128::from(read_long(digits.as_bytes()).unwrap_or(0));
@@ -89,17 +89,19 @@ fn new_decimal(words: &str, came: &mut Told) {
     }
 }
 
+// Tells a decimal's digits, its scale and its text.
 fn tell_parts(decimal: &Decimal, came: &mut Told) {
     came.titled("digits ", &decimal.digits());
     came.titled(" scale ", &decimal.scale());
     came.titled(" text ", decimal);
 }
 
-// A number of 8 bits.
+// The number of 8 bits that a word is, and 255 for any other word.
 fn small_number(word: &str) -> u8 {
     u8::try_from(number_or(word, 255)).unwrap_or(255)
 }
 
+// Tells how the decimals of two words compare.
 fn compare(words: &str, came: &mut Told) {
     match two_decimals(words) {
         Some((first, second)) => came.debug(&first.cmp(&second)),
@@ -107,7 +109,7 @@ fn compare(words: &str, came: &mut Told) {
     }
 }
 
-// A decimal, rounded to as many places as the first word says, at most 24.
+// Tells the decimal that the second word is, rounded to as many places as the first word says, at most 24; or the fault.
 fn round(words: &str, came: &mut Told) {
     let (places, text) = cut_word(words);
     match Decimal::read(text.as_bytes()) {
@@ -116,13 +118,14 @@ fn round(words: &str, came: &mut Told) {
     }
 }
 
+// Tells the text of a decimal rounded to this many places.
 fn round_to(decimal: &Decimal, places: u8, came: &mut Told)
     requires { places ≤ 24 }
 {
     came.bytes(decimal.round(places).write().as_slice());
 }
 
-// Whether a decimal is within an area, the last word, round another.
+// Tells whether a decimal is within an area, the last word, round another one.
 fn within(words: &str, came: &mut Told) {
     let (value, rest) = cut_word(words);
     match (Decimal::read(value.as_bytes()), two_decimals(rest)) {
@@ -131,13 +134,13 @@ fn within(words: &str, came: &mut Told) {
     }
 }
 
-// A number up to the first word.
+// Reads the second word as a whole number of at most the first word, and tells the number or the fault.
 fn whole(words: &str, came: &mut Told) {
     let (most, item) = cut_word(words);
     tell_read(read_whole(item.as_bytes(), number_or(most, 0)), came);
 }
 
-// How many bytes a string has, and these bytes.
+// Tells the string that was read, or the fault.
 fn tell_text(read: Result<Text, ValueFault>, came: &mut Told) {
     match read {
         Ok(text) => tell_bytes(&text, came),
@@ -145,12 +148,14 @@ fn tell_text(read: Result<Text, ValueFault>, came: &mut Told) {
     }
 }
 
+// Tells how many bytes a string has, these bytes, and whether it equals the empty one.
 fn tell_bytes(text: &Text, came: &mut Told) {
     came.counted(&text.as_bytes().len(), " bytes ");
     came.bytes(text.as_bytes());
     came.either(*text == Text::empty(), "as the empty one", "");
 }
 
+// The kind of this name.
 fn kind_of(word: &str) -> Option<Kind> {
     match word {
         "Double" => Some(Kind::Double),
@@ -163,7 +168,7 @@ fn kind_of(word: &str) -> Option<Kind> {
     }
 }
 
-// An item, read as a value of the kind that the word says, and written.
+// Reads an item as a value of the kind that the word names, and tells the text that is written of the value.
 fn typed(word: &str, item: &[u8], came: &mut Told) {
     match kind_of(word) {
         Some(kind) => read_as(kind, item, came),
@@ -171,6 +176,7 @@ fn typed(word: &str, item: &[u8], came: &mut Told) {
     }
 }
 
+// Reads an item as a value of this kind, and tells its text, or the fault.
 fn read_as(kind: Kind, item: &[u8], came: &mut Told) {
     match Value::read(kind, item) {
         Ok(value) => came.bytes(value.write().as_slice()),

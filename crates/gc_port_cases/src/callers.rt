@@ -4,24 +4,26 @@
 //!     do again 39 %R1Q,0,0:\r\n    the last caller writes this so many times more
 //!     do shut, leave           the last caller writes no more, or goes away
 //!     do serve 2 9             so many callers are served, in so many reads each
-//!     do keep 3                a port that is kept serves so many, which are idle behind a second
+//!     do keep 3                so many callers are served at a kept port, which leaves one that is idle for a second
 //!     do hear 0                what this caller, counted from 0, has heard at the end of its connection, or that it waits
 //!     do ask 9 7 5003\n        these commands are asked at the port, in so many reads
-//!     do accept                who asked is one more caller
+//!     do accept                the connection that an asking made is accepted, and its end here is one more caller
 //!     do listen [::1]          another port, of this address; where the machine hasn't such addresses, `at` is done
 //!     do at [::1]              a text without commands is asked there
-//!     do port 7                the same at this port, by its number and as a place, and it is served
+//!     do port 7                a text without commands is asked at this port, by its number and as a place, and the port is served
 //!     do ends, cut_ends        in ends.rt
 
+ghost use Rattle.std.specs.Prelude.{◌≤◌};
+
 use crate::ends::{tell_cut_ends, tell_ends, told_word};
-use crate::streams::{accepted, at, bounded, heard};
+use crate::streams::{accepted, at, bounded, hear};
 use gc_ask::{Keeping, ask_at, ask_tcp, keep_on, serve_on, serve_tcp};
-use gc_cases::{Case, Player, Rows, bytes_of, cut_word, play_rows, push_bytes};
+use gc_cases::{Case, Player, Rows, Told, bytes_behind, cut_word, play_rows};
 use gc_instrument::Instrument;
 use gc_links::Place;
 use gc_probes::{PieceSink, PieceSource};
 use gc_texts::{RunFault, number_of};
-use std::alloc::{AllocError, Global};
+use std::alloc::Global;
 use std::io::{self, Write};
 use std::net::{Ipv6Addr, Shutdown, SocketAddr, TcpListener, TcpStream};
 
@@ -29,21 +31,22 @@ use std::net::{Ipv6Addr, Shutdown, SocketAddr, TcpListener, TcpStream};
 pub struct Callers;
 
 impl Player for Callers {
-    fn ending(&self) -> &'static str {
-        ".callers"
+    fn play(&self, rt: &HostRuntime, case: &Case<'_>, wrong: &mut Told) -> io::Result<()> {
+        let listener = TcpListener::bind(rt, at(0))?;
+        play_at(rt, listener, case, wrong);
+        Ok(())
     }
+}
 
-    fn play(&self, rt: &HostRuntime, case: &Case<'_>, wrong: &mut String) -> io::Result<()> {
-        let alloc = rt.alloc();
-        let mut played = Played {
-            rt,
-            listener: TcpListener::bind(rt, at(0))?,
-            is_absent: false,
-            instrument: Instrument::simulator(),
-            callers: Vec::new(alloc),
-        };
-        Ok(play_rows(alloc, case, &mut played, wrong)?)
-    }
+fn play_at(rt: &HostRuntime, listener: TcpListener, case: &Case<'_>, wrong: &mut Told) {
+    let mut played = Played {
+        rt,
+        listener,
+        is_absent: false,
+        instrument: Instrument::simulator(),
+        callers: Vec::new(rt.alloc()),
+    };
+    play_rows(rt.alloc(), case, &mut played, wrong);
 }
 
 // A port and its callers.
@@ -58,34 +61,22 @@ struct Played<'a> {
 }
 
 impl<'a> Rows for Played<'a> {
-    fn play(
-        &mut self,
-        alloc: Global,
-        word: &str,
-        what: &str,
-        _bytes: &[u8],
-        came: &mut String,
-    ) -> Result<(), AllocError> {
+    fn play(&mut self, alloc: Global, word: &str, what: &str, bytes: &[u8], came: &mut Told) {
         match word {
-            "call" | "again" | "shut" | "leave" | "accept" | "listen" => {
-                if self.prepare(alloc, word, what).is_err() {
-                    came.push_str("it can't be done")?;
-                }
-                Ok(())
-            }
             "serve" => self.serve(what, came),
             "keep" => self.keep(alloc, what, came),
             "hear" => self.hear(alloc, what, came),
-            "ask" => self.ask(alloc, what, came),
+            "ask" => self.ask(alloc, cut_word(what).0, bytes, came),
             "at" => self.ask_at(alloc, what, came),
             "port" => self.ask_port(alloc, what, came),
             "ends" => tell_ends(alloc, came),
             "cut_ends" => tell_cut_ends(came),
-            _ => came.push_str("an unknown word"),
+            _ => self.prepare(word, what, bytes, came),
         }
     }
 }
 
+// The number that digits write, where it is at most `most`; else 0.
 fn number(digits: &str, most: u64) -> u64 {
     number_of(digits.as_bytes(), most).unwrap_or(0)
 }
@@ -94,81 +85,109 @@ fn small_number(digits: &str, most: u32) -> u32 {
     u32::try_from(number(digits, u64::from(most))).unwrap_or(0)
 }
 
-// How a call ended.
-fn tell_end(end: Result<(), RunFault>, came: &mut String) -> Result<(), AllocError> {
+// Tells how an asking or a serving ended, without the number of replies behind which a write failed: that is the system's affair.
+fn tell_end(end: Result<(), RunFault>, came: &mut Told) {
     match end {
-        Ok(()) => came.push_str("done"),
+        Ok(()) => came.text("done"),
         Err(RunFault::Write { replies, bytes }) if replies > 0 => {
-            write!(came, "fault 43 reply + byte {bytes}")
+            came.titled("fault 43 reply + byte ", &bytes)
         }
-        Err(fault) => write!(came, "{fault}"),
+        Err(fault) => came.display(&fault),
     }
 }
 
-// These lines, with `+` for the count of the first of them behind `reply`: how many the system took is its own affair.
-fn push_uncounted(lines: &str, came: &mut String) -> Result<(), AllocError> {
+// Tells these lines, with `+` for the number behind the first `reply`: how many replies the system took is its own affair.
+fn tell_uncounted(lines: &str, came: &mut Told) {
     let Some((front, behind)) = lines.split_once(" reply ") else {
-        return came.push_str(lines);
+        return came.text(lines);
     };
-    let rest = behind.split_once(" byte ").map_or(behind, |cut| cut.1);
-    write!(came, "{front} reply + byte {rest}")
+    came.text(front);
+    came.text(" reply + byte ");
+    came.text(behind.split_once(" byte ").map_or(behind, |cut| cut.1));
 }
 
 impl<'a> Played<'a> {
-    // What a caller does.
-    fn prepare(&mut self, alloc: Global, word: &str, what: &str) -> io::Result<()> {
+    // Plays a row in which a caller does something, or in which another port is listened at.
+    fn prepare(&mut self, word: &str, what: &str, bytes: &[u8], came: &mut Told) {
         match word {
-            "call" => {
-                let stream = TcpStream::connect(self.rt, self.listener.local_addr()?)?;
-                self.callers.push(bounded(stream)?)?;
-                self.write(alloc, what)
-            }
-            "again" => {
-                let (times, what) = cut_word(what);
-                for _ in 0..number(times, 1000) {
-                    self.write(alloc, what)?;
-                }
-                Ok(())
-            }
-            "shut" => match self.callers.last() {
-                Some(caller) => caller.shutdown(Shutdown::Write),
-                None => Ok(()),
-            },
-            "accept" => {
-                self.callers.push(accepted(&self.listener)?)?;
-                Ok(())
-            }
-            "listen" => self.listen(what),
-            _ => {
-                drop(self.callers.pop());
-                Ok(())
+            "call" => tell_done(self.call(bytes), came),
+            "again" => tell_done(self.write_again(cut_word(what).0, bytes), came),
+            "shut" => tell_done(self.shut(), came),
+            "leave" => drop(self.callers.pop()),
+            "accept" => tell_done(self.accept(), came),
+            "listen" => tell_done(self.listen(what), came),
+            _ => came.text("an unknown word"),
+        }
+    }
+
+    // Connects one more caller, who writes these bytes, and says whether that could be done.
+    fn call(&mut self, bytes: &[u8]) -> bool {
+        let stream = connected(self.rt, &self.listener);
+        self.keep_caller(stream) && self.write(bytes)
+    }
+
+    // Accepts the connection that an asking made, and says whether its end could be kept as one more caller.
+    fn accept(&mut self) -> bool {
+        let stream = accepted(&self.listener);
+        self.keep_caller(stream)
+    }
+
+    // Keeps the end of a connection as one more caller, and says whether there is one.
+    fn keep_caller(&mut self, stream: io::Result<TcpStream>) -> bool {
+        match stream {
+            Ok(stream) => self.callers.push(stream).is_ok(),
+            Err(_) => false,
+        }
+    }
+
+    // The last caller writes what stands in `bytes` behind the number `times`, so many times.
+    fn write_again(&mut self, times: &str, bytes: &[u8]) -> bool {
+        for _ in 0..number(times, 1000) {
+            if !self.write(bytes_behind(times, bytes)) {
+                return false;
             }
         }
+        true
     }
 
     // The last caller writes these bytes.
-    fn write(&mut self, alloc: Global, what: &str) -> io::Result<()> {
-        let bytes = bytes_of(alloc, what)?;
+    fn write(&mut self, bytes: &[u8]) -> bool {
         match self.callers.last_mut() {
-            Some(caller) => caller.write_all(bytes.as_slice()),
-            None => Ok(()),
+            Some(caller) => caller.write_all(bytes).is_ok(),
+            None => true,
         }
     }
 
-    fn listen(&mut self, what: &str) -> io::Result<()> {
+    // The last caller writes no more.
+    fn shut(&self) -> bool {
+        match self.callers.last() {
+            Some(caller) => caller.shutdown(Shutdown::Write).is_ok(),
+            None => true,
+        }
+    }
+
+    // Listens at another port of this address from now on. Where the machine hasn't the IPv6 address, that is noted.
+    fn listen(&mut self, what: &str) -> bool {
         if what == "127.0.0.2" {
             let address = SocketAddr::from(([127, 0, 0, 2], 0));
-            self.listener = TcpListener::bind(self.rt, address)?;
-            return Ok(());
+            return self.listen_by(TcpListener::bind(self.rt, address));
         }
-        match TcpListener::bind(self.rt, (Ipv6Addr::LOCALHOST, 0)) {
-            Ok(listener) => self.listener = listener,
-            Err(_) => self.is_absent = true,
-        }
-        Ok(())
+        self.is_absent = !self.listen_by(TcpListener::bind(self.rt, (Ipv6Addr::LOCALHOST, 0)));
+        true
     }
 
-    fn serve(&mut self, what: &str, came: &mut String) -> Result<(), AllocError> {
+    // Takes this listener from now on, if there is one, and says whether there is.
+    fn listen_by(&mut self, listener: io::Result<TcpListener>) -> bool {
+        match listener {
+            Ok(listener) => {
+                self.listener = listener;
+                true
+            }
+            Err(_) => false,
+        }
+    }
+
+    fn serve(&mut self, what: &str, came: &mut Told) {
         let (count, reads) = cut_word(what);
         let count = small_number(count, 9).min(1000);
         let reads = small_number(reads, 9);
@@ -176,7 +195,7 @@ impl<'a> Played<'a> {
         tell_end(end, came)
     }
 
-    fn keep(&mut self, alloc: Global, what: &str, came: &mut String) -> Result<(), AllocError> {
+    fn keep(&mut self, alloc: Global, what: &str, came: &mut Told) {
         let keeping = Keeping {
             connections: Some(small_number(what, 9)),
             idle: 1,
@@ -190,74 +209,70 @@ impl<'a> Played<'a> {
             &mut self.instrument,
             &mut messages,
         );
-        write!(came, "{}: ", told_word(all))?;
-        push_uncounted(
-            str::from_utf8(messages.as_slice()).unwrap_or("no text"),
-            came,
-        )
+        tell_kept(all, messages.as_slice(), came);
     }
 
-    fn hear(&mut self, alloc: Global, what: &str, came: &mut String) -> Result<(), AllocError> {
+    // Tells what the caller of this place has heard. A place above 9 counts as 0, as everything does that isn't a digit.
+    fn hear(&mut self, alloc: Global, what: &str, came: &mut Told) {
         let place = usize::try_from(number(what, 9)).unwrap_or(usize::MAX);
-        let Some(caller) = self.callers.get_mut(place) else {
-            return came.push_str("no such caller");
-        };
-        let Some(bytes) = heard(alloc, caller) else {
-            return came.push_str("it waits");
-        };
-        if bytes.is_empty() {
-            return came.push_str("the end");
+        match self.callers.get_mut(place) {
+            Some(caller) => tell_heard(alloc, caller, came),
+            None => came.text("no such caller"),
         }
-        came.push_str("the end behind ")?;
-        push_bytes(came, bytes.as_slice())
     }
 
-    // Asks these commands at the port.
-    fn ask(&mut self, alloc: Global, what: &str, came: &mut String) -> Result<(), AllocError> {
-        let (reads, commands) = cut_word(what);
-        let commands = bytes_of(alloc, commands)?;
+    // Asks the commands behind the number of reads at the port.
+    fn ask(&mut self, alloc: Global, reads: &str, bytes: &[u8], came: &mut Told) {
         let port = port_of(&self.listener);
         if port == 0 {
-            return came.push_str("no port");
+            return came.text("no port");
         }
-        let mut source = PieceSource::new(commands.as_slice(), &[], u64::MAX);
+        let mut source = PieceSource::new(bytes_behind(reads, bytes), &[], u64::MAX);
         let mut sink = PieceSink::new(alloc, 1000, u64::MAX);
         let reads = small_number(reads, 9);
         let end = ask_tcp(self.rt, alloc, port, &mut source, &mut sink, reads);
-        push_bytes(came, sink.taken())?;
+        came.bytes(sink.taken());
         tell_end(end, came)
     }
 
-    // Asks nothing at an address, or by a name, with the port.
-    fn ask_at(&mut self, alloc: Global, what: &str, came: &mut String) -> Result<(), AllocError> {
+    // Asks a text without commands at this address or name, with the listener's port.
+    fn ask_at(&mut self, alloc: Global, what: &str, came: &mut Told) {
         if self.is_absent {
-            return came.push_str("done");
+            return came.text("done");
         }
-        let port = port_of(&self.listener);
-        let name = format!(in alloc; "{what}:{port}")?;
-        let end = ask_place(self.rt, alloc, Place::Host(name.as_str()));
-        tell_end(end, came)
+        let mut name = Told::new(alloc);
+        name.text(what);
+        name.titled(":", &port_of(&self.listener));
+        let name = str::from_utf8(name.as_bytes()).unwrap_or("");
+        tell_end(ask_place(self.rt, alloc, Place::Host(name)), came)
     }
 
-    fn ask_port(&mut self, alloc: Global, what: &str, came: &mut String) -> Result<(), AllocError> {
+    fn ask_port(&mut self, alloc: Global, what: &str, came: &mut Told) {
         let port = u16::try_from(number(what, 65535)).unwrap_or(0);
         if port == 0 {
-            return came.push_str("no port");
+            return came.text("no port");
         }
-        // At 1024 somebody may listen, who is no port below it, and is not connected to.
+        // A listener at 1024: a port below that is no other one, so nothing connects there.
         let _other = TcpListener::bind(self.rt, at(1024));
-        let mut none = PieceSource::new(b"", &[], u64::MAX);
-        let mut sink = PieceSink::new(alloc, 1000, u64::MAX);
-        tell_end(ask_tcp(self.rt, alloc, port, &mut none, &mut sink, 9), came)?;
-        came.push_str(", ")?;
-        tell_end(ask_place(self.rt, alloc, Place::Port(port)), came)?;
-        came.push_str(", ")?;
-        // It is in use, or not for us.
+        tell_asked(self.rt, alloc, port, came);
+        // Serving fails then: the port is in use, or this user can't bind it.
         let _taken = TcpListener::bind(self.rt, at(port));
         tell_end(serve_tcp(self.rt, port, 1, &mut self.instrument, 9), came)
     }
 }
 
+// Tells nothing of an act that was done, and of another one that it can't be.
+fn tell_done(is_done: bool, came: &mut Told) {
+    came.either(is_done, "", "it can't be done");
+}
+
+// The end of a new connection to a port.
+fn connected(rt: &HostRuntime, listener: &TcpListener) -> io::Result<TcpStream> {
+    let address = listener.local_addr()?;
+    bounded(TcpStream::connect(rt, address)?)
+}
+
+// The port of a listener; 0 where the system doesn't say.
 fn port_of(listener: &TcpListener) -> u16 {
     match listener.local_addr() {
         Ok(address) => address.port(),
@@ -265,9 +280,44 @@ fn port_of(listener: &TcpListener) -> u16 {
     }
 }
 
+// Tells whether all lines on the callers of a kept port were written, and these lines.
+fn tell_kept(all: bool, messages: &[u8], came: &mut Told) {
+    came.text(told_word(all));
+    came.text(": ");
+    tell_uncounted(str::from_utf8(messages).unwrap_or("no text"), came);
+}
+
+// Tells what a caller hears until the end of its connection, or that it still waits.
+fn tell_heard(alloc: Global, caller: &mut TcpStream, came: &mut Told) {
+    let mut bytes = Vec::new(alloc);
+    let is_end = hear(caller, &mut bytes);
+    tell_bytes(is_end, bytes.as_slice(), came);
+}
+
+// Tells these bytes as what a caller heard until the end, or that it still waits.
+fn tell_bytes(is_end: bool, bytes: &[u8], came: &mut Told) {
+    if !is_end {
+        return came.text("it waits");
+    }
+    came.either(bytes.is_empty(), "the end", "the end behind ");
+    came.bytes(bytes);
+}
+
 // Asks a text without commands at a place.
 fn ask_place(rt: &HostRuntime, alloc: Global, place: Place<'_>) -> Result<(), RunFault> {
     let mut none = PieceSource::new(b"", &[], u64::MAX);
     let mut sink = PieceSink::new(alloc, 1000, u64::MAX);
     ask_at(rt, alloc, place, &mut none, &mut sink, 9)
+}
+
+// Tells what asking a text without commands comes to at a port: by its number, and then as a place.
+fn tell_asked(rt: &HostRuntime, alloc: Global, port: u16, came: &mut Told)
+    requires { 1 ≤ port }
+{
+    let mut none = PieceSource::new(b"", &[], u64::MAX);
+    let mut sink = PieceSink::new(alloc, 1000, u64::MAX);
+    tell_end(ask_tcp(rt, alloc, port, &mut none, &mut sink, 9), came);
+    came.text(", ");
+    tell_end(ask_place(rt, alloc, Place::Port(port)), came);
+    came.text(", ");
 }

@@ -4,8 +4,9 @@
 use crate::links::{dots, put_of, silence_of};
 use crate::rig::{Done, Rig};
 use crate::streams::at;
+use gc_cases::Told;
 use gc_links::{Came, Link, Place, PlacedLink, TcpLink, Unusable};
-use std::alloc::{AllocError, Global};
+use std::alloc::Global;
 use std::cell::RefCell;
 use std::fs::{File, OpenOptions};
 use std::net::{TcpStream, UdpSocket};
@@ -14,23 +15,18 @@ use std::os::unix::net::UnixStream;
 use std::time::Duration;
 use std::{io, thread};
 
-/// Tells what a row of these comes to.
-pub fn tell_placed(
-    rt: &HostRuntime,
-    alloc: Global,
-    word: &str,
-    came: &mut String,
-) -> Result<(), AllocError> {
+/// Tells what the row of this word comes to.
+pub fn tell_placed(rt: &HostRuntime, alloc: Global, word: &str, came: &mut Told) {
     match word {
         "device" => tell_device(rt, alloc, came),
-        "pulled" => came.push_str(pulled(rt).text()),
-        "second_address" => came.push_str(second_address(rt).unwrap_or(Told::Nothing).text()),
-        "own_connection" => came.push_str(own_connection(rt).unwrap_or(Told::Nothing).text()),
-        _ => came.push_str("an unknown word"),
+        "pulled" => came.text(pulled(rt).text()),
+        "second_address" => came.text(second_address(rt).text()),
+        "own_connection" => came.text(own_connection(rt).text()),
+        _ => came.text("an unknown word"),
     }
 }
 
-// A terminal that nobody reads or writes at the other end. None: this machine has none.
+// A terminal that nobody reads or writes at the other end, opened to be written, and with `reads` to be read. None: this machine has none.
 fn terminal(rt: &HostRuntime, reads: bool) -> Option<File> {
     OpenOptions::new()
         .read(reads)
@@ -41,12 +37,12 @@ fn terminal(rt: &HostRuntime, reads: bool) -> Option<File> {
 
 // What a link came to.
 #[derive(Clone, Copy)]
-enum Told {
-    // The connections or the clock that it wants couldn't be had.
+enum Outcome {
+    // The connections or the clock that the link needs couldn't be had.
     Nothing,
     // Another program holds the device.
     Held,
-    // A second link could be had to it.
+    // A second link to the device could be had.
     Shared,
     Shut,
     Open,
@@ -61,37 +57,43 @@ enum Told {
     Device,
 }
 
-impl Told {
+impl Outcome {
     fn text(self) -> &'static str {
         match self {
-            Told::Nothing => "it can't be had",
-            Told::Held => "held by another program",
-            Told::Shared => "not held",
-            Told::Shut => "shut",
-            Told::Open => "open",
-            Told::Unquiet => "not silent in its time",
-            Told::Uncut => "not cut in a put",
-            Told::Failure => "failure",
-            Told::NoFailure => "no failure",
-            Told::Device => "held for a second link, silent in its time, cut in a put",
+            Outcome::Nothing => "it can't be had",
+            Outcome::Held => "held by another program",
+            Outcome::Shared => "not held",
+            Outcome::Shut => "shut",
+            Outcome::Open => "open",
+            Outcome::Unquiet => "not silent in its time",
+            Outcome::Uncut => "not cut in a put",
+            Outcome::Failure => "failure",
+            Outcome::NoFailure => "no failure",
+            Outcome::Device => "held for a second link, silent in its time, cut in a put",
         }
     }
 }
 
-// A device that a link has is refused to a second one. Where nothing comes, a read has its time. Where nobody reads, a put is cut once
-// the system takes no more.
-fn tell_device(rt: &HostRuntime, alloc: Global, came: &mut String) -> Result<(), AllocError> {
-    let (Some(one), Some(other)) = (terminal(rt, true), terminal(rt, true)) else {
-        return came.push_str(Told::Device.text());
-    };
-    let much = dots(alloc, 1_000_000)?;
-    let devices = [one, other];
-    let told = line_told(rt, devices.as_slice(), much.as_slice());
-    came.push_str(told.text())
+// Tells what a link over a device comes to.
+fn tell_device(rt: &HostRuntime, alloc: Global, came: &mut Told) {
+    match dots(alloc, 1_000_000) {
+        Ok(much) => came.text(device(rt, much.as_slice()).text()),
+        Err(_) => came.lack(),
+    }
 }
 
-// What a link to the first of two devices comes to.
-fn line_told(rt: &HostRuntime, devices: &[File], much: &[u8]) -> Told {
+// What a link over a device comes to. It should refuse the device to a second link, take its time for a read where nothing comes, and
+// cut a put once the system takes no more. A machine without such devices counts as right.
+fn device(rt: &HostRuntime, much: &[u8]) -> Outcome {
+    match (terminal(rt, true), terminal(rt, true)) {
+        (Some(one), Some(other)) => line_outcome(rt, [one, other].as_slice(), much),
+        _ => Outcome::Device,
+    }
+}
+
+// What a link to the first of two devices comes to: whether it can be had, whether the second, which is the same device, is refused then,
+// and what the link's acts come to.
+fn line_outcome(rt: &HostRuntime, devices: &[File], much: &[u8]) -> Outcome {
     let done = RefCell::new(Done::nothing());
     let rig = Rig {
         devices,
@@ -99,15 +101,15 @@ fn line_told(rt: &HostRuntime, devices: &[File], much: &[u8]) -> Told {
         done: &done,
     };
     let Some(mut link) = link_to(rt, &rig) else {
-        return Told::Held;
+        return Outcome::Held;
     };
     if !is_held(&rig) {
-        return Told::Shared;
+        return Outcome::Shared;
     }
-    acts_told(&mut link, much)
+    acts_outcome(&mut link, much)
 }
 
-// Whether the second device is refused, since the first is the same one.
+// Whether the second device is refused as held: it is the same one as the first, which a link has.
 fn is_held(rig: &Rig<'_, '_, '_>) -> bool {
     match PlacedLink::new(rig, Place::Device("/dev/1")) {
         Err(Some(unusable)) => unusable == Unusable::Held,
@@ -116,21 +118,22 @@ fn is_held(rig: &Rig<'_, '_, '_>) -> bool {
 }
 
 // What an opening, a read and a put come to.
-fn acts_told<L: Link>(link: &mut L, much: &[u8]) -> Told {
+fn acts_outcome<L: Link>(link: &mut L, much: &[u8]) -> Outcome {
     if link.open().is_err() {
-        return Told::Shut;
+        return Outcome::Shut;
     }
     if silence_of(link, 100) < 100 {
-        return Told::Unquiet;
+        return Outcome::Unquiet;
     }
     let sent = put_of(link, much);
     if sent == 0 || sent >= much.len() {
-        return Told::Uncut;
+        return Outcome::Uncut;
     }
-    Told::Device
+    Outcome::Device
 }
 
-// A link to the first device of a rig. All such terminals have one lock, so another run of these cases may hold it for a moment.
+// A link to the first device of a rig. All such terminals have one lock, so another run of these cases may hold it for a moment. None: it
+// was held for four seconds.
 fn link_to<'a, 'b, 'c, 'd>(
     rt: &HostRuntime,
     rig: &'a Rig<'b, 'c, 'd>,
@@ -144,10 +147,10 @@ fn link_to<'a, 'b, 'c, 'd>(
     None
 }
 
-// A device of which each read fails, as of one that was pulled out.
-fn pulled(rt: &HostRuntime) -> Told {
+// What a link comes to over a device of which each read fails, as of one that was pulled out: it can't be read.
+fn pulled(rt: &HostRuntime) -> Outcome {
     let Some(device) = terminal(rt, false) else {
-        return Told::Failure;
+        return Outcome::Failure;
     };
     let devices = [device];
     let done = RefCell::new(Done::nothing());
@@ -157,36 +160,37 @@ fn pulled(rt: &HostRuntime) -> Told {
         done: &done,
     };
     match link_to(rt, &rig) {
-        Some(mut link) => failure_told(&mut link),
-        None => Told::Held,
+        Some(mut link) => failure_outcome(&mut link),
+        None => Outcome::Held,
     }
 }
 
-fn failure_told<L: Link>(link: &mut L) -> Told {
+// What an opening of this link, and a read, come to.
+fn failure_outcome<L: Link>(link: &mut L) -> Outcome {
     if link.open().is_err() {
-        return Told::Shut;
+        return Outcome::Shut;
     }
     let mut buf = [0; 8];
     match link.read(&mut buf, 100) {
-        Came::Failure => Told::Failure,
-        _ => Told::NoFailure,
+        Came::Failure => Outcome::Failure,
+        _ => Outcome::NoFailure,
     }
 }
 
 // What an opening of this link, and a put, come to.
-fn opening_told<L: Link>(link: &mut L) -> Told {
+fn opening_outcome<L: Link>(link: &mut L) -> Outcome {
     if link.open().is_err() {
-        return Told::Shut;
+        return Outcome::Shut;
     }
     if link.put(b"abc").is_err() {
-        return Told::Shut;
+        return Outcome::Shut;
     }
     link.close();
-    Told::Open
+    Outcome::Open
 }
 
-// A link over these connections to a name with two addresses.
-fn named_told(connections: &[Option<TcpStream>]) -> Told {
+// What a link to a name with two addresses comes to, over these connections.
+fn named_outcome(connections: &[Option<TcpStream>]) -> Outcome {
     let done = RefCell::new(Done::nothing());
     let rig = Rig {
         devices: &[],
@@ -194,8 +198,8 @@ fn named_told(connections: &[Option<TcpStream>]) -> Told {
         done: &done,
     };
     match named_link(&rig) {
-        Some(mut link) => opening_told(&mut link),
-        None => Told::Nothing,
+        Some(mut link) => opening_outcome(&mut link),
+        None => Outcome::Nothing,
     }
 }
 
@@ -203,17 +207,27 @@ fn named_link<'a, 'b, 'c, 'd>(rig: &'a Rig<'b, 'c, 'd>) -> Option<TcpLink<'a, Ri
     TcpLink::to_host(rig, "station:4001").ok()
 }
 
-// The first address of the name doesn't answer, the second does.
-fn second_address(rt: &HostRuntime) -> io::Result<Told> {
-    let (near, _far) = UnixStream::pair(rt)?;
-    let connections = [None, Some(TcpStream::from(OwnedFd::from(near)))];
-    Ok(named_told(connections.as_slice()))
+// What a link comes to where the first address of its name doesn't answer and the second one does.
+fn second_address(rt: &HostRuntime) -> Outcome {
+    match UnixStream::pair(rt) {
+        Ok((near, _far)) => {
+            named_outcome([None, Some(TcpStream::from(OwnedFd::from(near)))].as_slice())
+        }
+        Err(_) => Outcome::Nothing,
+    }
 }
 
-// Whoever is connected to is the link itself.
-fn own_connection(rt: &HostRuntime) -> io::Result<Told> {
+// What a link comes to whose connection leads to itself.
+fn own_connection(rt: &HostRuntime) -> Outcome {
+    match own_socket(rt) {
+        Ok(own) => named_outcome([Some(TcpStream::from(OwnedFd::from(own)))].as_slice()),
+        Err(_) => Outcome::Nothing,
+    }
+}
+
+// A socket that is connected to itself.
+fn own_socket(rt: &HostRuntime) -> io::Result<UdpSocket> {
     let own = UdpSocket::bind(rt, at(0))?;
     own.connect(own.local_addr()?)?;
-    let connections = [Some(TcpStream::from(OwnedFd::from(own)))];
-    Ok(named_told(connections.as_slice()))
+    Ok(own)
 }

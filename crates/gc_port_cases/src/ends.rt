@@ -3,9 +3,10 @@
 ghost use Rattle.std.specs.Prelude.{None};
 
 use gc_ask::{CallerFault, Callers, keep};
-use std::alloc::{AllocError, Global};
+use gc_cases::Told;
+use std::alloc::Global;
 
-// Callers whose connections end so, in this order, and then well.
+// Callers whose connections end as `EACH` says, in this order, and those behind them well.
 #[derive(Drop)]
 struct Ends {
     at: usize,
@@ -34,22 +35,29 @@ impl Callers for Ends {
     }
 }
 
-/// Serves eight of them, and tells how many were served and the lines.
-pub fn tell_ends(alloc: Global, came: &mut String) -> Result<(), AllocError> {
+/// Serves eight of these callers, and tells how many were served, whether all lines on them were written, and these lines.
+pub fn tell_ends(alloc: Global, came: &mut Told) {
     let mut ends = Ends { at: 0 };
     let mut messages = Vec::new(alloc);
     let all = keep(&mut ends, 8, &mut messages);
-    let text = str::from_utf8(messages.as_slice()).unwrap_or("no text");
-    write!(came, "{} served, {}: {text}", ends.at, told_word(all))
+    tell_served(ends.at, all, came);
+    came.text(": ");
+    came.bytes(messages.as_slice());
 }
 
-/// The same where the messages have room for forty bytes.
-pub fn tell_cut_ends(came: &mut String) -> Result<(), AllocError> {
+/// Serves eight of them, with room for forty bytes of messages, and tells how many were served and whether all lines were written.
+pub fn tell_cut_ends(came: &mut Told) {
     let mut ends = Ends { at: 0 };
     let mut room = [0; 40];
     let mut messages: &mut [u8] = &mut room;
     let all = keep(&mut ends, 8, &mut messages);
-    write!(came, "{} served, {}", ends.at, told_word(all))
+    tell_served(ends.at, all, came);
+}
+
+// Tells how many callers were served, and whether all lines on them were written.
+fn tell_served(count: usize, all: bool, came: &mut Told) {
+    came.counted(&count, " served, ");
+    came.text(told_word(all));
 }
 
 /// Whether all lines were written, in words.

@@ -1,5 +1,5 @@
 //! Rows of a link over TCP, and of its far end, which is the case's own, in one thread. The link leads to a port where the case listens,
-//! or to that under `port`. A put of it waits for no more milliseconds than `patience` says.
+//! or to that under `port`. A put on the link waits for no more milliseconds than `patience` says.
 //!
 //!     do open, close           the link, which is open or shut then
 //!     do put abc               sent, or cut behind so many bytes
@@ -9,12 +9,12 @@
 //!     do wait 50               a silence of so many milliseconds
 //!     do accept, far abc       the far end, and what it writes
 //!     do hear                  what it has heard at the end of the connection, `open` before that
-//!     do go, deaf              it goes away, and nobody listens any more
+//!     do go, deaf              the far end goes away; nobody listens any more
 //!     do device, pulled, second_address, own_connection   in devices.rt
 
 use crate::devices::tell_placed;
-use crate::streams::{accepted, at, heard};
-use gc_cases::{Case, Player, Rows, bytes_of, play_rows, push_bytes};
+use crate::streams::{accepted, at, hear};
+use gc_cases::{Case, Player, Rows, Told, play_rows};
 use gc_links::{Came, Link, TcpLink};
 use gc_texts::number_of;
 use std::alloc::{AllocError, Global};
@@ -28,25 +28,48 @@ const YEAR_2023: u64 = 1_700_000_000_000;
 pub struct Links;
 
 impl Player for Links {
-    fn ending(&self) -> &'static str {
-        ".links"
-    }
-
-    fn play(&self, rt: &HostRuntime, case: &Case<'_>, wrong: &mut String) -> io::Result<()> {
+    fn play(&self, rt: &HostRuntime, case: &Case<'_>, wrong: &mut Told) -> io::Result<()> {
         let listener = TcpListener::bind(rt, at(0))?;
-        let own = u64::from(listener.local_addr()?.port());
-        let port = u16::try_from(case.number("port", own)).unwrap_or(0);
-        // At 1024 somebody may listen, who is no port below it.
+        // A listener at 1024: a port below that is no other one, so nothing connects there.
         let _other = TcpListener::bind(rt, at(1024));
-        let mut played = Played {
-            rt,
-            listener: Some(listener),
-            link: TcpLink::with_patience(rt, port, case.number("patience", 10_000))?,
-            far: None,
-            sent: 0,
-        };
-        Ok(play_rows(rt.alloc(), case, &mut played, wrong)?)
+        play_at(rt, listener, case, wrong);
+        Ok(())
     }
+}
+
+fn play_at(rt: &HostRuntime, listener: TcpListener, case: &Case<'_>, wrong: &mut Told) {
+    match link_of(rt, &listener, case) {
+        Ok(link) => play_over(rt, listener, link, case, wrong),
+        Err(_) => case.tell_wrong("link", b"none", wrong),
+    }
+}
+
+// The link of a case.
+fn link_of<'a>(
+    rt: &'a HostRuntime,
+    listener: &TcpListener,
+    case: &Case<'_>,
+) -> io::Result<TcpLink<'a, HostRuntime>> {
+    let own = u64::from(listener.local_addr()?.port());
+    let port = u16::try_from(case.number("port", own)).unwrap_or(0);
+    TcpLink::with_patience(rt, port, case.number("patience", 10_000))
+}
+
+fn play_over<'a>(
+    rt: &'a HostRuntime,
+    listener: TcpListener,
+    link: TcpLink<'a, HostRuntime>,
+    case: &Case<'_>,
+    wrong: &mut Told,
+) {
+    let mut played = Played {
+        rt,
+        listener: Some(listener),
+        link,
+        far: None,
+        sent: 0,
+    };
+    play_rows(rt.alloc(), case, &mut played, wrong);
 }
 
 // A link and its far end.
@@ -61,117 +84,88 @@ struct Played<'a> {
 }
 
 impl<'a> Rows for Played<'a> {
-    fn play(
-        &mut self,
-        alloc: Global,
-        word: &str,
-        what: &str,
-        _bytes: &[u8],
-        came: &mut String,
-    ) -> Result<(), AllocError> {
+    fn play(&mut self, alloc: Global, word: &str, what: &str, bytes: &[u8], came: &mut Told) {
         match word {
-            "open" => came.push_str(open_or_shut(self.link.open().is_ok())),
-            "close" => {
-                self.link.close();
-                Ok(())
-            }
-            "put" => self.put(alloc, what, came),
+            "open" => came.either(self.link.open().is_ok(), "open", "shut"),
+            "close" => self.link.close(),
+            "put" => self.put(bytes, came),
             "stall" => self.stall(alloc, came),
             "read" => self.read(came),
             "look" => self.look(came),
             "wait" => self.wait(what, came),
             "hear" => self.hear(alloc, came),
-            "accept" | "far" | "go" | "deaf" => came.push_str(self.far_end(alloc, word, what)?),
+            "accept" => self.far = self.caller(),
+            "far" => self.write_far(bytes, came),
+            "go" => self.far = None,
+            "deaf" => self.listener = None,
             _ => tell_placed(self.rt, alloc, word, came),
         }
     }
 }
 
-fn open_or_shut(is_open: bool) -> &'static str {
-    if is_open { "open" } else { "shut" }
-}
-
 impl<'a> Played<'a> {
-    fn put(&mut self, alloc: Global, what: &str, came: &mut String) -> Result<(), AllocError> {
-        let bytes = bytes_of(alloc, what)?;
+    fn put(&mut self, bytes: &[u8], came: &mut Told) {
         if bytes.is_empty() {
-            return came.push_str("nothing to put");
+            return came.text("nothing to put");
         }
-        match self.link.put(bytes.as_slice()) {
-            Ok(()) => came.push_str("sent"),
-            Err(sent) => write!(came, "cut behind {sent}"),
+        match self.link.put(bytes) {
+            Ok(()) => came.text("sent"),
+            Err(sent) => came.titled("cut behind ", &sent),
         }
     }
 
-    // The other end doesn't read: the write has its time, and what of it went out is told.
-    fn stall(&mut self, alloc: Global, came: &mut String) -> Result<(), AllocError> {
-        let much = dots(alloc, 16_000_000)?;
+    fn stall(&mut self, alloc: Global, came: &mut Told) {
+        match dots(alloc, 16_000_000) {
+            Ok(much) => self.put_much(much.as_slice(), came),
+            Err(_) => came.lack(),
+        }
+    }
+
+    // Puts more than the other end takes without reading. Expected is a part that goes out in the link's time; else how many bytes went out
+    // in how long is told.
+    fn put_much(&mut self, much: &[u8], came: &mut Told) {
         let begun = elapsed(&mut self.link);
-        let sent = put_of(&mut self.link, much.as_slice());
+        let sent = put_of(&mut self.link, much);
         let waited = elapsed(&mut self.link).saturating_sub(begun);
         self.sent = sent;
         if waited >= 2000 || sent == 0 || sent >= much.len() {
-            return write!(came, "{sent} bytes in {waited} milliseconds");
+            came.counted(&sent, " bytes in ");
+            return came.counted(&waited, " milliseconds");
         }
-        came.push_str("a part, in its time")
+        came.text("a part, in its time")
     }
 
-    fn read(&mut self, came: &mut String) -> Result<(), AllocError> {
+    fn read(&mut self, came: &mut Told) {
         let mut buf = [0; 2];
         let ended = self.link.read(&mut buf, 1000);
         tell_came(ended, buf.as_slice(), came)
     }
 
-    fn look(&mut self, came: &mut String) -> Result<(), AllocError> {
+    fn look(&mut self, came: &mut Told) {
         let mut buf = [0; 16];
         let ended = self.link.read(&mut buf, 1);
         tell_came(ended, buf.as_slice(), came)
     }
 
-    fn wait(&mut self, what: &str, came: &mut String) -> Result<(), AllocError> {
+    fn wait(&mut self, what: &str, came: &mut Told) {
         let millis = number_of(what.as_bytes(), u64::MAX).unwrap_or(0);
         let waited = silence_of(&mut self.link, millis);
         if waited < millis || waited >= 1000 {
-            return write!(came, "{waited} milliseconds of silence");
+            return came.counted(&waited, " milliseconds of silence");
         }
-        came.push_str("silence, in its time")
+        came.text("silence, in its time")
     }
 
-    fn hear(&mut self, alloc: Global, came: &mut String) -> Result<(), AllocError> {
-        let Some(far) = &mut self.far else {
-            return came.push_str("no far end");
-        };
-        match heard(alloc, far) {
-            None => came.push_str("open"),
-            Some(bytes) if bytes.is_empty() => came.push_str("the end"),
-            Some(bytes) if bytes.len() < 100 => {
-                came.push_str("the end behind ")?;
-                push_bytes(came, bytes.as_slice())
-            }
-            Some(bytes) if bytes.len() == self.sent => came.push_str("the end behind that part"),
-            Some(bytes) => write!(came, "the end behind {} bytes", bytes.len()),
+    fn hear(&mut self, alloc: Global, came: &mut Told) {
+        match &mut self.far {
+            Some(far) => tell_heard(alloc, far, self.sent, came),
+            None => came.text("no far end"),
         }
     }
 
-    // What the far end does. It gives nothing where that went well.
-    fn far_end(
-        &mut self,
-        alloc: Global,
-        word: &str,
-        what: &str,
-    ) -> Result<&'static str, AllocError> {
-        match word {
-            "go" => self.far = None,
-            "deaf" => self.listener = None,
-            "accept" => self.far = self.caller(),
-            _ => {
-                let bytes = bytes_of(alloc, what)?;
-                if !write_all(&mut self.far, bytes.as_slice()) {
-                    return Ok("it can't be written");
-                }
-            }
-        }
-        Ok("")
+    // The far end writes these bytes.
+    fn write_far(&mut self, bytes: &[u8], came: &mut Told) {
+        came.either(write_all(&mut self.far, bytes), "", "it can't be written");
     }
 
     // The other end of the connection that was made last.
@@ -180,7 +174,7 @@ impl<'a> Played<'a> {
     }
 }
 
-// Writes bytes at the far end, and says whether it could be.
+// Writes bytes at the far end, and says whether that could be done.
 fn write_all(far: &mut Option<TcpStream>, bytes: &[u8]) -> bool {
     match far {
         Some(far) => far.write_all(bytes).is_ok(),
@@ -188,12 +182,35 @@ fn write_all(far: &mut Option<TcpStream>, bytes: &[u8]) -> bool {
     }
 }
 
-/// So many bytes.
+// Tells what a far end hears until the end of its connection, or that this is still open.
+fn tell_heard(alloc: Global, far: &mut TcpStream, sent: usize, came: &mut Told) {
+    let mut bytes = Vec::new(alloc);
+    let is_end = hear(far, &mut bytes);
+    tell_bytes(is_end, bytes.as_slice(), sent, came);
+}
+
+// Tells what a far end heard. Of the part of a stalled put only the size is compared.
+fn tell_bytes(is_end: bool, bytes: &[u8], sent: usize, came: &mut Told) {
+    if !is_end {
+        return came.text("open");
+    }
+    if bytes.len() < 100 {
+        came.either(bytes.is_empty(), "the end", "the end behind ");
+        return came.bytes(bytes);
+    }
+    if bytes.len() == sent {
+        return came.text("the end behind that part");
+    }
+    came.titled("the end behind ", &bytes.len());
+    came.text(" bytes");
+}
+
+/// So many dots, as bytes to put.
 pub fn dots(alloc: Global, count: usize) -> Result<Vec<u8>, AllocError> {
     Ok(vec![in alloc; b'.'; count]?)
 }
 
-// When it is by a link's clock, in milliseconds.
+// The moment by a link's clock for deadlines, in milliseconds; the greatest number where it can't be read.
 fn elapsed<L: Link>(link: &mut L) -> u64 {
     match link.now() {
         Ok(moment) => moment.elapsed,
@@ -201,7 +218,7 @@ fn elapsed<L: Link>(link: &mut L) -> u64 {
     }
 }
 
-/// How many bytes of a put went out.
+/// Puts bytes, and says how many of them went out.
 pub fn put_of<L: Link>(link: &mut L, bytes: &[u8]) -> usize {
     if bytes.is_empty() {
         return 0;
@@ -212,21 +229,22 @@ pub fn put_of<L: Link>(link: &mut L, bytes: &[u8]) -> usize {
     }
 }
 
-// What a read came to.
-fn tell_came(ended: Came, buf: &[u8], came: &mut String) -> Result<(), AllocError> {
+// Tells what a read came to.
+fn tell_came(ended: Came, buf: &[u8], came: &mut Told) {
     match ended {
         Came::Bytes(n, moment) if moment.utc > YEAR_2023 => {
-            push_bytes(came, buf.get(..n).unwrap_or(b""))
+            came.bytes(buf.get(..n).unwrap_or(b""))
         }
-        Came::Bytes(_, moment) => write!(came, "bytes at {}", moment.utc),
-        Came::Silence(_) => came.push_str("silence"),
-        Came::End => came.push_str("end"),
-        Came::Failure => came.push_str("failure"),
-        Came::NoMoment => came.push_str("no moment"),
+        Came::Bytes(_, moment) => came.titled("bytes at ", &moment.utc),
+        Came::Silence(_) => came.text("silence"),
+        Came::End => came.text("end"),
+        Came::Failure => came.text("failure"),
+        Came::NoMoment => came.text("no moment"),
     }
 }
 
-/// How many milliseconds a link is silent, where so many are waited for; 0 where it isn't. A read may end early, and then is made again.
+/// Reads a link until it was silent for `millis` milliseconds, and says how many these were; 0 where something came. A read that ends
+/// early is made again.
 pub fn silence_of<L: Link>(link: &mut L, millis: u64) -> u64 {
     let begun = elapsed(link);
     let mut buf = [0; 2];

@@ -15,7 +15,7 @@ use std::io;
 use std::process::ExitCode;
 
 fn main(rt: HostRuntime) -> io::Result<ExitCode> {
-    let mut are_right = play_folder(&rt, ".", &Links)?;
-    are_right &= play_folder(&rt, ".", &Callers)?;
+    let mut are_right = play_folder(&rt, ".", ".links", &Links)?;
+    are_right &= play_folder(&rt, ".", ".callers", &Callers)?;
     Ok(ExitCode::from(u8::from(!are_right)))
 }

@@ -25,8 +25,8 @@ impl Done {
     }
 }
 
-// The path of a device ends in its number, and these are the devices. The connections are had in their order, where `None` is an
-// address that doesn't answer. Each name has two addresses.
+// A runtime with these devices and these connections. The path of a device ends in its number. Connections are made in their order,
+// where `None` is an address that doesn't answer. Each name has two addresses.
 #[derive(Drop)]
 pub(crate) struct Rig<'a, 'b, 'c> {
     pub(crate) devices: &'a [File],
@@ -34,10 +34,12 @@ pub(crate) struct Rig<'a, 'b, 'c> {
     pub(crate) done: &'c RefCell<Done>,
 }
 
+// The error of what isn't there.
 fn none<T>() -> io::Result<T> {
     Err(io::Error::from(ErrorKind::NotFound))
 }
 
+// The error of a call that comes while another one is made.
 fn in_use() -> io::Error {
     io::Error::from(ErrorKind::ResourceBusy)
 }

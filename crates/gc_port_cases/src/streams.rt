@@ -1,11 +1,10 @@
 //! Ends of connections within this machine.
 
-use std::alloc::Global;
 use std::io::{self, Read};
 use std::net::{SocketAddr, TcpListener, TcpStream};
 use std::time::Duration;
 
-/// A port of 127.0.0.1, 0 for any that is free.
+/// The address of a port of 127.0.0.1; 0 stands for any port that is free.
 pub fn at(port: u16) -> SocketAddr {
     SocketAddr::from(([127, 0, 0, 1], port))
 }
@@ -13,23 +12,19 @@ pub fn at(port: u16) -> SocketAddr {
 // A read of a stream waits no longer than so many milliseconds.
 const PATIENCE: u64 = 200;
 
-/// Bounds each read of a stream.
+/// The stream, of which each read now waits for a bounded time.
 pub fn bounded(stream: TcpStream) -> io::Result<TcpStream> {
     stream.set_read_timeout(Some(Duration::from_millis(PATIENCE)))?;
     Ok(stream)
 }
 
-/// The other end of the connection that was made last.
+/// Accepts a connection that was made to this listener: its end here, of which each read waits for a bounded time.
 pub fn accepted(listener: &TcpListener) -> io::Result<TcpStream> {
     let (stream, _) = listener.accept()?;
     bounded(stream)
 }
 
-/// The bytes that a stream gives until its end; none where a read of it failed, or gave nothing in its time.
-pub fn heard(alloc: Global, stream: &mut TcpStream) -> Option<Vec<u8>> {
-    let mut came = Vec::new(alloc);
-    match stream.read_to_end(&mut came) {
-        Ok(_) => Some(came),
-        Err(_) => None,
-    }
+/// Appends the bytes that a stream gives until its end. It says `false` where a read failed, or gave nothing in its time.
+pub fn hear(stream: &mut TcpStream, bytes: &mut Vec<u8>) -> bool {
+    stream.read_to_end(bytes).is_ok()
 }

@@ -1,6 +1,7 @@
 //! The far end of a case: a connection of one process, at which a simulator answers while the station waits, and a clock that
 //! goes only as it waits. So no case waits, and each moment is known.
 
+use gc_cases::Told;
 use gc_console::{Oddities, run_exec};
 use gc_lines::{FromReader, ToWriter};
 use std::alloc::Global;
@@ -25,18 +26,19 @@ pub struct Seen {
     // How many connections were made.
     pub opened: u32,
     // What came, with a `>` wherever the station waited behind it.
-    pub heard: Vec<u8>,
+    pub heard: Told,
     // The paths of the files that were to be opened, a line each. None is there.
-    pub files: Vec<u8>,
+    pub files: Told,
 }
 
 impl Seen {
+    // Nothing was seen yet.
     pub fn new(alloc: Global) -> Seen {
         Seen {
             elapsed: 0,
             opened: 0,
-            heard: Vec::new(alloc),
-            files: Vec::new(alloc),
+            heard: Told::new(alloc),
+            files: Told::new(alloc),
         }
     }
 
@@ -44,20 +46,37 @@ impl Seen {
     fn pass(&mut self, millis: u64) {
         self.elapsed = self.elapsed.saturating_add(millis);
     }
+
+    // Counts one more connection, and says how many were made.
+    fn open(&mut self) -> u64 {
+        self.opened = self.opened.saturating_add(1);
+        u64::from(self.opened)
+    }
 }
 
-// Both ends of a connection, the station's first. It is a pair of Unix sockets, since what goes into one has come at the other.
+// Both ends of a connection, the station's first. They are a pair of Unix sockets, because what is written to one can be read at the other
+// at once. No read of either waits.
 pub fn both_ends(net: &impl Net) -> io::Result<(TcpStream, TcpStream)> {
-    let (near, far) = UnixStream::pair(net)?;
-    near.set_nonblocking(true)?;
-    far.set_nonblocking(true)?;
-    Ok((
-        TcpStream::from(OwnedFd::from(near)),
-        TcpStream::from(OwnedFd::from(far)),
-    ))
+    let ends = UnixStream::pair(net)?;
+    open_both(&ends)?;
+    Ok(streams_of(ends))
 }
 
-// A net with this connection alone, and its clock.
+fn open_both(ends: &(UnixStream, UnixStream)) -> io::Result<()> {
+    ends.0.set_nonblocking(true)?;
+    ends.1.set_nonblocking(true)
+}
+
+fn streams_of(ends: (UnixStream, UnixStream)) -> (TcpStream, TcpStream) {
+    let (near, far) = ends;
+    (stream_of(near), stream_of(far))
+}
+
+fn stream_of(end: UnixStream) -> TcpStream {
+    TcpStream::from(OwnedFd::from(end))
+}
+
+// A runtime with this connection alone, and with a clock of its own.
 #[derive(Drop)]
 pub struct FarEnd<'a, 'b> {
     pub ends: &'a (TcpStream, TcpStream),
@@ -83,12 +102,25 @@ impl<'a, 'b> FarEnd<'a, 'b> {
         Ok(u64::try_from(wait.as_millis()).unwrap_or(u64::MAX))
     }
 
+    // Counts one more connection, and says how many were made.
+    fn count(&self) -> io::Result<u64> {
+        match self.seen.try_borrow_mut() {
+            Ok(mut seen) => Ok(seen.open()),
+            Err(_) => Err(in_use()),
+        }
+    }
+
     // Answers the requests of a piece, and says whether there were any.
     fn answers(&self, piece: &[u8]) -> bool {
         let mut far = &self.ends.1;
         if self.odd.echoes && far.write_all(piece).is_err() {
             return false;
         }
+        self.serves(piece)
+    }
+
+    // Has a simulator answer the requests of a piece, and says whether there were any.
+    fn serves(&self, piece: &[u8]) -> bool {
         let mut source = FromReader::new(piece);
         let mut sink = ToWriter::new(Changing {
             stream: &self.ends.1,
@@ -100,22 +132,36 @@ impl<'a, 'b> FarEnd<'a, 'b> {
         }
     }
 
+    // The moment of the clock. If the station may have waited since the last one, that wait is played first.
+    fn moment(&self, seen: &mut Seen) -> io::Result<Duration> {
+        let patience = self.patience()?;
+        if patience > NO_WAIT {
+            self.wait(seen, patience);
+        }
+        if seen.elapsed > self.until {
+            return Err(in_use());
+        }
+        Ok(Duration::from_millis(seen.elapsed))
+    }
+
     // The station waits: what came is noted down and answered, and time passes until then, or until the wait is over.
-    fn wait(&self, seen: &mut Seen, millis: u64) -> io::Result<()> {
+    fn wait(&self, seen: &mut Seen, millis: u64) {
         let mut buf = [0; 256];
         let mut far = &self.ends.1;
-        let Ok(n) = far.read(&mut buf) else {
-            seen.pass(millis);
-            return Ok(());
-        };
-        let piece = &buf[..n];
-        seen.heard.extend_from_slice(piece)?;
-        seen.heard.push(b'>')?;
+        match far.read(&mut buf) {
+            Ok(n) => self.hear(&buf[..n], seen, millis),
+            Err(_) => seen.pass(millis),
+        }
+    }
+
+    // Notes down a piece that came, and answers it, or lets the wait of the station pass.
+    fn hear(&self, piece: &[u8], seen: &mut Seen, millis: u64) {
+        seen.heard.bytes(piece);
+        seen.heard.text(">");
         match self.answer {
             Some(answer) if seen.elapsed <= self.silent && self.answers(piece) => seen.pass(answer),
             _ => seen.pass(millis),
         }
-        Ok(())
     }
 }
 
@@ -141,30 +187,24 @@ impl<'a> Write for Changing<'a> {
     }
 }
 
+// The error of a call that comes while another one is made, and of a clock that can't be read.
 pub fn in_use() -> io::Error {
     io::Error::from(ErrorKind::ResourceBusy)
 }
 
 impl<'a, 'b> Clock for FarEnd<'a, 'b> {
     fn monotonic(&self) -> io::Result<Duration> {
-        let Ok(mut seen) = self.seen.try_borrow_mut() else {
-            return Err(in_use());
-        };
-        let patience = self.patience()?;
-        if patience > NO_WAIT {
-            self.wait(&mut seen, patience)?;
+        match self.seen.try_borrow_mut() {
+            Ok(mut seen) => self.moment(&mut seen),
+            Err(_) => Err(in_use()),
         }
-        if seen.elapsed > self.until {
-            return Err(in_use());
-        }
-        Ok(Duration::from_millis(seen.elapsed))
     }
 
     fn since_1970(&self) -> io::Result<Duration> {
-        let Ok(seen) = self.seen.try_borrow() else {
-            return Err(in_use());
-        };
-        Ok(Duration::from_millis(BEGIN.saturating_add(seen.elapsed)))
+        match self.seen.try_borrow() {
+            Ok(seen) => Ok(Duration::from_millis(BEGIN.saturating_add(seen.elapsed))),
+            Err(_) => Err(in_use()),
+        }
     }
 
     fn sleep(&self, duration: Duration) {
@@ -184,19 +224,12 @@ impl<'a, 'b> Net for FarEnd<'a, 'b> {
     }
 
     fn connect(&self, _addr: SocketAddr) -> io::Result<TcpStream> {
-        let Ok(mut seen) = self.seen.try_borrow_mut() else {
-            return Err(in_use());
-        };
-        seen.opened = seen.opened.saturating_add(1);
+        let _ = self.count()?;
         Err(io::Error::from(ErrorKind::Unsupported))
     }
 
     fn connect_timeout(&self, _addr: SocketAddr, _timeout: Duration) -> io::Result<TcpStream> {
-        let Ok(mut seen) = self.seen.try_borrow_mut() else {
-            return Err(in_use());
-        };
-        seen.opened = seen.opened.saturating_add(1);
-        if u64::from(seen.opened) <= self.refused {
+        if self.count()? <= self.refused {
             return Err(io::Error::from(ErrorKind::ConnectionRefused));
         }
         self.ends.0.try_clone()

@@ -5,6 +5,7 @@ use std::alloc::Allocator;
 use std::fs::{File, Files, Metadata, OpenOptions};
 use std::io::{self, ErrorKind};
 
+// The error of a file that isn't there.
 fn none<T>() -> io::Result<T> {
     Err(io::Error::from(ErrorKind::NotFound))
 }
@@ -18,8 +19,8 @@ impl<'a, 'b> Files for FarEnd<'a, 'b> {
         let Ok(mut seen) = self.seen.try_borrow_mut() else {
             return Err(in_use());
         };
-        seen.files.extend_from_slice(path.as_bytes())?;
-        seen.files.push(b'\n')?;
+        seen.files.text(path);
+        seen.files.text("\n");
         none()
     }
 

@@ -4,6 +4,7 @@
 
 mod far_end;
 mod far_files;
+mod parts;
 mod program;
 mod room;
 mod said;
@@ -14,6 +15,6 @@ use std::io;
 use std::process::ExitCode;
 
 fn main(rt: HostRuntime) -> io::Result<ExitCode> {
-    let are_right = play_folder(&rt, ".", &Program)?;
+    let are_right = play_folder(&rt, ".", ".program", &Program)?;
     Ok(ExitCode::from(u8::from(!are_right)))
 }

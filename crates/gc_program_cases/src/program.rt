@@ -1,9 +1,9 @@
-//! The program, as its words and its standard streams make it: over the system, or at a far end where a case has one. It expects a
-//! status, the output and the messages; of a far end also what came there, and how long it took by its clock.
+//! Cases of the program: it is run with a case's words and standard streams, over the system, or at a far end where the case has one. The
+//! case expects a status, the output and the messages; of a far end also what came there, and how much time passed by its clock.
 
 use crate::far_end::{FarEnd, Seen, both_ends};
 use crate::said::{Said, tell_seen};
-use gc_cases::{Case, Player, input_of};
+use gc_cases::{Case, Player, Told, cut_word, input_of};
 use gc_console::{Oddities, Standard, Streams, run_program};
 use std::alloc::{AllocError, Global};
 use std::cell::RefCell;
@@ -11,59 +11,67 @@ use std::env::Args;
 use std::fs::{File, Files};
 use std::io::{self, ErrorKind, Read};
 use std::net::{Net, SocketAddr, TcpListener, TcpStream};
-use std::process::ExitCode;
 use std::time::Clock;
 
 /// Plays `.program`.
 pub struct Program;
 
 impl Player for Program {
-    fn ending(&self) -> &'static str {
-        ".program"
-    }
-
-    fn play(&self, rt: &HostRuntime, case: &Case<'_>, wrong: &mut String) -> io::Result<()> {
+    fn play(&self, rt: &HostRuntime, case: &Case<'_>, wrong: &mut Told) -> io::Result<()> {
         let listener = TcpListener::bind(rt, SocketAddr::from(([127, 0, 0, 1], 0)))?;
-        let port = port_of(rt.alloc(), &listener)?;
-        if case.value("port") == "free" {
-            drop(listener);
-            return play_at(rt, case, port.as_str(), wrong);
-        }
-        play_at(rt, case, port.as_str(), wrong)
+        let port = port_of(&listener);
+        let _held = held(case, listener);
+        play_at(rt, case, port, wrong);
+        Ok(())
     }
 }
 
-fn port_of(alloc: Global, listener: &TcpListener) -> io::Result<String> {
-    Ok(format!(in alloc; "{}", listener.local_addr()?.port())?)
+// The port of a listener; 0 where the system doesn't say.
+fn port_of(listener: &TcpListener) -> u16 {
+    match listener.local_addr() {
+        Ok(addr) => addr.port(),
+        Err(_) => 0,
+    }
+}
+
+// The listener, so that its port stays in use; `None` where the port is to be free.
+fn held(case: &Case<'_>, listener: TcpListener) -> Option<TcpListener> {
+    if case.has("port", "free") {
+        return None;
+    }
+    Some(listener)
 }
 
 // Plays a case in which this port is meant by `PORT`.
-fn play_at(rt: &HostRuntime, case: &Case<'_>, port: &str, wrong: &mut String) -> io::Result<()> {
-    let alloc = rt.alloc();
-    let seen = RefCell::new(Seen::new(alloc));
-    let said = run_case(rt, case, port, &seen)?;
-    said.tell(alloc, case, port, wrong)?;
-    Ok(tell_seen(alloc, case, &seen.into_inner(), wrong)?)
+fn play_at(rt: &HostRuntime, case: &Case<'_>, port: u16, wrong: &mut Told) {
+    let mut digits = Told::new(rt.alloc());
+    digits.display(&port);
+    let port = str::from_utf8(digits.as_bytes()).unwrap_or("no port");
+    play_named(rt, case, port, wrong);
+}
+
+// Plays a case in which `PORT` stands for these digits.
+fn play_named(rt: &HostRuntime, case: &Case<'_>, port: &str, wrong: &mut Told) {
+    let mut seen = RefCell::new(Seen::new(rt.alloc()));
+    let mut said = Said::new(rt.alloc(), case.number("room", u64::MAX));
+    run_case(rt, case, port, &seen, &mut said);
+    said.tell(rt.alloc(), case, port, wrong);
+    tell_seen(rt.alloc(), case, seen.get_mut(), wrong);
 }
 
 // Runs the program over the system, or at the far end that a case has.
-fn run_case(
-    rt: &HostRuntime,
-    case: &Case<'_>,
-    port: &str,
-    seen: &RefCell<Seen>,
-) -> io::Result<Said> {
+fn run_case(rt: &HostRuntime, case: &Case<'_>, port: &str, seen: &RefCell<Seen>, said: &mut Said) {
     match case.value("far") {
-        "" => run(rt, rt.alloc(), case, port),
-        answer => run_far(rt, case, port, answer.parse::<u64>().ok(), seen),
+        "" => run(rt, rt.alloc(), case, port, said),
+        answer => run_far(rt, case, port, answer.parse::<u64>().ok(), seen, said),
     }
 }
 
 // What the line of a case does to what is sent over it.
 fn oddities_of(case: &Case<'_>) -> Oddities {
     let mut odd = Oddities::none();
-    odd.echoes = case.value("line") == "echoes";
-    odd.bare = case.value("line") == "bare";
+    odd.echoes = case.has("line", "echoes");
+    odd.bare = case.has("line", "bare");
     odd
 }
 
@@ -74,18 +82,35 @@ fn run_far(
     port: &str,
     answer: Option<u64>,
     seen: &RefCell<Seen>,
-) -> io::Result<Said> {
-    let ends = both_ends(rt)?;
-    let far_end = FarEnd {
-        ends: &ends,
+    said: &mut Said,
+) {
+    if let Ok(ends) = both_ends(rt) {
+        run(
+            &far_end_of(case, answer, &ends, seen),
+            rt.alloc(),
+            case,
+            port,
+            said,
+        );
+    }
+}
+
+// The far end that a case has.
+fn far_end_of<'a, 'b>(
+    case: &Case<'_>,
+    answer: Option<u64>,
+    ends: &'a (TcpStream, TcpStream),
+    seen: &'b RefCell<Seen>,
+) -> FarEnd<'a, 'b> {
+    FarEnd {
+        ends,
         seen,
         answer,
         until: case.number("until", 3_600_000),
         refused: case.number("refused", 0),
         silent: case.number("silent", u64::MAX),
         odd: oddities_of(case),
-    };
-    run(&far_end, rt.alloc(), case, port)
+    }
 }
 
 // Runs the program over this runtime.
@@ -94,14 +119,14 @@ fn run<R: Net<Listener = TcpListener, Stream = TcpStream> + Clock + Files<File =
     alloc: Global,
     case: &Case<'_>,
     port: &str,
-) -> io::Result<Said> {
-    let input = input_of(alloc, case)?;
-    let mut said = Said::new(alloc, case.number("room", u64::MAX));
-    said.status = run_on(rt, alloc, case, port, input.as_slice(), &mut said)?;
-    Ok(said)
+    said: &mut Said,
+) {
+    if let Ok(input) = input_of(alloc, case) {
+        run_on(rt, alloc, case, port, input.as_slice(), said);
+    }
 }
 
-// Runs it with this input.
+// Runs the program with this input.
 fn run_on<R: Net<Listener = TcpListener, Stream = TcpStream> + Clock + Files<File = File>>(
     rt: &R,
     alloc: Global,
@@ -109,18 +134,17 @@ fn run_on<R: Net<Listener = TcpListener, Stream = TcpStream> + Clock + Files<Fil
     port: &str,
     input: &[u8],
     said: &mut Said,
-) -> io::Result<ExitCode> {
-    let is_broken = case.value("reads") == "fail";
+) {
     let streams = Streams {
         input: Input {
             bytes: input,
-            is_broken,
+            is_broken: case.has("reads", "fail"),
         },
         output: &mut said.output,
         messages: &mut said.messages,
     };
     let words = words_of(alloc, case, port);
-    run_program(rt, alloc, standard_of(case), words, streams)
+    said.status = run_program(rt, alloc, standard_of(case), words, streams).ok();
 }
 
 // Which standard streams are open.
@@ -130,7 +154,7 @@ fn standard_of(case: &Case<'_>) -> Standard {
         input: !closed.contains("input"),
         output: !closed.contains("output"),
         messages: !closed.contains("messages"),
-        terminal: case.value("terminal") == "yes",
+        terminal: case.has("terminal", "yes"),
     }
 }
 
@@ -143,16 +167,40 @@ fn words_of(alloc: Global, case: &Case<'_>, port: &str) -> io::Result<Args> {
     }
 }
 
+// The program's name, and behind it these words, which have spaces between. `PORT` stands for the port.
 fn split_words(alloc: Global, words: &str, port: &str) -> Result<Args, AllocError> {
     let mut all = Vec::new(alloc);
-    all.push(String::from_str(alloc, "geocom")?)?;
-    for word in words.split(' ') {
-        let word = if word == "PORT" { port } else { word };
-        if word != "" {
-            all.push(String::from_str(alloc, word)?)?;
-        }
-    }
+    push_words(alloc, words, port, &mut all)?;
     Ok(all.into_iter())
+}
+
+fn push_words(
+    alloc: Global,
+    words: &str,
+    port: &str,
+    all: &mut Vec<String>,
+) -> Result<(), AllocError> {
+    push_word(alloc, "geocom", all)?;
+    let mut rest = words;
+    for _ in 0..words.len() {
+        let (word, behind) = cut_word(rest);
+        push_word(alloc, named(word, port), all)?;
+        rest = behind;
+    }
+    Ok(())
+}
+
+// A word, and the port where it stands for that.
+fn named<'a>(word: &'a str, port: &'a str) -> &'a str {
+    if word == "PORT" { port } else { word }
+}
+
+// Appends a word, if there is one.
+fn push_word(alloc: Global, word: &str, all: &mut Vec<String>) -> Result<(), AllocError> {
+    if !word.is_empty() {
+        all.push(String::from_str(alloc, word)?)?;
+    }
+    Ok(())
 }
 
 // Standard input: these bytes, or one whose every read fails.

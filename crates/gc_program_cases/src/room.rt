@@ -11,6 +11,7 @@ pub struct Room {
 }
 
 impl Room {
+    /// Nothing was written yet, and there is room for so many bytes.
     pub fn new(alloc: Global, left: u64) -> Room {
         Room {
             bytes: Vec::new(alloc),

@@ -4,15 +4,17 @@
 //! its messages aren't. What it doesn't have of a far end isn't compared.
 
 use crate::far_end::Seen;
+use crate::parts::tell_parts;
 use crate::room::Room;
-use gc_cases::{Case, bytes_of, tell};
-use std::alloc::{AllocError, Global};
+use gc_cases::{Case, Told};
+use std::alloc::Global;
 use std::process::ExitCode;
 
 /// What came of a run.
 #[derive(Drop)]
 pub struct Said {
-    pub status: ExitCode,
+    /// None: it couldn't be run.
+    pub status: Option<ExitCode>,
     pub output: Room,
     pub messages: Vec<u8>,
 }
@@ -24,95 +26,93 @@ impl Said {
     /// Nothing yet, with so much room for the output.
     pub fn new(alloc: Global, room: u64) -> Said {
         Said {
-            status: ExitCode::SUCCESS,
+            status: None,
             output: Room::new(alloc, room),
             messages: Vec::new(alloc),
         }
     }
 
-    /// Tells what was said, with `PORT` for the port.
-    pub fn tell(
-        &self,
-        alloc: Global,
-        case: &Case<'_>,
-        port: &str,
-        wrong: &mut String,
-    ) -> Result<(), AllocError> {
-        let told = self.told(alloc, case, port)?;
-        tell(case, "status", self.status_text(case).as_bytes(), wrong)?;
-        tell(case, "output", self.compared(case), wrong)?;
-        let messages = if are_parts(case) { "" } else { told.as_str() };
-        tell(case, "messages", messages.as_bytes(), wrong)?;
-        self.tell_parts(alloc, case, told.as_str(), wrong)
+    /// Tells where the status, the output or the messages came otherwise than the case has them, with `PORT` for the port in the messages.
+    pub fn tell(&self, alloc: Global, case: &Case<'_>, port: &str, wrong: &mut Told) {
+        let mut told = Told::new(alloc);
+        self.tell_messages(alloc, case, port, &mut told);
+        case.tell("status", self.status_text(case).as_bytes(), wrong);
+        case.tell("output", self.compared(case), wrong);
+        self.compare_messages(alloc, case, &told, wrong);
     }
 
+    // The status in a digit, and `any` where any will do.
     fn status_text(&self, case: &Case<'_>) -> &'static str {
-        if case.value("status") == "any" {
-            return "any";
+        match self.status {
+            Some(_) if case.has("status", "any") => "any",
+            Some(status) => text_of(status),
+            None => "none, for an error of the system",
         }
-        if self.status == ExitCode::SUCCESS {
-            return "0";
-        }
-        if self.status == ExitCode::from(1) {
-            return "1";
-        }
-        "2"
     }
 
-    // The output, where it is compared whole.
+    // What is compared with the case's `output`: the whole output, none of it where the case has `has`, and `any` where any will do.
     fn compared(&self, case: &Case<'_>) -> &[u8] {
-        if case.value("output") == "any" {
+        if case.has("output", "any") {
             return b"any";
         }
-        if case.value("has") == "" {
+        if case.has("has", "") {
             self.output.bytes.as_slice()
         } else {
             b""
         }
     }
 
-    // The messages, with `PORT` for the port; those of a station at a far end without the line at the start.
-    fn told(&self, alloc: Global, case: &Case<'_>, port: &str) -> Result<String, AllocError> {
+    // Tells the messages, with `PORT` for the port; those of a station at a far end without the line at the start.
+    fn tell_messages(&self, alloc: Global, case: &Case<'_>, port: &str, told: &mut Told) {
         let messages = str::from_utf8(self.messages.as_slice()).unwrap_or("no text");
-        if case.value("far") == "" {
-            return messages.replace(alloc, port, "PORT");
+        if case.has("far", "") {
+            tell_named(alloc, messages, port, told);
+        } else if case.has("terminal", "yes") {
+            told.text(messages);
+        } else {
+            tell_without_start(messages, told);
         }
-        if case.value("terminal") == "yes" {
-            return String::from_str(alloc, messages);
-        }
-        without_start(alloc, messages)
     }
 
-    // Tells which part that is asked for doesn't stand in the output or in the messages.
-    fn tell_parts(
-        &self,
-        alloc: Global,
-        case: &Case<'_>,
-        told: &str,
-        wrong: &mut String,
-    ) -> Result<(), AllocError> {
-        let output = str::from_utf8(self.output.bytes.as_slice()).unwrap_or("");
-        let mut missing = String::new(alloc);
-        add_missing(alloc, &mut missing, case, "has", output)?;
-        add_missing(alloc, &mut missing, case, "tells", told)?;
-        add_miscounted(alloc, &mut missing, case, told)?;
-        add_frame(alloc, &mut missing, case, told)?;
-        if !missing.is_empty() {
-            missing.push_str(told)?;
+    // Compares the messages, whole or by the parts that a case asks for.
+    fn compare_messages(&self, alloc: Global, case: &Case<'_>, told: &Told, wrong: &mut Told) {
+        if are_parts(case) {
+            case.tell("messages", b"", wrong);
+        } else {
+            case.tell_told("messages", told, wrong);
         }
-        tell(case, "wrong", missing.as_bytes(), wrong)
+        let output = str::from_utf8(self.output.bytes.as_slice()).unwrap_or("");
+        tell_parts(alloc, case, output, told, wrong);
+    }
+}
+
+// An exit status in a digit.
+fn text_of(status: ExitCode) -> &'static str {
+    if status == ExitCode::SUCCESS {
+        return "0";
+    }
+    if status == ExitCode::from(1) {
+        return "1";
+    }
+    "2"
+}
+
+// Messages with `PORT` for the port.
+fn tell_named(alloc: Global, messages: &str, port: &str, told: &mut Told) {
+    match messages.replace(alloc, port, "PORT") {
+        Ok(named) => told.text(named.as_str()),
+        Err(_) => told.lack(),
     }
 }
 
 // The lines of messages but the one at the start.
-fn without_start(alloc: Global, messages: &str) -> Result<String, AllocError> {
-    let mut rest = String::new(alloc);
+fn tell_without_start(messages: &str, told: &mut Told) {
     for line in messages.lines() {
         if !line.ends_with(WAITS) {
-            write!(rest, "{line}\n")?;
+            told.text(line);
+            told.text("\n");
         }
     }
-    Ok(rest)
 }
 
 // Whether a case asks for parts of the messages.
@@ -123,113 +123,28 @@ fn are_parts(case: &Case<'_>) -> bool {
 }
 
 /// Tells what came at a far end, for each key that a case has.
-pub fn tell_seen(
-    alloc: Global,
-    case: &Case<'_>,
-    seen: &Seen,
-    wrong: &mut String,
-) -> Result<(), AllocError> {
-    tell_asked(case, "heard", seen.heard.as_slice(), wrong)?;
-    tell_number(alloc, case, "opened", u64::from(seen.opened), wrong)?;
-    tell_number(alloc, case, "elapsed", seen.elapsed, wrong)?;
-    tell_asked(case, "files", seen.files.as_slice(), wrong)
+pub fn tell_seen(alloc: Global, case: &Case<'_>, seen: &Seen, wrong: &mut Told) {
+    tell_asked(case, "heard", &seen.heard, wrong);
+    tell_number(alloc, case, "opened", u64::from(seen.opened), wrong);
+    tell_number(alloc, case, "elapsed", seen.elapsed, wrong);
+    tell_asked(case, "files", &seen.files, wrong);
 }
 
 // Tells what came, where a case asks for it; `nothing` stands for no bytes.
-fn tell_asked(
-    case: &Case<'_>,
-    key: &str,
-    came: &[u8],
-    wrong: &mut String,
-) -> Result<(), AllocError> {
-    if case.value(key) == "" {
-        return Ok(());
+fn tell_asked(case: &Case<'_>, key: &str, came: &Told, wrong: &mut Told) {
+    if case.has(key, "") {
+        return;
     }
-    if came.is_empty() {
-        return tell(case, key, b"nothing", wrong);
+    if came.is("") {
+        case.tell(key, b"nothing", wrong);
+    } else {
+        case.tell_told(key, came, wrong);
     }
-    tell(case, key, came, wrong)
 }
 
-fn tell_number(
-    alloc: Global,
-    case: &Case<'_>,
-    key: &str,
-    number: u64,
-    wrong: &mut String,
-) -> Result<(), AllocError> {
-    let digits = format!(in alloc; "{number}")?;
-    tell_asked(case, key, digits.as_bytes(), wrong)
-}
-
-// Adds each text under a key that doesn't stand in what came.
-fn add_missing(
-    alloc: Global,
-    missing: &mut String,
-    case: &Case<'_>,
-    key: &str,
-    came: &str,
-) -> Result<(), AllocError> {
-    for place in 0..16 {
-        let Some(value) = case.value_at(key, place) else {
-            break;
-        };
-        if count_of(alloc, value, came)? == 0 {
-            write!(missing, "{key} {value} ")?;
-        }
-    }
-    Ok(())
-}
-
-// Adds each text that the messages don't have as often as a case says.
-fn add_miscounted(
-    alloc: Global,
-    missing: &mut String,
-    case: &Case<'_>,
-    told: &str,
-) -> Result<(), AllocError> {
-    for place in 0..16 {
-        let Some(value) = case.value_at("counts", place) else {
-            break;
-        };
-        let (count, text) = value.split_once(' ').unwrap_or(("", value));
-        if count.parse::<usize>().ok() != Some(count_of(alloc, text, told)?) {
-            write!(missing, "counts {value} ")?;
-        }
-    }
-    Ok(())
-}
-
-// How often the text that a value spells stands in what came.
-fn count_of(alloc: Global, value: &str, came: &str) -> Result<usize, AllocError> {
-    let bytes = bytes_of(alloc, value)?;
-    Ok(match str::from_utf8(bytes.as_slice()) {
-        Ok(text) => came.matches(text).count(),
-        Err(_) => 0,
-    })
-}
-
-// Adds what of the messages' begin, end and length isn't as a case has it.
-fn add_frame(
-    alloc: Global,
-    missing: &mut String,
-    case: &Case<'_>,
-    told: &str,
-) -> Result<(), AllocError> {
-    if !told
-        .as_bytes()
-        .starts_with(bytes_of(alloc, case.value("begins"))?.as_slice())
-    {
-        missing.push_str("begins ")?;
-    }
-    if !told
-        .as_bytes()
-        .ends_with(bytes_of(alloc, case.value("ends"))?.as_slice())
-    {
-        missing.push_str("ends ")?;
-    }
-    if case.value("length") != "" && case.number("length", u64::MAX) != told.len() as u64 {
-        missing.push_str("length ")?;
-    }
-    Ok(())
+// Tells a number, where a case asks for it.
+fn tell_number(alloc: Global, case: &Case<'_>, key: &str, number: u64, wrong: &mut Told) {
+    let mut digits = Told::new(alloc);
+    digits.display(&number);
+    tell_asked(case, key, &digits, wrong);
 }

@@ -6,8 +6,8 @@ use gc_links::Moment;
 use gc_station::{Book, LinkHealth};
 use gc_texts::{Command, Ending, Stamp};
 
-/// A book that keeps a letter for each outcome behind cycle and place, and the values of an answer behind it, and fails at
-/// one of its writes, or behind so many of its keeps.
+/// A book that keeps cycle, place and a letter for each outcome, and the values of an answer behind its letter. It fails at one of its
+/// writes, or at each sync behind so many.
 #[derive(Drop)]
 pub struct Ends {
     /// What it kept.
@@ -18,7 +18,7 @@ pub struct Ends {
 }
 
 impl Ends {
-    /// A book that fails at this write, counted from 1, where 0 is none, and behind so many keeps.
+    /// A book that fails at the write `fails`, counted from 1, where 0 is none, and at each sync behind the first `keeps`.
     pub fn new(fails: u64, keeps: u64) -> Ends {
         Ends {
             text: ArrayVec::new(),
@@ -28,10 +28,12 @@ impl Ends {
         }
     }
 
+    // Keeps a text, if there is room for it.
     fn note(&mut self, text: &[u8]) {
         let _ = self.text.try_extend_from_slice(text);
     }
 
+    // Keeps a letter, and behind it the values of a reply's line, whose header has eleven bytes.
     fn note_values(&mut self, letter: &[u8], line: &[u8]) {
         self.note(letter);
         if line.len() > 11 {
@@ -39,6 +41,7 @@ impl Ends {
         }
     }
 
+    // Keeps the last digit of a number.
     fn digit(&mut self, n: u64) {
         let _ = self.text.try_push(b'0'.wrapping_add((n % 10) as u8));
     }

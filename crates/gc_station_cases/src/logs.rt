@@ -1,7 +1,7 @@
 //! A run of a case over a link with a log, and what that log has where a link only hears.
 
 use crate::ends::Ends;
-use crate::running::Told;
+use crate::running::Outcome;
 use crate::script::{Script, Step};
 use crate::setting::Setting;
 use crate::telling::run_telling;
@@ -9,9 +9,9 @@ use gc_lines::{PortFailed, Sink};
 use gc_links::{Link, Telling};
 use gc_logs::Logged;
 use gc_texts::Task;
-use std::alloc::{AllocError, Global};
+use std::alloc::Global;
 
-// Keeps what is written, and fails behind so many writes.
+// A sink that keeps what is written, and fails behind so many writes.
 #[derive(Drop)]
 struct Kept {
     bytes: Vec<u8>,
@@ -55,51 +55,59 @@ fn logged<'a>(
     Logged::new(Script::new(steps, setting), kept, 1000)
 }
 
-/// Runs a station over a link with a log. Where the log couldn't be written, what is told of it is `lost`, if it is a front of the log
-/// that could be.
+/// Runs a station over a link with a log. A log whose sink failed is told as `lost`, if the log of a sink that takes all begins with it.
 pub fn play_logged(
     alloc: Global,
     tasks: &[Task],
     steps: &[Step<'_>],
     setting: &Setting,
-) -> Result<Told, AllocError> {
-    let mut told = play_once(alloc, tasks, steps, setting, setting.writes)?;
-    if told.is_log_lost {
-        let whole = play_once(alloc, tasks, steps, setting, u64::MAX)?;
-        told.lose_log(&whole)?;
+    outcome: &mut Outcome,
+) {
+    play_once(alloc, tasks, steps, setting, setting.writes, outcome);
+    if outcome.is_log_lost() {
+        compare_logs(alloc, tasks, steps, setting, outcome);
     }
-    Ok(told)
 }
 
-// Runs it once, with a log whose sink takes so many writes.
+// Compares a log whose sink failed with the log of the same run over a sink that takes all.
+fn compare_logs(
+    alloc: Global,
+    tasks: &[Task],
+    steps: &[Step<'_>],
+    setting: &Setting,
+    outcome: &mut Outcome,
+) {
+    let mut whole = Outcome::new(alloc);
+    play_once(alloc, tasks, steps, setting, u64::MAX, &mut whole);
+    outcome.lose_log(&whole);
+}
+
+// Runs the station once, with a log whose sink takes so many writes.
 fn play_once(
     alloc: Global,
     tasks: &[Task],
     steps: &[Step<'_>],
     setting: &Setting,
     writes: u64,
-) -> Result<Told, AllocError> {
+    outcome: &mut Outcome,
+) {
     let mut link = Telling::new(logged(alloc, steps, setting, writes));
     let mut book = Ends::new(setting.fails, setting.keeps);
     let result = run_telling(&mut link, &mut book, tasks, &setting.plan, setting.turns);
-    let mut told = Told::new(alloc);
-    told.take(alloc, &link.link.link, &book, result.err())?;
-    told.take_log(
+    outcome.take(&link.link.link, &book, result.err());
+    outcome.take_log(
         link.link.sink().bytes.as_slice(),
         link.link.has_lost_its_log(),
-    )?;
-    Ok(told)
+    );
 }
 
-/// Hears all that the steps bring, and closes.
-pub fn hear(alloc: Global, steps: &[Step<'_>], setting: &Setting) -> Result<Told, AllocError> {
+/// Reads what the steps bring over a link with a log, closes the link, and takes the log.
+pub fn hear(alloc: Global, steps: &[Step<'_>], setting: &Setting, outcome: &mut Outcome) {
     let mut link = logged(alloc, steps, setting, setting.writes);
     let mut buf = [0u8; 600];
     for _ in steps {
         let _ = link.read(&mut buf, 1);
     }
     link.close();
-    let mut told = Told::new(alloc);
-    told.take_log(link.sink().bytes.as_slice(), false)?;
-    Ok(told)
+    outcome.take_log(link.sink().bytes.as_slice(), false);
 }

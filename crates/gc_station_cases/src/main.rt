@@ -16,6 +16,6 @@ use std::io;
 use std::process::ExitCode;
 
 fn main(rt: HostRuntime) -> io::Result<ExitCode> {
-    let are_right = play_folder(&rt, ".", &Stations)?;
+    let are_right = play_folder(&rt, ".", ".stations", &Stations)?;
     Ok(ExitCode::from(u8::from(!are_right)))
 }

@@ -5,200 +5,195 @@ use crate::logs::{hear, play_logged};
 use crate::script::{Script, Step};
 use crate::setting::Setting;
 use crate::telling::run_telling;
-use crate::words::push_all;
-use gc_cases::{Case, bytes_of};
+use crate::words::push_words;
+use gc_cases::{Case, Told};
 use gc_links::Telling;
 use gc_texts::{RunFault, Task, read_tasks};
-use std::alloc::{AllocError, Global};
+use std::alloc::Global;
 
 /// What a case has its runs do.
-#[derive(Drop)]
-pub struct Run {
-    tasks: Vec<u8>,
-    steps: Vec<u8>,
-    then: Vec<u8>,
-    setting: Setting,
-    is_known: bool,
-    is_logged: bool,
+#[derive(Clone, Copy)]
+pub struct Run<'a> {
+    /// The station's text.
+    pub tasks: &'a [u8],
+    /// The words of the steps.
+    pub steps: &'a [u8],
+    /// The words of the steps behind them.
+    pub then: &'a [u8],
+    /// How the runs are set.
+    pub setting: Setting,
+    /// Whether the words that set them are known.
+    pub is_known: bool,
+    /// Whether the link has a log.
+    pub is_logged: bool,
 }
 
 /// What a run came to, as a case has it.
 #[derive(Drop)]
-pub struct Told {
-    /// What was put.
-    pub put: Vec<u8>,
-    /// What was written.
-    pub ends: Vec<u8>,
-    /// The fault, as the program prints it.
-    pub end: Vec<u8>,
-    /// The log, if there is one.
-    pub log: Vec<u8>,
-    /// Whether the log couldn't be written.
-    pub is_log_lost: bool,
+pub struct Outcome {
+    // What was put.
+    put: Told,
+    // What was written.
+    ends: Told,
+    // The fault, as the program prints it.
+    end: Told,
+    // The log, if there is one.
+    log: Told,
+    is_log_lost: bool,
 }
 
-impl Told {
+impl Outcome {
     /// Nothing at all.
-    pub fn new(alloc: Global) -> Told {
-        Told {
-            put: Vec::new(alloc),
-            ends: Vec::new(alloc),
-            end: Vec::new(alloc),
-            log: Vec::new(alloc),
+    pub fn new(alloc: Global) -> Outcome {
+        Outcome {
+            put: Told::new(alloc),
+            ends: Told::new(alloc),
+            end: Told::new(alloc),
+            log: Told::new(alloc),
             is_log_lost: false,
         }
     }
 
     /// Takes what was put and written, and the fault.
-    pub fn take(
-        &mut self,
-        alloc: Global,
-        script: &Script<'_>,
-        book: &Ends,
-        fault: Option<RunFault>,
-    ) -> Result<(), AllocError> {
-        push_text(&mut self.put, script.text.as_slice())?;
-        push_text(&mut self.ends, book.text.as_slice())?;
-        push_end(alloc, &mut self.end, fault, script.gone)
+    pub fn take(&mut self, script: &Script<'_>, book: &Ends, fault: Option<RunFault>) {
+        tell_words(script.text.as_slice(), &mut self.put);
+        tell_words(book.text.as_slice(), &mut self.ends);
+        tell_end(fault, script.gone, &mut self.end);
     }
 
     /// Takes the log, and whether it couldn't be written.
-    pub fn take_log(&mut self, log: &[u8], is_lost: bool) -> Result<(), AllocError> {
+    pub fn take_log(&mut self, log: &[u8], is_lost: bool) {
         self.is_log_lost = is_lost;
-        push_text(&mut self.log, log)
+        tell_words(log, &mut self.log);
     }
 
-    /// Tells a log that couldn't be written as `lost`, if it is a front of the one that could be.
-    pub fn lose_log(&mut self, whole: &Told) -> Result<(), AllocError> {
-        if !whole.log.as_slice().starts_with(self.log.as_slice()) {
-            return Ok(());
+    /// Whether the log couldn't be written.
+    pub fn is_log_lost(&self) -> bool {
+        self.is_log_lost
+    }
+
+    /// Tells a log whose sink failed as `lost`, if the log of `whole`, whose sink took all, begins with it.
+    pub fn lose_log(&mut self, whole: &Outcome) {
+        if whole.log.as_bytes().starts_with(self.log.as_bytes()) {
+            self.log.clear();
+            self.log.text("lost");
         }
-        self.log.clear();
-        self.log.extend_from_slice(b"lost")
     }
 
-    // What comes of a case whose words aren't known.
-    fn of_unknown(alloc: Global, what: &str) -> Result<Told, AllocError> {
-        let mut told = Told::new(alloc);
-        told.put.extend_from_slice(b"a word isn't known: ")?;
-        told.put.extend_from_slice(what.as_bytes())?;
-        Ok(told)
+    // Tells that a word of the case isn't known, and where it stands.
+    fn tell_unknown(&mut self, what: &str) {
+        self.put.text("a word isn't known: ");
+        self.put.text(what);
     }
 
-    /// Whether another run came to the same.
-    pub fn is(&self, other: &Told) -> bool {
-        self.put.as_slice() == other.put.as_slice()
-            && self.ends.as_slice() == other.ends.as_slice()
-            && self.end.as_slice() == other.end.as_slice()
-            && self.log.as_slice() == other.log.as_slice()
+    /// Tells what came otherwise than the case has it.
+    pub fn tell(&self, case: &Case<'_>, wrong: &mut Told) {
+        case.tell_told("put", &self.put, wrong);
+        case.tell_told("ends", &self.ends, wrong);
+        case.tell_told("end", &self.end, wrong);
+        case.tell_told("log", &self.log, wrong);
+    }
+
+    /// Tells what was put and written, and the fault, as a row has them.
+    pub fn tell_row(&self, row: &mut Told) {
+        tell_part(": ", &self.put, row);
+        tell_part(" | ", &self.ends, row);
+        tell_part(" | ", &self.end, row);
     }
 }
 
-impl Run {
-    /// The run of a case, as the words behind `with` have it.
-    pub fn of(alloc: Global, case: &Case<'_>) -> Result<Run, AllocError> {
-        let mut setting = Setting::new();
-        let is_known = setting.set_all(case.value("with"));
-        Ok(Run {
-            tasks: lines_of(alloc, case.value("tasks"))?,
-            steps: bytes_of(alloc, case.value("steps"))?,
-            then: bytes_of(alloc, case.value("then"))?,
-            setting,
-            is_known,
-            is_logged: case.value_at("log", 0).is_some(),
-        })
+impl<'a> Run<'a> {
+    /// Runs the station as the case sets it, with one setting word more.
+    pub fn play(&self, alloc: Global, word: &str, outcome: &mut Outcome) {
+        let mut setting = self.setting;
+        if setting.set_all(word) && self.is_known {
+            self.play_set(alloc, &setting, outcome);
+        } else {
+            outcome.tell_unknown("with");
+        }
     }
 
-    /// What it comes to with one word more.
-    pub fn with(&self, alloc: Global, word: &str) -> Result<Told, AllocError> {
-        let mut setting = self.setting;
-        if !setting.set_all(word) || !self.is_known {
-            return Told::of_unknown(alloc, "with");
+    // Runs the station with this setting.
+    fn play_set(&self, alloc: Global, setting: &Setting, outcome: &mut Outcome) {
+        let mut steps = Vec::new(alloc);
+        if self.push_steps(&mut steps, setting) {
+            self.play_steps(alloc, steps.as_slice(), setting, outcome);
+        } else {
+            outcome.tell_unknown("steps");
         }
-        let Some(steps) = self.steps(alloc, &setting)? else {
-            return Told::of_unknown(alloc, "steps");
-        };
-        match read_tasks(alloc, self.tasks.as_slice(), setting.plan.deadline, false) {
-            Ok(all) => self.play(alloc, all.tasks.as_slice(), steps.as_slice(), &setting),
-            Err(_) => Told::of_unknown(alloc, "tasks"),
+    }
+
+    // Adds the steps, and says whether each word is known, and each step has room.
+    fn push_steps(&self, steps: &mut Vec<Step<'a>>, setting: &Setting) -> bool {
+        let are_known = push_words(steps, text_of(self.steps), setting.split);
+        steps.truncate(usize::try_from(setting.first).unwrap_or(usize::MAX));
+        push_words(steps, text_of(self.then), setting.split) && are_known
+    }
+
+    fn play_steps(
+        &self,
+        alloc: Global,
+        steps: &[Step<'_>],
+        setting: &Setting,
+        outcome: &mut Outcome,
+    ) {
+        match read_tasks(alloc, self.tasks, setting.plan.deadline, false) {
+            Ok(all) => self.play_tasks(alloc, all.tasks.as_slice(), steps, setting, outcome),
+            Err(_) => outcome.tell_unknown("tasks"),
         }
     }
 
     // Runs a station, or without a task only hears what comes.
-    fn play(
+    fn play_tasks(
         &self,
         alloc: Global,
         tasks: &[Task],
         steps: &[Step<'_>],
         setting: &Setting,
-    ) -> Result<Told, AllocError> {
+        outcome: &mut Outcome,
+    ) {
         if !self.is_logged {
-            return play_steps(alloc, tasks, steps, setting);
+            return play_told(tasks, steps, setting, outcome);
         }
         if tasks.is_empty() {
-            return hear(alloc, steps, setting);
+            return hear(alloc, steps, setting, outcome);
         }
-        play_logged(alloc, tasks, steps, setting)
-    }
-
-    // The steps; none where a word isn't known.
-    fn steps(&self, alloc: Global, setting: &Setting) -> Result<Option<Vec<Step<'_>>>, AllocError> {
-        let mut steps = Vec::new(alloc);
-        let words = str::from_utf8(self.steps.as_slice()).unwrap_or("?");
-        let are_known = push_all(&mut steps, words, setting.split)?;
-        steps.truncate(usize::try_from(setting.first).unwrap_or(usize::MAX));
-        let then = str::from_utf8(self.then.as_slice()).unwrap_or("?");
-        if !push_all(&mut steps, then, setting.split)? || !are_known {
-            return Ok(None);
-        }
-        Ok(Some(steps))
+        play_logged(alloc, tasks, steps, setting, outcome)
     }
 }
 
-// A text whose lines end at `;`.
-fn lines_of(alloc: Global, value: &str) -> Result<Vec<u8>, AllocError> {
-    let mut lines = Vec::new(alloc);
-    for byte in value.as_bytes() {
-        lines.push(if *byte == b';' { b'\n' } else { *byte })?;
-    }
-    Ok(lines)
+fn text_of(bytes: &[u8]) -> &str {
+    str::from_utf8(bytes).unwrap_or("?")
 }
 
 // Runs a station over a link that tells its acts.
-fn play_steps(
-    alloc: Global,
-    tasks: &[Task],
-    steps: &[Step<'_>],
-    setting: &Setting,
-) -> Result<Told, AllocError> {
+fn play_told(tasks: &[Task], steps: &[Step<'_>], setting: &Setting, outcome: &mut Outcome) {
     let mut link = Telling::new(Script::new(steps, setting));
     let mut book = Ends::new(setting.fails, setting.keeps);
     let result = run_telling(&mut link, &mut book, tasks, &setting.plan, setting.turns);
-    let mut told = Told::new(alloc);
-    told.take(alloc, &link.link, &book, result.err())?;
-    Ok(told)
+    outcome.take(&link.link, &book, result.err());
 }
 
-// Appends a text without the blank behind its last word.
-fn push_text(kept: &mut Vec<u8>, text: &[u8]) -> Result<(), AllocError> {
-    kept.extend_from_slice(text.strip_suffix(b" ").unwrap_or(text))
+// Tells words without the blank behind the last one.
+fn tell_words(words: &[u8], told: &mut Told) {
+    told.bytes(words.strip_suffix(b" ").unwrap_or(words));
 }
 
-// Appends the fault, if there is one. The bytes of a cut put are `kept` where it tells those that went out.
-fn push_end(
-    alloc: Global,
-    end: &mut Vec<u8>,
-    fault: Option<RunFault>,
-    gone: usize,
-) -> Result<(), AllocError> {
-    let Some(fault) = fault else {
-        return Ok(());
-    };
-    let text = match fault {
-        RunFault::Write { replies, bytes } if bytes == gone => {
-            format!(in alloc; "fault 43 reply {replies} byte kept")?
+// Tells the fault, if there is one, with `kept` for the number of bytes of a cut put, where that is how many went out.
+fn tell_end(fault: Option<RunFault>, gone: usize, end: &mut Told) {
+    match fault {
+        None => {}
+        Some(RunFault::Write { replies, bytes }) if bytes == gone => {
+            end.titled("fault 43 reply ", &replies);
+            end.text(" byte kept");
         }
-        fault => format!(in alloc; "{fault}")?,
-    };
-    end.extend_from_slice(text.as_bytes())
+        Some(fault) => end.display(&fault),
+    }
+}
+
+// Tells a part of a row behind its mark, and `none` for an empty one. Where the part lacks memory so does the row, and no case expects it.
+fn tell_part(mark: &str, part: &Told, row: &mut Told) {
+    row.text(mark);
+    row.either(part.as_bytes().is_empty(), "none", "");
+    row.told(part);
 }

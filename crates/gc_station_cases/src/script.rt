@@ -16,7 +16,7 @@ pub enum Step<'a> {
     Id(u8, u64),
     /// Nothing comes.
     Silence(u64),
-    /// The reply to the last request that went out, with its number among all of them, counted from 0; its last digit.
+    /// The reply to the last request that went out comes. Its value is the last digit of the request's number, counted from 0.
     Reply(u64),
     /// The clock goes back.
     Back(u64),
@@ -51,7 +51,7 @@ pub struct Script<'a> {
     cut: u64,
     kept: usize,
     puts: u64,
-    // How many requests went out, the id of the last, which has no parameters, and how many had when it was answered.
+    // How many requests went out, the id of the last one, and how many had gone out when one was answered last.
     requests: u8,
     id: u8,
     answered: u8,
@@ -65,7 +65,7 @@ pub struct Script<'a> {
     blind: bool,
     // Whether each call is kept with its time since the start, and of a request its id alone.
     timed: bool,
-    // The put before was of a beginning's null procedures so many in a row; where the text of the first is, and when it was put.
+    // How many null procedures of a beginning were put in a row so far; where the text of the first begins, and when it was put.
     nulls: usize,
     first: usize,
     first_at: u64,
@@ -102,6 +102,7 @@ impl<'a> Script<'a> {
         }
     }
 
+    // Keeps a text, if there is room for it.
     fn note(&mut self, text: &[u8]) {
         let _ = self.text.try_extend_from_slice(text);
     }
@@ -118,7 +119,7 @@ impl<'a> Script<'a> {
         self.note(b" ");
     }
 
-    // Keeps a word, and that it is now.
+    // Keeps a word that happens now. It ends a row of null procedures.
     fn note_now(&mut self, word: &[u8]) {
         self.nulls = 0;
         self.note_at(word, self.clock);
@@ -171,6 +172,7 @@ impl<'a> Script<'a> {
         call == self.failing
     }
 
+    // Lets so many milliseconds pass, and gives the moment then.
     fn moment(&mut self, later: u64) -> Moment {
         self.clock = self.clock.saturating_add(later);
         Moment {
@@ -179,7 +181,7 @@ impl<'a> Script<'a> {
         }
     }
 
-    // These bytes come, if there are any.
+    // As many of these bytes come as `buf` has room for; nothing comes where that is none.
     fn bring(&mut self, buf: &mut [u8], line: &[u8], later: u64) -> Came
         ensures { IsWithin result buf.new }
     {
@@ -235,7 +237,7 @@ impl<'a> Script<'a> {
     }
 }
 
-// The digit of a request's id: what stands before its parameters, of which it has none or digits and commas.
+// The digit of a request's id: the byte before the colon.
 fn id_of(request: &[u8]) -> Option<u8> {
     let end = request.iter().position(|byte| *byte == b':')?;
     request.get(end.checked_sub(1)?).copied()

@@ -14,7 +14,7 @@ pub struct Setting {
     pub shut: u64,
     /// The put that is cut, counted from 1; 0: none.
     pub cut: u64,
-    /// How many bytes of it go out.
+    /// How many bytes of that put go out.
     pub kept: u64,
     /// The call of the link that fails, counted from 0; `close` isn't counted.
     pub failing: u64,
@@ -35,7 +35,8 @@ pub struct Setting {
 }
 
 impl Setting {
-    /// One at a time, given up after 100 milliseconds, quiet after 10, and one new try, so that a line is dead after 200. Nothing fails.
+    /// One request at a time, given up after 100 milliseconds, a quiet time of 10, and one new try, so that a line is dead after 200. Nothing
+    /// fails.
     pub fn new() -> Setting {
         Setting {
             plan: Plan {
@@ -76,6 +77,7 @@ impl Setting {
         are_known
     }
 
+    // Sets what one word says, and says whether it is known.
     fn set_word(&mut self, word: &str) -> bool {
         let (key, digits) = word.split_once('=').unwrap_or((word, "1"));
         let Some(value) = number(digits) else {
@@ -84,6 +86,7 @@ impl Setting {
         self.set_plan(key, value) || self.set_link(key, value)
     }
 
+    // Sets a value of the plan, and says whether the key is one of the plan's.
     fn set_plan(&mut self, key: &str, value: u64) -> bool {
         match key {
             "width" => self.plan.width = u8::try_from(value).unwrap_or(u8::MAX),
@@ -97,6 +100,7 @@ impl Setting {
         true
     }
 
+    // Sets a value of the link, the book, the log or the steps, and says whether the key is one of theirs.
     fn set_link(&mut self, key: &str, value: u64) -> bool {
         match key {
             "turns" => self.turns = value,

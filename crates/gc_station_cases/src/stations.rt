@@ -2,7 +2,7 @@
 //! words of a case, and `setting.rt` those behind `with`.
 //!
 //!     tasks 7 0;8 0               the station's text, with `;` for the ends of its lines; chained as it says
-//!     with width=2 timed          what is otherwise than a plan and a link that work have it
+//!     with width=2 timed          what is set otherwise than `Setting::new` has it
 //!     steps BEGUN #0 end QUIET    what the reads come to
 //!     then dead answers           the steps behind these, where `with` or a row says `first`
 //!     put open lf begin %R1Q,0,0: ..    what is put; `begin` are the eight null procedures of a beginning, one after the other, each once
@@ -14,9 +14,10 @@
 //!     row cut=3: PUT | ENDS | END the same once more with this word behind the others, in place of the three lines
 //!     each kept=11                once for each number below this one: all come to the same
 
-use crate::running::{Run, Told};
+use crate::running::{Outcome, Run};
+use crate::setting::Setting;
 use crate::words::number;
-use gc_cases::{Case, Player, tell};
+use gc_cases::{Case, Player, Told, push_all};
 use std::alloc::{AllocError, Global};
 use std::io;
 
@@ -24,92 +25,135 @@ use std::io;
 pub struct Stations;
 
 impl Player for Stations {
-    fn ending(&self) -> &'static str {
-        ".stations"
-    }
-
-    fn play(&self, rt: &HostRuntime, case: &Case<'_>, wrong: &mut String) -> io::Result<()> {
-        let run = Run::of(rt.alloc(), case)?;
-        Ok(play_run(rt.alloc(), case, &run, wrong)?)
+    fn play(&self, rt: &HostRuntime, case: &Case<'_>, wrong: &mut Told) -> io::Result<()> {
+        play_case(rt.alloc(), case, wrong);
+        Ok(())
     }
 }
 
-// Plays the rows, or where there is none the run.
-fn play_run(
-    alloc: Global,
-    case: &Case<'_>,
-    run: &Run,
-    wrong: &mut String,
-) -> Result<(), AllocError> {
-    if case.value("row") == "" {
-        return tell_all(case, &play_each(alloc, case, run)?, wrong);
-    }
-    play_rows(alloc, case, run, wrong)?;
-    tell_all(case, &Told::new(alloc), wrong)
+// What the values of a case stand for.
+#[derive(Drop)]
+struct Values {
+    tasks: Vec<u8>,
+    steps: Vec<u8>,
+    then: Vec<u8>,
 }
 
-fn tell_all(case: &Case<'_>, told: &Told, wrong: &mut String) -> Result<(), AllocError> {
-    tell(case, "put", told.put.as_slice(), wrong)?;
-    tell(case, "ends", told.ends.as_slice(), wrong)?;
-    tell(case, "end", told.end.as_slice(), wrong)?;
-    tell(case, "log", told.log.as_slice(), wrong)
-}
-
-// Plays the rows. Each that came to something else is told, as it came.
-fn play_rows(
-    alloc: Global,
-    case: &Case<'_>,
-    run: &Run,
-    wrong: &mut String,
-) -> Result<(), AllocError> {
-    for place in 0..1000 {
-        let Some(row) = case.value_at("row", place) else {
-            break;
-        };
-        let came = play_row(alloc, row, run)?;
-        if came.as_slice() != row.as_bytes() {
-            tell(case, "rows", came.as_slice(), wrong)?;
+impl Values {
+    fn new(alloc: Global) -> Values {
+        Values {
+            tasks: Vec::new(alloc),
+            steps: Vec::new(alloc),
+            then: Vec::new(alloc),
         }
+    }
+
+    // Takes the values of a case. It fails where memory runs out.
+    fn take(&mut self, case: &Case<'_>) -> Result<(), AllocError> {
+        push_lines(&mut self.tasks, case.value("tasks"))?;
+        push_all(&mut self.steps, case.value("steps"))?;
+        push_all(&mut self.then, case.value("then"))
+    }
+
+    // The run of the case, as the words behind `with` have it.
+    fn run(&self, case: &Case<'_>) -> Run<'_> {
+        let mut setting = Setting::new();
+        let is_known = setting.set_all(case.value("with"));
+        Run {
+            tasks: self.tasks.as_slice(),
+            steps: self.steps.as_slice(),
+            then: self.then.as_slice(),
+            setting,
+            is_known,
+            is_logged: case.value_at("log", 0).is_some(),
+        }
+    }
+}
+
+// Appends a text whose lines end at `;`.
+fn push_lines(lines: &mut Vec<u8>, value: &str) -> Result<(), AllocError> {
+    for byte in value.as_bytes() {
+        lines.push(if *byte == b';' { b'\n' } else { *byte })?;
     }
     Ok(())
 }
 
-fn play_row(alloc: Global, row: &str, run: &Run) -> Result<Vec<u8>, AllocError> {
-    let word = row.split_once(": ").map_or(row, |cut| cut.0);
-    let told = run.with(alloc, word)?;
-    row_of(alloc, word, &told)
-}
-
-// A row, as it came.
-fn row_of(alloc: Global, word: &str, told: &Told) -> Result<Vec<u8>, AllocError> {
-    let mut row = Vec::new(alloc);
-    row.extend_from_slice(word.as_bytes())?;
-    push_part(&mut row, b": ", told.put.as_slice())?;
-    push_part(&mut row, b" | ", told.ends.as_slice())?;
-    push_part(&mut row, b" | ", told.end.as_slice())?;
-    Ok(row)
-}
-
-fn push_part(row: &mut Vec<u8>, mark: &[u8], part: &[u8]) -> Result<(), AllocError> {
-    row.extend_from_slice(mark)?;
-    row.extend_from_slice(or_none(part))
-}
-
-fn or_none(text: &[u8]) -> &[u8] {
-    if text.is_empty() { b"none" } else { text }
-}
-
-// What all of a case's runs came to; where they differ, what the first came to that isn't as the one before it.
-fn play_each(alloc: Global, case: &Case<'_>, run: &Run) -> Result<Told, AllocError> {
-    let (key, count) = case.value("each").split_once('=').unwrap_or(("", "0"));
-    let mut told = run.with(alloc, "")?;
-    for n in 0..number(count).unwrap_or(0) {
-        let word = format!(in alloc; "{key}={n}")?;
-        let next = run.with(alloc, word.as_str())?;
-        if n > 0 && !next.is(&told) {
-            return Ok(next);
-        }
-        told = next;
+// Plays a case. Where memory runs out for its values, it comes otherwise.
+fn play_case(alloc: Global, case: &Case<'_>, wrong: &mut Told) {
+    let mut values = Values::new(alloc);
+    if values.take(case).is_err() {
+        wrong.lack();
     }
-    Ok(told)
+    play_run(alloc, case, &values.run(case), wrong);
+}
+
+// Plays the rows, or where there is none the run. A case with rows has no `put`, `ends`, `end` or `log` beside them: one that it has is told
+// as wrong, against an outcome of nothing.
+fn play_run(alloc: Global, case: &Case<'_>, run: &Run<'_>, wrong: &mut Told) {
+    if case.value("row").is_empty() {
+        return play_each(alloc, case, run, wrong);
+    }
+    play_rows(alloc, case, run, wrong);
+    Outcome::new(alloc).tell(case, wrong);
+}
+
+// Plays the rows. Each that came to something else is told, as it came.
+fn play_rows(alloc: Global, case: &Case<'_>, run: &Run<'_>, wrong: &mut Told) {
+    for place in 0..1000 {
+        match case.value_at("row", place) {
+            Some(row) => play_row(alloc, case, row, run, wrong),
+            None => break,
+        }
+    }
+}
+
+fn play_row(alloc: Global, case: &Case<'_>, row: &str, run: &Run<'_>, wrong: &mut Told) {
+    let mut came = Told::new(alloc);
+    let word = row.split_once(": ").map_or(row, |cut| cut.0);
+    tell_row(alloc, word, run, &mut came);
+    if came.as_bytes() != row.as_bytes() || came.is_lacking() {
+        case.tell_wrong("rows", came.as_bytes(), wrong);
+    }
+}
+
+// Tells a row as it came: its word, and what the run came to with it.
+fn tell_row(alloc: Global, word: &str, run: &Run<'_>, came: &mut Told) {
+    let mut outcome = Outcome::new(alloc);
+    run.play(alloc, word, &mut outcome);
+    came.text(word);
+    outcome.tell_row(came);
+}
+
+// Plays the run, once for each number below the one behind `each`, up to the first that comes otherwise than the case has it.
+fn play_each(alloc: Global, case: &Case<'_>, run: &Run<'_>, wrong: &mut Told) {
+    let Some((key, count)) = case.value("each").split_once('=') else {
+        return play_once(alloc, case, "", run, wrong);
+    };
+    let count = number(count).unwrap_or(0);
+    if count == 0 {
+        return case.tell_wrong("each", b"no number", wrong);
+    }
+    let before = wrong.as_bytes().len();
+    for n in 0..count {
+        play_number(alloc, case, key, n, run, wrong);
+        if wrong.as_bytes().len() > before {
+            break;
+        }
+    }
+}
+
+// Plays the run with a number behind a key.
+fn play_number(alloc: Global, case: &Case<'_>, key: &str, n: u64, run: &Run<'_>, wrong: &mut Told) {
+    let mut word = Told::new(alloc);
+    word.text(key);
+    word.titled("=", &n);
+    let word = str::from_utf8(word.as_bytes()).unwrap_or("?");
+    play_once(alloc, case, word, run, wrong);
+}
+
+// Plays the run with one word more, and tells what came otherwise than the case has it.
+fn play_once(alloc: Global, case: &Case<'_>, word: &str, run: &Run<'_>, wrong: &mut Told) {
+    let mut outcome = Outcome::new(alloc);
+    run.play(alloc, word, &mut outcome);
+    outcome.tell(case, wrong);
 }

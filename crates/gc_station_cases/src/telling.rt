@@ -8,7 +8,7 @@ use gc_links::{Link, Telling};
 use gc_station::{Book, Plan, Tally, run_station};
 use gc_texts::{RunFault, Task};
 
-/// A station over any link, made to tell its acts: all that `run_station` promises of such links is so.
+/// Runs a station over a link that tells its acts, so that what `run_station` promises of the acts told holds of this run.
 pub fn run_telling<L: Link, B: Book>(
     link: &mut Telling<L>,
     book: &mut B,

@@ -15,7 +15,6 @@
 
 use crate::script::Step;
 use gc_texts::number_of;
-use std::alloc::AllocError;
 
 // What a named step stands for, in the words of others.
 fn meaning_of(word: &str) -> Option<&'static str> {
@@ -27,12 +26,8 @@ fn meaning_of(word: &str) -> Option<&'static str> {
     }
 }
 
-/// Adds the steps of words, and says whether each is known.
-pub fn push_all<'a>(
-    steps: &mut Vec<Step<'a>>,
-    words: &'a str,
-    split: u64,
-) -> Result<bool, AllocError> {
+/// Adds the steps of words, and says whether each is known, and each step has room.
+pub fn push_words<'a>(steps: &mut Vec<Step<'a>>, words: &'a str, split: u64) -> bool {
     let mut rest = words;
     let mut are_known = true;
     for _ in 0..words.len() {
@@ -41,16 +36,16 @@ pub fn push_all<'a>(
         }
         let (word, behind) = cut_word(rest);
         are_known &= match meaning_of(word) {
-            Some(meaning) => push_named(steps, meaning)?,
-            None => push_word(steps, word, split)?,
+            Some(meaning) => push_named(steps, meaning),
+            None => push_word(steps, word, split),
         };
         rest = behind;
     }
-    Ok(are_known)
+    are_known
 }
 
 // Adds the steps that a named one stands for.
-fn push_named(steps: &mut Vec<Step<'_>>, meaning: &'static str) -> Result<bool, AllocError> {
+fn push_named(steps: &mut Vec<Step<'_>>, meaning: &'static str) -> bool {
     let mut rest = meaning;
     let mut are_known = true;
     for _ in 0..meaning.len() {
@@ -58,28 +53,30 @@ fn push_named(steps: &mut Vec<Step<'_>>, meaning: &'static str) -> Result<bool, 
             break;
         }
         let (word, behind) = cut_word(rest);
-        are_known &= push_word(steps, word, 0)?;
+        are_known &= push_word(steps, word, 0);
         rest = behind;
     }
-    Ok(are_known)
+    are_known
 }
 
-fn push_word<'a>(steps: &mut Vec<Step<'a>>, word: &'a str, split: u64) -> Result<bool, AllocError> {
+// Adds the step of a word, or the two of a cut line, and says whether the word is known and there was room.
+fn push_word<'a>(steps: &mut Vec<Step<'a>>, word: &'a str, split: u64) -> bool {
     let (what, digits) = word.split_once('@').unwrap_or((word, "5"));
     let Some(millis) = number(digits) else {
-        return Ok(false);
+        return false;
     };
     if let Some(line) = what.strip_prefix("<<") {
         let (front, back) = cut_line(line.as_bytes(), split);
-        steps.push(Step::Line(front, millis))?;
-        steps.push(Step::Line(back, millis))?;
-        return Ok(true);
+        return push(steps, Step::Line(front, millis)) && push(steps, Step::Line(back, millis));
     }
-    let Some(step) = step_of(what, millis) else {
-        return Ok(false);
-    };
-    steps.push(step)?;
-    Ok(true)
+    match step_of(what, millis) {
+        Some(step) => push(steps, step),
+        None => false,
+    }
+}
+
+fn push<'a>(steps: &mut Vec<Step<'a>>, step: Step<'a>) -> bool {
+    steps.push(step).is_ok()
 }
 
 // A line, cut behind so many bytes.
@@ -88,6 +85,7 @@ fn cut_line(line: &[u8], split: u64) -> (&[u8], &[u8]) {
     line.split_at(at)
 }
 
+// The step of what stands before `@`, with the milliseconds behind it. None: no step is called so.
 fn step_of<'a>(what: &'a str, millis: u64) -> Option<Step<'a>> {
     if let Some(line) = what.strip_prefix('<') {
         return Some(Step::Line(line.as_bytes(), millis));

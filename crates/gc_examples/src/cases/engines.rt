@@ -4,7 +4,7 @@
 
 use crate::cases::outcome::Came;
 use crate::cases::setup::Setup;
-use gc_cases::{Case, Player};
+use gc_cases::{Case, Player, Told};
 use std::alloc::{AllocError, Global};
 use std::io;
 
@@ -12,45 +12,36 @@ use std::io;
 pub struct Engines;
 
 impl Player for Engines {
-    fn ending(&self) -> &'static str {
-        ".engines"
-    }
-
-    fn play(&self, rt: &HostRuntime, case: &Case<'_>, wrong: &mut String) -> io::Result<()> {
-        let setup = Setup::of(rt.alloc(), case)?;
-        Ok(play_setup(rt.alloc(), case, &setup, wrong)?)
+    fn play(&self, rt: &HostRuntime, case: &Case<'_>, wrong: &mut Told) -> io::Result<()> {
+        let mut setup = Setup::unset(rt.alloc());
+        match setup.take(case) {
+            Ok(()) => play_setup(rt.alloc(), case, &setup, wrong),
+            Err(_) => wrong.lack(),
+        }
+        Ok(())
     }
 }
 
-fn play_setup(
-    alloc: Global,
-    case: &Case<'_>,
-    setup: &Setup,
-    wrong: &mut String,
-) -> Result<(), AllocError> {
-    let whole = setup.run(alloc, setup.sizes.as_slice())?;
+// Runs a set-up, and where it gives no sizes of pieces also with the input in others, and tells what came.
+fn play_setup(alloc: Global, case: &Case<'_>, setup: &Setup, wrong: &mut Told) {
+    let whole = setup.run(alloc, setup.sizes.as_slice());
     let otherwise = if setup.sizes.is_empty() {
-        differing(alloc, setup, &whole, case.value("cuts") == "each")?
+        differing(alloc, setup, &whole, case.has("cuts", "each"))
     } else {
         ""
     };
-    whole.tell(alloc, case, otherwise, wrong)
+    whole.tell(alloc, case, otherwise, wrong);
 }
 
-/// What is said where the input in other pieces came to something else: in single bytes, and cut in two at each place if it is asked.
-pub fn differing(
-    alloc: Global,
-    setup: &Setup,
-    whole: &Came,
-    is_each: bool,
-) -> Result<&'static str, AllocError> {
-    if !setup.is_same_single(alloc, whole)? {
-        return Ok(", and otherwise in single bytes");
+/// In which pieces the input came to something else than whole: in single bytes, or, with `is_each`, cut in two somewhere. Empty: in none.
+pub fn differing(alloc: Global, setup: &Setup, whole: &Came, is_each: bool) -> &'static str {
+    if !setup.is_same_single(alloc, whole) {
+        return ", and otherwise in single bytes";
     }
-    if is_each && !setup.is_same_cut(alloc, whole)? {
-        return Ok(", and otherwise cut in two");
+    if is_each && !setup.is_same_cut(alloc, whole) {
+        return ", and otherwise cut in two";
     }
-    Ok("")
+    ""
 }
 
 /// Appends the size of a single byte for each byte of an input.

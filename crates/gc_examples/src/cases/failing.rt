@@ -4,7 +4,7 @@
 use crate::cases::engines::push_single;
 use crate::cases::outcome::{Came, End};
 use crate::cases::setup::Setup;
-use gc_cases::{Case, Player, tell, text_of};
+use gc_cases::{Case, Player, Told};
 use std::alloc::{AllocError, Global};
 use std::io;
 
@@ -18,69 +18,79 @@ const CALLS: u64 = 1000;
 const KEYS: [&str; 5] = ["first", "second", "third", "fourth", "fifth"];
 
 impl Player for Failing {
-    fn ending(&self) -> &'static str {
-        ".failing"
-    }
-
-    fn play(&self, rt: &HostRuntime, case: &Case<'_>, wrong: &mut String) -> io::Result<()> {
-        let alloc = rt.alloc();
-        let mut setup = Setup::of(alloc, case)?;
-        let whole = setup.run(alloc, &[])?;
-        push_single(&mut setup.sizes, setup.input.as_slice())?;
-        Ok(play_calls(alloc, case, &mut setup, &whole, wrong)?)
+    fn play(&self, rt: &HostRuntime, case: &Case<'_>, wrong: &mut Told) -> io::Result<()> {
+        let mut setup = Setup::unset(rt.alloc());
+        match take_single(case, &mut setup) {
+            Ok(()) => play_calls(rt.alloc(), case, &mut setup, wrong),
+            Err(_) => wrong.lack(),
+        }
+        Ok(())
     }
 }
 
-fn play_calls(
-    alloc: Global,
-    case: &Case<'_>,
-    setup: &mut Setup,
-    whole: &Came,
-    wrong: &mut String,
-) -> Result<(), AllocError> {
+// Takes the set-up that a case says, with the input in single bytes.
+fn take_single(case: &Case<'_>, setup: &mut Setup) -> Result<(), AllocError> {
+    setup.take(case)?;
+    push_single(&mut setup.sizes, setup.input.as_slice())
+}
+
+// Runs a set-up for each k until it ends well, and tells the groups of calls that came to the same.
+fn play_calls(alloc: Global, case: &Case<'_>, setup: &mut Setup, wrong: &mut Told) {
+    let whole = setup.run(alloc, &[]);
     let mut groups = Groups::new(alloc);
     for k in 0..CALLS {
         setup.fail_at(case.value("port"), k);
-        let came = setup.run(alloc, setup.sizes.as_slice())?;
-        let output = output_of(alloc, &came, whole, case.value("port"), k)?;
-        groups.add(alloc, case, &came.end, output.as_str(), wrong)?;
-        if came.end.text.starts_with("done") {
+        if play_call(alloc, case, setup, &whole, k, &mut groups, wrong) {
             break;
         }
     }
-    groups.finish(alloc, case, wrong)
+    groups.finish(alloc, case, wrong);
 }
 
-// What was written by the run whose port failed at call k.
-fn output_of(
+// Plays a run whose port fails at call k, and says whether it went well.
+fn play_call(
     alloc: Global,
-    came: &Came,
+    case: &Case<'_>,
+    setup: &Setup,
     whole: &Came,
-    port: &str,
     k: u64,
-) -> Result<String, AllocError> {
+    groups: &mut Groups,
+    wrong: &mut Told,
+) -> bool {
+    let came = setup.run(alloc, setup.sizes.as_slice());
+    let mut output = Told::new(alloc);
+    tell_output(&came, whole, case.value("port"), k, &mut output);
+    groups.add(alloc, case, &came.end, &output, wrong);
+    came.end.is_done()
+}
+
+// Tells what was written by the run whose port failed at call k.
+fn tell_output(came: &Came, whole: &Came, port: &str, k: u64, output: &mut Told) {
     let written = came.output.bytes.as_slice();
     if port == "output" && whole.begins_with(written, k) {
-        return String::from_str(alloc, "a part");
+        output.text("a part");
+    } else {
+        output.escaped(written);
     }
-    text_of(alloc, written)
 }
 
-// What a call came to, at this place among the calls that came to the same.
-fn text_at(alloc: Global, end: &End, output: &str, place: u64) -> Result<String, AllocError> {
-    let text = end.text.as_str();
+// Tells what a call came to, at this place among the calls that came to the same.
+fn tell_call(end: &End, output: &Told, place: u64, text: &mut Told) {
+    text.told(&end.text);
     match end.bytes {
-        Some(bytes) if bytes as u64 == place => format!(in alloc; "{text} byte +: {output}"),
-        Some(bytes) => format!(in alloc; "{text} byte {bytes}: {output}"),
-        None => format!(in alloc; "{text}: {output}"),
+        Some(bytes) if bytes as u64 == place => text.text(" byte +"),
+        Some(bytes) => text.titled(" byte ", &bytes),
+        None => {}
     }
+    text.text(": ");
+    text.told(output);
 }
 
 // Calls in a row that came to the same, and how many groups were before.
 #[derive(Drop)]
 struct Groups {
     before: usize,
-    text: String,
+    text: Told,
     count: u64,
 }
 
@@ -88,59 +98,57 @@ impl Groups {
     fn new(alloc: Global) -> Groups {
         Groups {
             before: 0,
-            text: String::new(alloc),
+            text: Told::new(alloc),
             count: 0,
         }
     }
 
     // Adds a call to the last group, or begins another one with it.
-    fn add(
+    fn add(&mut self, alloc: Global, case: &Case<'_>, end: &End, output: &Told, wrong: &mut Told) {
+        let mut text = Told::new(alloc);
+        tell_call(end, output, self.count, &mut text);
+        if self.count > 0 && text.as_bytes() == self.text.as_bytes() {
+            self.count = self.count.saturating_add(1);
+        } else {
+            self.begin(alloc, case, end, output, wrong);
+        }
+    }
+
+    // Begins a group with a call.
+    fn begin(
         &mut self,
         alloc: Global,
         case: &Case<'_>,
         end: &End,
-        output: &str,
-        wrong: &mut String,
-    ) -> Result<(), AllocError> {
-        let text = text_at(alloc, end, output, self.count)?;
-        if self.count > 0 && text.as_str() == self.text.as_str() {
-            self.count = self.count.saturating_add(1);
-            return Ok(());
-        }
-        self.close(alloc, case, wrong)?;
-        self.text = text_at(alloc, end, output, 0)?;
+        output: &Told,
+        wrong: &mut Told,
+    ) {
+        self.close(alloc, case, wrong);
+        self.text.clear();
+        tell_call(end, output, 0, &mut self.text);
         self.count = 1;
-        Ok(())
     }
 
     // Compares the group of calls that ended last with what the case expects, if a call was made.
-    fn close(
-        &mut self,
-        alloc: Global,
-        case: &Case<'_>,
-        wrong: &mut String,
-    ) -> Result<(), AllocError> {
-        if self.count == 0 {
-            return Ok(());
+    fn close(&mut self, alloc: Global, case: &Case<'_>, wrong: &mut Told) {
+        if self.count > 0 {
+            self.tell(alloc, case, wrong);
+            self.before = self.before.saturating_add(1);
         }
-        let key = KEYS.get(self.before).copied().unwrap_or("?");
-        self.before = self.before.saturating_add(1);
-        let (count, text) = (self.count, self.text.as_str());
-        let told = format!(in alloc; "{count} calls: {text}")?;
-        tell(case, key, told.as_bytes(), wrong)
+    }
+
+    fn tell(&self, alloc: Global, case: &Case<'_>, wrong: &mut Told) {
+        let mut told = Told::new(alloc);
+        told.counted(&self.count, " calls: ");
+        told.told(&self.text);
+        case.tell_told(KEYS.get(self.before).copied().unwrap_or("?"), &told, wrong);
     }
 
     // Tells the last group, and nothing for each key behind it, so that none is missed.
-    fn finish(
-        &mut self,
-        alloc: Global,
-        case: &Case<'_>,
-        wrong: &mut String,
-    ) -> Result<(), AllocError> {
-        self.close(alloc, case, wrong)?;
+    fn finish(&mut self, alloc: Global, case: &Case<'_>, wrong: &mut Told) {
+        self.close(alloc, case, wrong);
         for key in KEYS.iter().skip(self.before) {
-            tell(case, key, b"", wrong)?;
+            case.tell(key, b"", wrong);
         }
-        Ok(())
     }
 }

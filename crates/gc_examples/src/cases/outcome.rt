@@ -1,16 +1,16 @@
 //! How a run of an engine ended, and what it wrote.
 
 use crate::cases::sink::Taking;
-use gc_cases::{Case, tell};
+use gc_cases::{Case, Told};
 use gc_lines::{ServeFault, Served};
 use gc_texts::RunFault;
-use std::alloc::{AllocError, Global};
+use std::alloc::Global;
 
 /// How a run ended.
 #[derive(Drop)]
 pub struct End {
     /// `done`, or the fault as it is printed, with how many lines went before where they are counted.
-    pub text: String,
+    pub text: Told,
     /// The bytes of the line that a write fell short of, which the text leaves out.
     pub bytes: Option<usize>,
 }
@@ -25,6 +25,15 @@ pub struct Came {
 }
 
 impl Came {
+    /// Nothing yet, over these two sinks.
+    pub fn new(alloc: Global, output: Taking, link: Taking) -> Came {
+        Came {
+            end: End::new(alloc),
+            output,
+            link,
+        }
+    }
+
     /// Whether a run came to the same, in however many writes.
     pub fn is(&self, other: &Came) -> bool {
         self.end.is(&other.end)
@@ -34,7 +43,7 @@ impl Came {
 
     /// Whether it went well, and wrote this.
     pub fn wrote(&self, output: &[u8]) -> bool {
-        self.end.text.starts_with("done") && self.output.bytes.as_slice() == output
+        self.end.is_done() && self.output.bytes.as_slice() == output
     }
 
     /// Whether so many bytes were written first, and they are these.
@@ -42,85 +51,82 @@ impl Came {
         front.len() as u64 == count && self.output.bytes.starts_with(front)
     }
 
-    /// Tells it for the keys of a case. What is said of other pieces of the input stands behind its end.
-    pub fn tell(
-        &self,
-        alloc: Global,
-        case: &Case<'_>,
-        otherwise: &str,
-        wrong: &mut String,
-    ) -> Result<(), AllocError> {
-        let mut end = self.end.told(alloc)?;
-        end.push_str(otherwise)?;
-        tell(case, "end", end.as_bytes(), wrong)?;
-        tell(case, "output", self.output.bytes.as_slice(), wrong)?;
-        tell(case, "sent", self.link.bytes.as_slice(), wrong)?;
-        self.tell_writes(alloc, case, wrong)
+    /// Tells what came for the keys of a case. `otherwise`, which is said of other pieces of the input, stands behind the end.
+    pub fn tell(&self, alloc: Global, case: &Case<'_>, otherwise: &str, wrong: &mut Told) {
+        self.end.tell(alloc, case, otherwise, wrong);
+        case.tell("output", self.output.bytes.as_slice(), wrong);
+        case.tell("sent", self.link.bytes.as_slice(), wrong);
+        if !case.has("writes", "") {
+            tell_writes(alloc, case, self.output.sizes.as_slice(), wrong);
+        }
     }
+}
 
-    // Tells how many bytes each write of the output had, with a space between, where a case asks for it.
-    fn tell_writes(
-        &self,
-        alloc: Global,
-        case: &Case<'_>,
-        wrong: &mut String,
-    ) -> Result<(), AllocError> {
-        if case.value("writes") == "" {
-            return Ok(());
-        }
-        let mut text = String::new(alloc);
-        for size in &self.output.sizes {
-            write!(text, "{size} ")?;
-        }
-        tell(case, "writes", text.trim_end().as_bytes(), wrong)
+// Tells how many bytes each write of the output had, with a space between.
+fn tell_writes(alloc: Global, case: &Case<'_>, sizes: &[usize], wrong: &mut Told) {
+    let mut text = Told::new(alloc);
+    let mut between = "";
+    for size in sizes {
+        text.titled(between, size);
+        between = " ";
     }
+    case.tell_told("writes", &text, wrong);
 }
 
 impl End {
+    fn new(alloc: Global) -> End {
+        End {
+            text: Told::new(alloc),
+            bytes: None,
+        }
+    }
+
+    /// Whether the run went well.
+    pub fn is_done(&self) -> bool {
+        self.text.as_bytes().starts_with(b"done")
+    }
+
     fn is(&self, other: &End) -> bool {
-        self.text.as_str() == other.text.as_str() && self.bytes == other.bytes
+        !self.text.is_lacking()
+            && self.text.as_bytes() == other.text.as_bytes()
+            && self.bytes == other.bytes
     }
 
-    // The text, with the bytes.
-    fn told(&self, alloc: Global) -> Result<String, AllocError> {
-        let text = self.text.as_str();
-        match self.bytes {
-            Some(bytes) => format!(in alloc; "{text} byte {bytes}"),
-            None => String::from_str(alloc, text),
+    // Tells the text, with the bytes, and what stands behind it.
+    fn tell(&self, alloc: Global, case: &Case<'_>, otherwise: &str, wrong: &mut Told) {
+        let mut told = Told::new(alloc);
+        told.told(&self.text);
+        if let Some(bytes) = self.bytes {
+            told.titled(" byte ", &bytes);
+        }
+        told.text(otherwise);
+        case.tell_told("end", &told, wrong);
+    }
+
+    // The end of a run whose write fell short, behind so many lines and bytes.
+    fn fall_short(&mut self, replies: u64, bytes: usize) {
+        self.text.titled("fault 43 reply ", &replies);
+        self.bytes = Some(bytes);
+    }
+
+    /// Takes the end of an engine that counts its lines.
+    pub fn serve(&mut self, end: Result<Served, ServeFault>) {
+        match end {
+            Err(ServeFault::Write { replies, bytes }) => self.fall_short(replies, bytes),
+            Ok(Served { replies }) => self.text.titled("done ", &replies),
+            Err(ServeFault::Read { replies }) => self.text.titled("fault 42 behind ", &replies),
+            Err(ServeFault::TooManyReads { replies }) => {
+                self.text.titled("fault 44 behind ", &replies)
+            }
         }
     }
-}
 
-/// An end with this text.
-pub fn end_of(text: String) -> End {
-    End { text, bytes: None }
-}
-
-fn short_of(alloc: Global, replies: u64, bytes: usize) -> Result<End, AllocError> {
-    Ok(End {
-        text: format!(in alloc; "fault 43 reply {replies}")?,
-        bytes: Some(bytes),
-    })
-}
-
-/// The end of an engine that counts its lines.
-pub fn served(alloc: Global, end: Result<Served, ServeFault>) -> Result<End, AllocError> {
-    let text = match end {
-        Err(ServeFault::Write { replies, bytes }) => return short_of(alloc, replies, bytes),
-        Ok(Served { replies }) => format!(in alloc; "done {replies}")?,
-        Err(ServeFault::Read { replies }) => format!(in alloc; "fault 42 behind {replies}")?,
-        Err(ServeFault::TooManyReads { replies }) => {
-            format!(in alloc; "fault 44 behind {replies}")?
+    /// Takes the end of an engine that doesn't count its lines.
+    pub fn run(&mut self, end: Result<(), RunFault>) {
+        match end {
+            Ok(()) => self.text.text("done"),
+            Err(RunFault::Write { replies, bytes }) => self.fall_short(replies, bytes),
+            Err(fault) => self.text.display(&fault),
         }
-    };
-    Ok(end_of(text))
-}
-
-/// The end of an engine that counts none.
-pub fn ran(alloc: Global, end: Result<(), RunFault>) -> Result<End, AllocError> {
-    match end {
-        Ok(()) => Ok(end_of(String::from_str(alloc, "done")?)),
-        Err(RunFault::Write { replies, bytes }) => short_of(alloc, replies, bytes),
-        Err(fault) => Ok(end_of(format!(in alloc; "{fault}")?)),
     }
 }

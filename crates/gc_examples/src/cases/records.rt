@@ -3,30 +3,27 @@
 
 ghost use Rattle.std.specs.Prelude.{◌≤◌, length};
 
-use gc_cases::{Case, Player, bytes_of, tell};
+use gc_cases::{Case, Player, Told, bytes_of};
 use gc_catalogue::{Call, Reading, decode_answer};
 use gc_lines::{Line, ToWriter, read_reply};
 use gc_rows::{Form, When, write_head, write_record};
 use gc_texts::{Command, Ending, Stamp, read_commands};
 use gc_values::ValueFault;
-use std::alloc::{AllocError, Global};
+use std::alloc::Global;
 use std::io;
 
 /// Plays `.records`.
 pub struct Records;
 
 impl Player for Records {
-    fn ending(&self) -> &'static str {
-        ".records"
-    }
-
-    fn play(&self, rt: &HostRuntime, case: &Case<'_>, wrong: &mut String) -> io::Result<()> {
-        let Some(form) = form_of(case.value("form")) else {
-            return Ok(tell(case, "is", b"no such form", wrong)?);
-        };
-        let mut written = Vec::new(rt.alloc());
-        write_case(rt.alloc(), case, form, &mut written)?;
-        Ok(tell(case, "is", written.as_slice(), wrong)?)
+    fn play(&self, rt: &HostRuntime, case: &Case<'_>, wrong: &mut Told) -> io::Result<()> {
+        let mut written = Told::new(rt.alloc());
+        match form_of(case.value("form")) {
+            Some(form) => write_case(rt.alloc(), case, form, &mut written),
+            None => written.text("no such form"),
+        }
+        case.tell_told("is", &written, wrong);
+        Ok(())
     }
 }
 
@@ -41,28 +38,31 @@ fn form_of(word: &str) -> Option<Form> {
 }
 
 // Writes the record, or what stands in front of all where there is no command.
-fn write_case(
-    alloc: Global,
-    case: &Case<'_>,
-    form: Form,
-    written: &mut Vec<u8>,
-) -> Result<(), AllocError> {
-    if case.value("command") == "" {
-        let _ = write_head(&mut ToWriter::new(written), form);
-        return Ok(());
+fn write_case(alloc: Global, case: &Case<'_>, form: Form, written: &mut Told) {
+    if case.has("command", "") {
+        let _ = write_head(&mut ToWriter::new(written.writer()), form);
+        return;
     }
-    let name = bytes_of(alloc, case.value("name"))?;
-    let reply = bytes_of(alloc, case.value("reply"))?;
+    match bytes_of(alloc, case.value("name")) {
+        Ok(name) => write_named(alloc, case, form, name.as_slice(), written),
+        Err(_) => written.lack(),
+    }
+}
+
+// Writes the record of a case for a target of this name.
+fn write_named(alloc: Global, case: &Case<'_>, form: Form, name: &[u8], written: &mut Told) {
     let command = command_of(alloc, case.value("command").as_bytes());
-    write_ending(
-        case,
-        form,
-        name.as_slice(),
-        &command,
-        reply.as_slice(),
-        written,
-    );
-    Ok(())
+    match bytes_of(alloc, case.value("reply")) {
+        Ok(reply) => write_ending(
+            case,
+            form,
+            name,
+            &command,
+            reply.as_slice(),
+            written.writer(),
+        ),
+        Err(_) => written.lack(),
+    }
 }
 
 // Writes the record of a command with this reply, for a target of this name.
@@ -83,6 +83,7 @@ fn write_ending(
     }
 }
 
+// Writes a record. A write that fails is ignored.
 fn put_record(
     form: Form,
     when: &When,
@@ -103,7 +104,7 @@ fn put_record(
     );
 }
 
-// When it was sent, or None, and ended.
+// The moments of a record: when its request was sent, if it was, and when its command ended.
 fn when_of(case: &Case<'_>) -> When {
     When {
         run: 1795388880000,
@@ -135,7 +136,7 @@ fn command_of(alloc: Global, text: &[u8]) -> Command {
     }
 }
 
-// What a reply says.
+// What a reply says of a call; a refusal where the line is no reply.
 fn reading_of(call: &Call, line: &Line) -> Reading {
     match read_reply(line.as_slice()) {
         Ok(reply) => decode_answer(call, &reply),

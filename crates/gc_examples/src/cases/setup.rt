@@ -4,12 +4,13 @@ ghost use Rattle.std.specs.Prelude.{◌≤◌};
 ghost use Rattle.gc_client.specs.declared.window.TheConstants.{WINDOW};
 
 use crate::cases::engines::push_single;
-use crate::cases::outcome::{Came, End, end_of, ran, served};
+use crate::cases::outcome::Came;
 use crate::cases::sink::Taking;
 use gc_ask::{Duplex, run_ask, run_loop_on};
-use gc_cases::{Case, input_of, push_all};
+use gc_cases::{Case, push_all};
 use gc_engines::{read_scene, run_check, run_check_log, run_drill_on, run_exec};
 use gc_instrument::serve;
+use gc_lines::{ServeFault, Served};
 use gc_probes::{PieceSource, Pipe};
 use gc_texts::RunFault;
 use std::alloc::{AllocError, Global};
@@ -49,7 +50,7 @@ pub struct Setup {
     /// What the link gives of itself, and in which pieces.
     pub link: Vec<u8>,
     pub link_sizes: Vec<usize>,
-    /// The text of the scene whose instrument it is.
+    /// The text of the scene whose instrument answers.
     pub scene: Vec<u8>,
     /// How many reads are allowed.
     pub allowed: u32,
@@ -76,10 +77,12 @@ fn engine_of(word: &str) -> Engine {
     }
 }
 
+// The number under a key, and `or` where there is none.
 fn small_number(case: &Case<'_>, key: &str, or: u32) -> u32 {
     case.value(key).parse::<u32>().unwrap_or(or)
 }
 
+// The size under a key, and `or` where there is none.
 fn size(case: &Case<'_>, key: &str, or: usize) -> usize {
     case.value(key).parse::<usize>().unwrap_or(or)
 }
@@ -131,13 +134,26 @@ impl Setup {
         }
     }
 
-    /// The set-up that a case says.
-    pub fn of(alloc: Global, case: &Case<'_>) -> Result<Setup, AllocError> {
-        let engine = engine_of(case.value("engine"));
-        let mut setup = Setup::new(alloc, engine, input_of(alloc, case)?);
-        setup.take_numbers(case);
-        setup.take_bytes(case)?;
-        Ok(setup)
+    /// A run of which nothing is said yet.
+    pub fn unset(alloc: Global) -> Setup {
+        Setup::new(alloc, Engine::None, Vec::new(alloc))
+    }
+
+    /// Takes the set-up that a case says.
+    pub fn take(&mut self, case: &Case<'_>) -> Result<(), AllocError> {
+        self.engine = engine_of(case.value("engine"));
+        self.take_numbers(case);
+        self.take_input(case)?;
+        self.take_bytes(case)
+    }
+
+    // Takes the bytes under `front`, those under `input`, so many times as `times` says, and those under `behind`.
+    fn take_input(&mut self, case: &Case<'_>) -> Result<(), AllocError> {
+        push_all(&mut self.input, case.value("front"))?;
+        for _ in 0..case.number("times", 1) {
+            push_all(&mut self.input, case.value("input"))?;
+        }
+        push_all(&mut self.input, case.value("behind"))
     }
 
     fn take_bytes(&mut self, case: &Case<'_>) -> Result<(), AllocError> {
@@ -155,7 +171,7 @@ impl Setup {
         self.answers.link_out = case.number("link-taken", u64::MAX);
         self.most = size(case, "most", 5);
         self.link_most = size(case, "link-most", 1000);
-        self.totals = case.value("engine") == "totals";
+        self.totals = case.has("engine", "totals");
         self.width = case.number("width", 7);
     }
 
@@ -173,6 +189,7 @@ impl Setup {
         }
     }
 
+    // How many requests may wait: 1 where the case says so, and 7 else.
     fn width(&self) -> u8
         ensures least { 1 ≤ result }
         ensures most { result ≤ WINDOW }
@@ -181,94 +198,93 @@ impl Setup {
     }
 
     /// Whether the input comes to the same in single bytes.
-    pub fn is_same_single(&self, alloc: Global, whole: &Came) -> Result<bool, AllocError> {
+    pub fn is_same_single(&self, alloc: Global, whole: &Came) -> bool {
         let mut ones = Vec::new(alloc);
-        push_single(&mut ones, self.input.as_slice())?;
-        self.comes_to(alloc, ones.as_slice(), whole)
+        push_single(&mut ones, self.input.as_slice()).is_ok()
+            && self.comes_to(alloc, ones.as_slice(), whole)
     }
 
-    /// Whether it comes to the same cut in two at each place.
-    pub fn is_same_cut(&self, alloc: Global, whole: &Came) -> Result<bool, AllocError> {
+    /// Whether the input comes to the same cut in two at each place.
+    pub fn is_same_cut(&self, alloc: Global, whole: &Came) -> bool {
         for place in 0..self.input.len() {
-            if !self.comes_to(alloc, &[place], whole)? {
-                return Ok(false);
+            if !self.comes_to(alloc, &[place], whole) {
+                return false;
             }
         }
-        Ok(true)
+        true
     }
 
-    fn comes_to(&self, alloc: Global, sizes: &[usize], whole: &Came) -> Result<bool, AllocError> {
-        Ok(self.run(alloc, sizes)?.is(whole))
+    // Whether the input in pieces of these sizes comes to the same.
+    fn comes_to(&self, alloc: Global, sizes: &[usize], whole: &Came) -> bool {
+        self.run(alloc, sizes).is(whole)
     }
 
-    /// Runs it over an input in pieces of these sizes.
-    pub fn run(&self, alloc: Global, sizes: &[usize]) -> Result<Came, AllocError> {
-        let mut output = Taking::new(alloc, self.most, self.answers.output);
-        let mut link = Taking::new(alloc, self.link_most, self.answers.link_out);
-        let end = self.run_on(alloc, sizes, &mut output, &mut link)?;
-        Ok(Came { end, output, link })
-    }
-
-    fn run_on(
-        &self,
-        alloc: Global,
-        sizes: &[usize],
-        output: &mut Taking,
-        link: &mut Taking,
-    ) -> Result<End, AllocError> {
+    /// Runs the engine over the input in pieces of these sizes.
+    pub fn run(&self, alloc: Global, sizes: &[usize]) -> Came {
+        let output = Taking::new(alloc, self.most, self.answers.output);
+        let link = Taking::new(alloc, self.link_most, self.answers.link_out);
+        let mut came = Came::new(alloc, output, link);
         let mut source = PieceSource::new(self.input.as_slice(), sizes, self.answers.input);
+        self.run_on(alloc, &mut source, &mut came);
+        came
+    }
+
+    fn run_on(&self, alloc: Global, source: &mut PieceSource<'_>, came: &mut Came) {
         match self.engine {
-            Engine::Exec => self.exec(alloc, &mut source, output),
-            Engine::Serve => self.serve(alloc, &mut source, output),
-            Engine::Check => self.check(alloc, &mut source, output),
-            Engine::CheckLog => self.check_log(alloc, &mut source, output),
-            Engine::Drill => ran(alloc, self.drill(alloc, &mut source, output)),
-            Engine::Ask => ran(alloc, self.ask(alloc, &mut source, link, output)),
-            Engine::Loop => ran(alloc, self.ask_in_a_loop(alloc, &mut source, output)),
-            Engine::Scene => ran(alloc, self.read(alloc)),
-            Engine::None => Ok(end_of(String::from_str(alloc, "no such engine")?)),
+            Engine::Exec | Engine::Check | Engine::CheckLog => self.answer(source, came),
+            Engine::Serve => self.serve(alloc, source, came),
+            Engine::None => came.end.text.text("no such engine"),
+            _ => self.play(alloc, source, came),
         }
     }
 
-    fn exec(
-        &self,
-        alloc: Global,
-        source: &mut PieceSource<'_>,
-        output: &mut Taking,
-    ) -> Result<End, AllocError> {
-        served(alloc, run_exec(source, output, self.allowed))
+    // Runs an engine that counts its lines.
+    fn answer(&self, source: &mut PieceSource<'_>, came: &mut Came) {
+        let end = self.answer_to(source, &mut came.output);
+        came.end.serve(end);
     }
 
-    fn check(
+    fn answer_to(
         &self,
-        alloc: Global,
         source: &mut PieceSource<'_>,
         output: &mut Taking,
-    ) -> Result<End, AllocError> {
-        served(alloc, run_check(source, output, self.allowed))
-    }
-
-    fn check_log(
-        &self,
-        alloc: Global,
-        source: &mut PieceSource<'_>,
-        output: &mut Taking,
-    ) -> Result<End, AllocError> {
-        served(alloc, run_check_log(source, output, self.allowed))
+    ) -> Result<Served, ServeFault> {
+        match self.engine {
+            Engine::Exec => run_exec(source, output, self.allowed),
+            Engine::Check => run_check(source, output, self.allowed),
+            _ => run_check_log(source, output, self.allowed),
+        }
     }
 
     // Serves with the scene's instrument.
-    fn serve(
+    fn serve(&self, alloc: Global, source: &mut PieceSource<'_>, came: &mut Came) {
+        match read_scene(alloc, self.scene.as_slice()) {
+            Ok(mut instrument) => {
+                let end = serve(&mut instrument, source, &mut came.output, self.allowed);
+                came.end.serve(end);
+            }
+            Err(fault) => came.end.run(Err(fault)),
+        }
+    }
+
+    // Runs an engine that doesn't count its lines.
+    fn play(&self, alloc: Global, source: &mut PieceSource<'_>, came: &mut Came) {
+        let end = self.play_to(alloc, source, &mut came.link, &mut came.output);
+        came.end.run(end);
+    }
+
+    fn play_to(
         &self,
         alloc: Global,
         source: &mut PieceSource<'_>,
+        link: &mut Taking,
         output: &mut Taking,
-    ) -> Result<End, AllocError> {
-        match read_scene(alloc, self.scene.as_slice()) {
-            Ok(mut instrument) => {
-                served(alloc, serve(&mut instrument, source, output, self.allowed))
-            }
-            Err(fault) => ran(alloc, Err(fault)),
+    ) -> Result<(), RunFault> {
+        match self.engine {
+            Engine::Drill => self.drill(alloc, source, output),
+            Engine::Ask => self.ask(alloc, source, link, output),
+            Engine::Loop => self.ask_in_a_loop(alloc, source, output),
+            _ => self.read(alloc),
         }
     }
 

@@ -15,22 +15,46 @@ pub fn in_single_bytes(
     events: &[Event],
 ) -> Result<Vec<Event>, AllocError> {
     let mut pieces = Vec::new(alloc);
-    for event in events {
-        match *event {
-            Event::UpDeliver => deliver(alloc, world, &mut pieces, Event::UpBytes(1))?,
-            Event::DownDeliver => deliver(alloc, world, &mut pieces, Event::DownBytes(1))?,
-            other => pieces.push(other)?,
-        }
-    }
+    push_all(alloc, world, events, &mut pieces)?;
     Ok(pieces)
+}
+
+fn push_all(
+    alloc: Global,
+    world: &Worlds,
+    events: &[Event],
+    pieces: &mut Vec<Event>,
+) -> Result<(), AllocError> {
+    for event in events {
+        push_event(alloc, world, *event, pieces)?;
+    }
+    Ok(())
+}
+
+fn push_event(
+    alloc: Global,
+    world: &Worlds,
+    event: Event,
+    pieces: &mut Vec<Event>,
+) -> Result<(), AllocError> {
+    match event {
+        Event::UpDeliver => deliver(alloc, world, Event::UpBytes(1), pieces),
+        Event::DownDeliver => deliver(alloc, world, Event::DownBytes(1), pieces),
+        _ => push(event, pieces),
+    }
+}
+
+fn push(event: Event, pieces: &mut Vec<Event>) -> Result<(), AllocError> {
+    pieces.push(event)?;
+    Ok(())
 }
 
 // Bytes go over until no part of a line has gone in their direction.
 fn deliver(
     alloc: Global,
     world: &Worlds,
-    pieces: &mut Vec<Event>,
     byte: Event,
+    pieces: &mut Vec<Event>,
 ) -> Result<(), AllocError> {
     for _ in 0..MOST_BYTES {
         pieces.push(byte)?;
@@ -41,6 +65,7 @@ fn deliver(
     Ok(())
 }
 
+// Whether behind these events no part of a line has gone in the direction of this byte.
 fn is_whole(
     alloc: Global,
     world: &Worlds,

@@ -16,6 +16,7 @@ pub struct Taking {
 }
 
 impl Taking {
+    /// A sink that took nothing yet, with these bounds.
     pub fn new(alloc: Global, most: usize, answers: u64) -> Taking {
         Taking {
             bytes: Vec::new(alloc),

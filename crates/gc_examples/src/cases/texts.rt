@@ -1,57 +1,60 @@
-//! The texts: one that is read, as what it gives; a line of a log or of a text at fault; a place; a fault as it is told.
+//! Cases of texts. A text is read, and what it gives is told; so are a line of a log, the trouble of a line, a place, and how a fault is
+//! printed.
 
-use gc_cases::{Case, Player, bytes_of, push_text, tell};
+use gc_cases::{Case, Player, Told, bytes_of};
 use gc_engines::read_schedule;
 use gc_lines::{Sink, ToWriter};
 use gc_links::place_of;
 use gc_texts::{
-    Command, LogBytes, LogMark, RunFault, Task, Tasks, line_at, read_commands, read_log_line,
-    read_tasks, trouble_of, write_log_line,
+    Command, LogBytes, LogLine, LogMark, RunFault, Task, Tasks, line_at, read_commands,
+    read_log_line, read_tasks, trouble_of, write_log_line,
 };
 use gc_world::Event;
-use std::alloc::{AllocError, Global};
+use std::alloc::Global;
 use std::io;
 
 /// Plays `.texts`.
 pub struct Texts;
 
 impl Player for Texts {
-    fn ending(&self) -> &'static str {
-        ".texts"
-    }
-
-    fn play(&self, rt: &HostRuntime, case: &Case<'_>, wrong: &mut String) -> io::Result<()> {
-        let text = bytes_of(rt.alloc(), case.value("text"))?;
-        let is = read(rt.alloc(), case, text.as_slice())?;
-        tell(case, "is", is.as_slice(), wrong)?;
-        Ok(tell_name(rt.alloc(), case, text.as_slice(), wrong)?)
+    fn play(&self, rt: &HostRuntime, case: &Case<'_>, wrong: &mut Told) -> io::Result<()> {
+        match bytes_of(rt.alloc(), case.value("text")) {
+            Ok(text) => play_text(rt.alloc(), case, text.as_slice(), wrong),
+            Err(_) => wrong.lack(),
+        }
+        Ok(())
     }
 }
 
-// What a text is, read as the case says.
-fn read(alloc: Global, case: &Case<'_>, text: &[u8]) -> io::Result<Vec<u8>> {
+fn play_text(alloc: Global, case: &Case<'_>, text: &[u8], wrong: &mut Told) {
+    let mut is = Told::new(alloc);
+    read(alloc, case, text, &mut is);
+    case.tell_told("is", &is, wrong);
+    if !case.has("of", "") {
+        tell_name(alloc, case, text, wrong);
+    }
+}
+
+// Tells what a text is, read as the case says.
+fn read(alloc: Global, case: &Case<'_>, text: &[u8], is: &mut Told) {
     match case.value("as") {
-        "line" => Ok(Vec::from_slice(alloc, line_at(text, count(case, "line")))?),
-        "trouble" => trouble(alloc, text),
-        "log" => Ok(log(alloc, text)?),
-        "fault" => fault(alloc, case),
-        word => Ok(read_text(alloc, word, case, text)?.into_bytes()),
+        "line" => is.bytes(line_at(text, count(case, "line"))),
+        "trouble" => trouble(text, is),
+        "log" => log(text, is),
+        "fault" => fault(case, is),
+        word => read_text(alloc, word, case, text, is),
     }
 }
 
-fn read_text(
-    alloc: Global,
-    word: &str,
-    case: &Case<'_>,
-    text: &[u8],
-) -> Result<String, AllocError> {
+// Tells what a text is, read as this word says, which is none of those that `read` knows.
+fn read_text(alloc: Global, word: &str, case: &Case<'_>, text: &[u8], is: &mut Told) {
     match word {
-        "commands" => commands(alloc, text),
-        "schedule" => schedule(alloc, text),
-        "tasks" => tasks(alloc, case, text),
-        "place" => place(alloc, text),
-        "log line" => log_line(alloc, text),
-        _ => String::from_str(alloc, "no such text"),
+        "commands" => commands(alloc, text, is),
+        "schedule" => schedule(alloc, text, is),
+        "tasks" => tasks(alloc, case, text, is),
+        "place" => place(text, is),
+        "log line" => log_line(text, is),
+        _ => is.text("no such text"),
     }
 }
 
@@ -60,134 +63,128 @@ fn count(case: &Case<'_>, key: &str) -> u32 {
     case.value(key).parse::<u32>().unwrap_or(0)
 }
 
-// Each command, with a line for each.
-fn commands(alloc: Global, text: &[u8]) -> Result<String, AllocError> {
+// Tells each command of a text, in a line for each; or the fault.
+fn commands(alloc: Global, text: &[u8], is: &mut Told) {
     match read_commands(alloc, text) {
-        Ok(commands) => commands_text(alloc, commands.as_slice()),
-        Err(fault) => format!(in alloc; "{fault}"),
+        Ok(commands) => tell_commands(commands.as_slice(), is),
+        Err(fault) => is.display(&fault),
     }
 }
 
-fn commands_text(alloc: Global, commands: &[Command]) -> Result<String, AllocError> {
-    let mut told = String::new(alloc);
+fn tell_commands(commands: &[Command], is: &mut Told) {
     for command in commands {
-        write!(told, "{} {:?}\n", command.target, command.call)?;
+        is.counted(&command.target, " ");
+        is.debug(&command.call);
+        is.text("\n");
     }
-    Ok(told)
 }
 
-// Each event, with a line for each.
-fn schedule(alloc: Global, text: &[u8]) -> Result<String, AllocError> {
+// Tells each event of a schedule, in a line for each; or the fault.
+fn schedule(alloc: Global, text: &[u8], is: &mut Told) {
     match read_schedule(alloc, text) {
-        Ok(events) => events_text(alloc, events.as_slice()),
-        Err(fault) => format!(in alloc; "{fault}"),
+        Ok(events) => tell_events(events.as_slice(), is),
+        Err(fault) => is.display(&fault),
     }
 }
 
-fn events_text(alloc: Global, events: &[Event]) -> Result<String, AllocError> {
-    let mut told = String::new(alloc);
+fn tell_events(events: &[Event], is: &mut Told) {
     for event in events {
-        write!(told, "{event:?}\n")?;
+        is.debug(event);
+        is.text("\n");
     }
-    Ok(told)
 }
 
 // Reads a station's text, in whose front the deadline and the mode of the case hold.
 fn tasks_of(alloc: Global, case: &Case<'_>, text: &[u8]) -> Result<Tasks, RunFault> {
     let deadline = u64::from(count(case, "deadline"));
-    read_tasks(alloc, text, deadline, case.value("mode") == "chained")
+    read_tasks(alloc, text, deadline, case.has("mode", "chained"))
 }
 
-// Each task, with a line for each, and how many names there are.
-fn tasks(alloc: Global, case: &Case<'_>, text: &[u8]) -> Result<String, AllocError> {
+// Tells each task of a station's text, in a line for each, and how many names there are; or the fault.
+fn tasks(alloc: Global, case: &Case<'_>, text: &[u8], is: &mut Told) {
     match tasks_of(alloc, case, text) {
-        Ok(all) => tasks_text(alloc, all.tasks.as_slice(), all.names.len()),
-        Err(fault) => format!(in alloc; "{fault}"),
+        Ok(all) => tell_tasks(all.tasks.as_slice(), all.names.len(), is),
+        Err(fault) => is.display(&fault),
     }
 }
 
-fn tasks_text(alloc: Global, tasks: &[Task], names: usize) -> Result<String, AllocError> {
-    let mut told = String::new(alloc);
+fn tell_tasks(tasks: &[Task], names: usize, is: &mut Told) {
     for task in tasks {
-        push_task(task, &mut told)?;
+        tell_task(task, is);
+        tell_near(task, is);
+        is.text("\n");
     }
-    write!(told, "{names} names")?;
-    Ok(told)
+    is.counted(&names, " names");
 }
 
-fn push_task(task: &Task, told: &mut String) -> Result<(), AllocError> {
-    let mode = if task.chained { " chained" } else { "" };
-    let (target, call) = (task.command.target, task.command.call.number());
-    write!(told, "{target} {call} within {}{mode}", task.deadline)?;
-    push_near(task, told)?;
-    write!(told, "\n")
+fn tell_task(task: &Task, is: &mut Told) {
+    is.display(&task.command.target);
+    is.titled(" ", &task.command.call.number());
+    is.titled(" within ", &task.deadline);
+    is.either(task.chained, " chained", "");
 }
 
-fn push_near(task: &Task, told: &mut String) -> Result<(), AllocError> {
-    let Some(near) = task.near else { return Ok(()) };
-    let (place, tolerance) = (near.place, near.tolerance);
-    write!(told, " near {} {} {tolerance}", place.hz, place.v)
+fn tell_near(task: &Task, is: &mut Told) {
+    if let Some(near) = task.near {
+        is.titled(" near ", &near.place.hz);
+        is.titled(" ", &near.place.v);
+        is.titled(" ", &near.tolerance);
+    }
 }
 
 // Tells the name of the target that the case asks for.
-fn tell_name(
-    alloc: Global,
-    case: &Case<'_>,
-    text: &[u8],
-    wrong: &mut String,
-) -> Result<(), AllocError> {
-    if case.value("of") == "" {
-        return Ok(());
-    }
+fn tell_name(alloc: Global, case: &Case<'_>, text: &[u8], wrong: &mut Told) {
+    let mut name = Told::new(alloc);
+    name_of(alloc, case, text, &mut name);
+    case.tell_told("name", &name, wrong);
+}
+
+fn name_of(alloc: Global, case: &Case<'_>, text: &[u8], name: &mut Told) {
     match tasks_of(alloc, case, text) {
-        Ok(all) => tell(case, "name", all.name_of(count(case, "of")), wrong),
-        Err(fault) => tell(
-            case,
-            "name",
-            format!(in alloc; "{fault}")?.as_bytes(),
-            wrong,
-        ),
+        Ok(all) => name.bytes(all.name_of(count(case, "of"))),
+        Err(fault) => name.display(&fault),
     }
 }
 
-// What is told of a line at fault, as the third one.
-fn trouble(alloc: Global, line: &[u8]) -> io::Result<Vec<u8>> {
-    let mut told = Vec::new(alloc);
-    trouble_of(line).tell(3, &mut told)?;
-    Ok(told)
+// Tells what the program prints of a line at fault, taken as the third line.
+fn trouble(line: &[u8], is: &mut Told) {
+    if trouble_of(line).tell(3, is.writer()).is_err() {
+        is.lack();
+    }
 }
 
-fn place(alloc: Global, word: &[u8]) -> Result<String, AllocError> {
+// Tells the place that a word names.
+fn place(word: &[u8], is: &mut Told) {
     match place_of(str::from_utf8(word).unwrap_or("no text")) {
-        Some(place) => format!(in alloc; "{place:?}"),
-        None => String::from_str(alloc, "none"),
+        Some(place) => is.debug(&place),
+        None => is.text("none"),
     }
 }
 
-// A line of a log as its moment, its mark and its bytes.
-fn log_line(alloc: Global, line: &[u8]) -> Result<String, AllocError> {
-    let Some(line) = read_log_line(line) else {
-        return String::from_str(alloc, "no log line");
-    };
-    let mut told = String::new(alloc);
-    push_text(&mut told, line.moment)?;
-    told.push(' ')?;
-    push_text(&mut told, line.mark.text())?;
-    told.push(' ')?;
-    push_text(&mut told, line.bytes.as_slice())?;
-    Ok(told)
-}
-
-// A line that went, in a log, a second after the beginning of 1970.
-fn log(alloc: Global, text: &[u8]) -> Result<Vec<u8>, AllocError> {
-    let mut written = Vec::new(alloc);
-    if put_log(text, &mut written) {
-        return Vec::from_slice(alloc, b"not written");
+// Tells a line of a log as its moment, its mark and its bytes.
+fn log_line(line: &[u8], is: &mut Told) {
+    match read_log_line(line) {
+        Some(line) => tell_log_line(&line, is),
+        None => is.text("no log line"),
     }
-    Ok(written)
 }
 
-// Writes it, and says whether that failed.
+fn tell_log_line(line: &LogLine<'_>, is: &mut Told) {
+    is.escaped(line.moment);
+    is.text(" ");
+    is.escaped(line.mark.text());
+    is.text(" ");
+    is.escaped(line.bytes.as_slice());
+}
+
+// Tells the line that a log has of this text, which went out a second after the beginning of 1970.
+fn log(text: &[u8], is: &mut Told) {
+    if put_log(text, is.writer()) {
+        is.text("not written");
+    }
+}
+
+// Writes that line, and says whether the write failed.
 fn put_log(text: &[u8], written: &mut Vec<u8>) -> bool {
     let mut bytes = LogBytes::new();
     for byte in text {
@@ -198,15 +195,20 @@ fn put_log(text: &[u8], written: &mut Vec<u8>) -> bool {
     sink.has_failed()
 }
 
-// A fault: its number, what `Display` prints, and its line.
-fn fault(alloc: Global, case: &Case<'_>) -> io::Result<Vec<u8>> {
-    let Some(fault) = fault_of(case) else {
-        return Ok(Vec::from_slice(alloc, b"no such fault")?);
-    };
-    let mut told = Vec::new(alloc);
-    told.extend_from_slice(format!(in alloc; "{}\n{fault}\n", fault.number())?.as_bytes())?;
-    fault.tell(&mut told)?;
-    Ok(told)
+// Tells a fault: its number, what `Display` prints, and its line.
+fn fault(case: &Case<'_>, is: &mut Told) {
+    match fault_of(case) {
+        Some(fault) => tell_fault(fault, is),
+        None => is.text("no such fault"),
+    }
+}
+
+fn tell_fault(fault: RunFault, is: &mut Told) {
+    is.counted(&fault.number(), "\n");
+    is.counted(&fault, "\n");
+    if fault.tell(is.writer()).is_err() {
+        is.lack();
+    }
 }
 
 // The fault that a case names.
@@ -223,6 +225,7 @@ fn fault_of(case: &Case<'_>) -> Option<RunFault> {
     })
 }
 
+// The fault of this name, among those without numbers of their own.
 fn plain_fault_of(word: &str) -> Option<RunFault> {
     Some(match word {
         "SceneFull" => RunFault::SceneFull,

@@ -4,7 +4,7 @@ ghost use Rattle.std.specs.Prelude.{◌≤◌};
 ghost use Rattle.gc_client.specs.declared.window.TheConstants.{WINDOW};
 
 use crate::cases::single_bytes::in_single_bytes;
-use gc_cases::{Case, Player, Rows, play_rows, push_bytes};
+use gc_cases::{Case, Player, Rows, Told, play_rows};
 use gc_catalogue::Call;
 use gc_client::{Client, Outcome, Ring, Settlement, Slots, Window};
 use gc_engines::read_schedule;
@@ -17,34 +17,36 @@ use std::{fs, io};
 /// The events so far, how many requests may wait, and the precision of the instrument that is given.
 #[derive(Drop)]
 pub struct Worlds {
-    text: String,
+    text: Told,
     width: u8,
     precision: i16,
 }
 
 impl Worlds {
-    /// A world whose first events are those of a schedule.
-    pub fn new(schedule: String) -> Worlds {
+    /// A world without events.
+    pub fn new(alloc: Global) -> Worlds {
         Worlds {
-            text: schedule,
+            text: Told::new(alloc),
             width: 7,
             precision: 15,
         }
     }
 
-    fn add_event(&mut self, word: &str, what: &str) -> Result<(), AllocError> {
-        self.text.push_str(word)?;
-        self.text.push(' ')?;
-        self.text.push_str(what)?;
-        self.text.push('\n')
+    fn add_event(&mut self, word: &str, what: &str) {
+        self.text.text(word);
+        self.text.text(" ");
+        self.text.text(what);
+        self.text.text("\n");
     }
 
+    // The simulator with this precision.
     fn instrument(&self) -> Instrument {
         let mut instrument = Instrument::simulator();
         let _ = instrument.execute(&Call::SetPrecision(self.precision));
         instrument
     }
 
+    // How many requests may wait: from 1 to 6 as the case says, and 7 else.
     fn width(&self) -> u8
         ensures least { 1 ≤ result }
         ensures most { result ≤ WINDOW }
@@ -65,189 +67,176 @@ impl Worlds {
         play_width(alloc, self.instrument(), window, self.width(), events)
     }
 
-    // What they lead to, over a window.
-    fn told<W: Window>(
+    // Tells what events lead to, over a window.
+    fn tell_over<W: Window>(&self, alloc: Global, window: W, events: &[Event], came: &mut Told) {
+        match self.play(alloc, window, events) {
+            Ok((report, client)) => tell(&report, &client, came),
+            Err(_) => came.lack(),
+        }
+    }
+
+    // Tells what events lead to over places, and also over a ring and with each delivery in single bytes, where that differs.
+    fn tell_end(&self, alloc: Global, events: &[Event], came: &mut Told) {
+        let mut told = Told::new(alloc);
+        self.tell_over(alloc, Slots::new(), events, &mut told);
+        came.told(&told);
+        self.tell_ring(alloc, events, &told, came);
+        self.tell_pieces(alloc, events, &told, came);
+    }
+
+    fn tell_ring(&self, alloc: Global, events: &[Event], told: &Told, came: &mut Told) {
+        match Ring::new(alloc) {
+            Ok(ring) => self.compare(alloc, ring, events, told, ", and over a ring ", came),
+            Err(_) => came.lack(),
+        }
+    }
+
+    fn tell_pieces(&self, alloc: Global, events: &[Event], told: &Told, came: &mut Told) {
+        match in_single_bytes(alloc, self, events) {
+            Ok(pieces) => self.compare(
+                alloc,
+                Slots::new(),
+                pieces.as_slice(),
+                told,
+                ", and in single bytes ",
+                came,
+            ),
+            Err(_) => came.lack(),
+        }
+    }
+
+    // Tells what events lead to another way, where that isn't what was told.
+    fn compare<W: Window>(
         &self,
         alloc: Global,
         window: W,
         events: &[Event],
-    ) -> Result<String, AllocError> {
-        let mut told = String::new(alloc);
-        let (report, client) = self.play(alloc, window, events)?;
-        tell(&report, &client, &mut told)?;
-        Ok(told)
+        told: &Told,
+        way: &str,
+        came: &mut Told,
+    ) {
+        let mut other = Told::new(alloc);
+        self.tell_over(alloc, window, events, &mut other);
+        if other.is_lacking() || other.as_bytes() != told.as_bytes() {
+            came.text(way);
+            came.told(&other);
+        }
     }
 
-    // What they lead to is told: with places, with a ring, and with each delivery in single bytes.
-    fn tell_end(
-        &self,
-        alloc: Global,
-        events: &[Event],
-        came: &mut String,
-    ) -> Result<(), AllocError> {
-        let told = self.told(alloc, Slots::new(), events)?;
-        came.push_str(told.as_str())?;
-        self.tell_ring(alloc, events, told.as_str(), came)?;
-        self.tell_pieces(alloc, events, told.as_str(), came)
-    }
-
-    fn tell_ring(
-        &self,
-        alloc: Global,
-        events: &[Event],
-        told: &str,
-        came: &mut String,
-    ) -> Result<(), AllocError> {
-        let other = self.told(alloc, Ring::new(alloc)?, events)?;
-        push_other(came, told, ", and over a ring ", other.as_str())
-    }
-
-    fn tell_pieces(
-        &self,
-        alloc: Global,
-        events: &[Event],
-        told: &str,
-        came: &mut String,
-    ) -> Result<(), AllocError> {
-        let pieces = in_single_bytes(alloc, self, events)?;
-        let other = self.told(alloc, Slots::new(), pieces.as_slice())?;
-        push_other(came, told, ", and in single bytes ", other.as_str())
-    }
-
-    // One of the lists that the events lead to, or another part of the report.
-    fn ask(
-        &self,
-        alloc: Global,
-        word: &str,
-        events: &[Event],
-        came: &mut String,
-    ) -> Result<(), AllocError> {
-        let (report, _) = self.play(alloc, Slots::new(), events)?;
-        tell_part(&report, word, came)
+    // Tells one of the lists that events lead to, or another part of the report.
+    fn ask(&self, alloc: Global, word: &str, events: &[Event], came: &mut Told) {
+        match self.play(alloc, Slots::new(), events) {
+            Ok((report, _)) => tell_part(&report, word, came),
+            Err(_) => came.lack(),
+        }
     }
 
     // Tells what the events so far lead to.
-    fn tell_events(&self, alloc: Global, word: &str, came: &mut String) -> Result<(), AllocError> {
+    fn tell_events(&self, alloc: Global, word: &str, came: &mut Told) {
+        if self.text.is_lacking() {
+            came.lack();
+        }
         match read_schedule(alloc, self.text.as_bytes()) {
             Ok(events) if word == "end" => self.tell_end(alloc, events.as_slice(), came),
             Ok(events) => self.ask(alloc, word, events.as_slice(), came),
-            Err(_) => came.push_str("no schedule"),
+            Err(_) => came.text("no schedule"),
         }
     }
 }
 
-fn tell_part(report: &Report, word: &str, came: &mut String) -> Result<(), AllocError> {
+fn tell_part(report: &Report, word: &str, came: &mut Told) {
     match word {
-        "executed" => write!(came, "{:?}", report.executed.as_slice()),
-        "starts" => write!(came, "{:?}", report.starts.as_slice()),
-        "kept" => write!(came, "{:?}", report.instrument.kept_id()),
+        "executed" => came.debug(&report.executed.as_slice()),
+        "starts" => came.debug(&report.starts.as_slice()),
+        "kept" => came.debug(&report.instrument.kept_id()),
         _ => tell_starts(report, came),
     }
 }
 
-fn tell_starts(report: &Report, came: &mut String) -> Result<(), AllocError> {
-    let (up, down) = (report.up.at_start(), report.down.at_start());
-    write!(came, "at start: up {up}, down {down}")
+fn tell_starts(report: &Report, came: &mut Told) {
+    came.titled("at start: up ", &report.up.at_start());
+    came.titled(", down ", &report.down.at_start());
 }
 
 impl Rows for Worlds {
-    fn play(
-        &mut self,
-        alloc: Global,
-        word: &str,
-        what: &str,
-        _bytes: &[u8],
-        came: &mut String,
-    ) -> Result<(), AllocError> {
+    fn play(&mut self, alloc: Global, word: &str, what: &str, _bytes: &[u8], came: &mut Told) {
         match word {
             "send" | "up" | "down" | "expire" | "restart" => self.add_event(word, what),
-            "width" => {
-                self.width = u8::try_from(number(what)).unwrap_or(7);
-                Ok(())
-            }
-            "precision" => {
-                self.precision = i16::try_from(number(what)).unwrap_or(15);
-                Ok(())
-            }
+            "width" => self.width = u8::try_from(number(what)).unwrap_or(7),
+            "precision" => self.precision = i16::try_from(number(what)).unwrap_or(15),
             "end" | "executed" | "starts" | "kept" | "lines" => self.tell_events(alloc, word, came),
-            _ => came.push_str("an unknown word"),
+            _ => came.text("an unknown word"),
         }
     }
-}
-
-// Appends what was told another way, where that isn't the same.
-fn push_other(came: &mut String, told: &str, way: &str, other: &str) -> Result<(), AllocError> {
-    if other == told {
-        return Ok(());
-    }
-    came.push_str(way)?;
-    came.push_str(other)
 }
 
 fn number(word: &str) -> u64 {
     read_whole(word.as_bytes(), u64::MAX).unwrap_or(u64::MAX)
 }
 
-// The settlements, each with its number, the counts, how many wait, and the next id.
-fn tell<W: Window>(
-    report: &Report,
-    client: &Client<W>,
-    came: &mut String,
-) -> Result<(), AllocError> {
-    tell_settled(report.settled.as_slice(), came)?;
-    tell_counts(report, came)?;
-    let (waiting, next) = (client.waiting(), client.next_id());
-    write!(came, "; {waiting} wait, next {next}")
+// Tells the settlements, each with its number, the counts, how many requests wait, and the next id.
+fn tell<W: Window>(report: &Report, client: &Client<W>, came: &mut Told) {
+    tell_settled(report.settled.as_slice(), came);
+    tell_made(report, came);
+    tell_refused(report, came);
+    came.titled("; ", &client.waiting());
+    came.titled(" wait, next ", &client.next_id());
 }
 
-fn tell_settled(settled: &[Settlement], came: &mut String) -> Result<(), AllocError> {
+fn tell_settled(settled: &[Settlement], came: &mut Told) {
     for (m, settlement) in settled.iter().enumerate() {
-        write!(came, "{m} {} ", settlement.target)?;
-        tell_outcome(&settlement.outcome, came)?;
-        came.push_str(" / ")?;
+        came.counted(&m, " ");
+        came.counted(&settlement.target, " ");
+        tell_outcome(&settlement.outcome, came);
+        came.text(" / ");
     }
-    Ok(())
 }
 
-fn tell_outcome(outcome: &Outcome, came: &mut String) -> Result<(), AllocError> {
+fn tell_outcome(outcome: &Outcome, came: &mut Told) {
     match outcome {
         Outcome::Answered(_, line) => {
-            came.push_str("answered ")?;
-            push_bytes(came, line.as_slice())
+            came.text("answered ");
+            came.bytes(line.as_slice());
         }
-        Outcome::Late => came.push_str("late"),
-        Outcome::Lost => came.push_str("lost"),
+        Outcome::Late => came.text("late"),
+        Outcome::Lost => came.text("lost"),
     }
 }
 
-fn tell_counts(report: &Report, came: &mut String) -> Result<(), AllocError> {
-    let (sent, executed) = (report.sent.len(), report.executed.len());
-    write!(came, "sent {sent} executed {executed} ")?;
-    let (made, settled) = (report.made.len(), report.settled.len());
-    write!(came, "made {made} settled {settled} ")?;
-    let (refused, idle) = (report.refused_sends, report.idle_events);
-    write!(came, "refused {refused} idle {idle}")
+fn tell_made(report: &Report, came: &mut Told) {
+    came.titled("sent ", &report.sent.len());
+    came.titled(" executed ", &report.executed.len());
+    came.titled(" made ", &report.made.len());
+    came.titled(" settled ", &report.settled.len());
+}
+
+fn tell_refused(report: &Report, came: &mut Told) {
+    came.titled(" refused ", &report.refused_sends);
+    came.titled(" idle ", &report.idle_events);
 }
 
 /// Rows of the world, behind the events of a schedule where the case names one.
 pub struct World;
 
 impl Player for World {
-    fn ending(&self) -> &'static str {
-        ".world"
-    }
-
-    fn play(&self, rt: &HostRuntime, case: &Case<'_>, wrong: &mut String) -> io::Result<()> {
-        let mut world = Worlds::new(first_events(rt, case)?);
-        Ok(play_rows(rt.alloc(), case, &mut world, wrong)?)
+    fn play(&self, rt: &HostRuntime, case: &Case<'_>, wrong: &mut Told) -> io::Result<()> {
+        let mut world = Worlds::new(rt.alloc());
+        add_events(rt, case.value("schedule"), &mut world.text);
+        play_rows(rt.alloc(), case, &mut world, wrong);
+        Ok(())
     }
 }
 
-// The schedule that a case begins with: an example, or none.
-fn first_events(rt: &HostRuntime, case: &Case<'_>) -> io::Result<String> {
-    let name = case.value("schedule");
-    if name.is_empty() {
-        return Ok(String::new(rt.alloc()));
+// Adds the events of the schedule that a case begins with, if it names one.
+fn add_events(rt: &HostRuntime, name: &str, text: &mut Told) {
+    if !name.is_empty() {
+        read_events(rt, name, text);
     }
-    fs::read_to_string(rt, name)
+}
+
+fn read_events(rt: &HostRuntime, name: &str, text: &mut Told) {
+    match fs::read_to_string(rt, name) {
+        Ok(events) => text.text(events.as_str()),
+        Err(_) => text.lack(),
+    }
 }

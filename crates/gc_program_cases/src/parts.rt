@@ -1,0 +1,109 @@
+//! The parts of the output and of the messages that a case asks for: texts that stand in them, how often, and how the messages begin and
+//! end. What isn't as the case has it is told, with the messages.
+
+use gc_cases::{Case, Told, bytes_of};
+use std::alloc::Global;
+
+/// Tells each part that a case asks for and that the output or the messages lack, and behind these parts the messages.
+pub fn tell_parts(alloc: Global, case: &Case<'_>, output: &str, told: &Told, wrong: &mut Told) {
+    let mut missing = Told::new(alloc);
+    let messages = str::from_utf8(told.as_bytes()).unwrap_or("no text");
+    add_all(alloc, case, output, messages, &mut missing);
+    if !missing.is("") {
+        missing.text(messages);
+    }
+    if told.is_lacking() {
+        missing.lack();
+    }
+    case.tell_told("wrong", &missing, wrong);
+}
+
+// Adds all parts that the output or the messages lack.
+fn add_all(alloc: Global, case: &Case<'_>, output: &str, messages: &str, missing: &mut Told) {
+    add_missing(alloc, case, "has", output, missing);
+    add_missing(alloc, case, "tells", messages, missing);
+    add_miscounted(alloc, case, messages, missing);
+    add_begin(alloc, case, messages.as_bytes(), missing);
+    add_end(alloc, case, messages.as_bytes(), missing);
+    add_length(case, messages.len() as u64, missing);
+}
+
+// Adds each text under a key that doesn't stand in what came.
+fn add_missing(alloc: Global, case: &Case<'_>, key: &str, came: &str, missing: &mut Told) {
+    for place in 0..16 {
+        let Some(value) = case.value_at(key, place) else {
+            break;
+        };
+        if count_of(alloc, value, came, missing) == 0 {
+            add_part(key, value, missing);
+        }
+    }
+}
+
+// Adds a part that is lacking: its key, and its value.
+fn add_part(key: &str, value: &str, missing: &mut Told) {
+    missing.text(key);
+    missing.text(" ");
+    missing.text(value);
+    missing.text(" ");
+}
+
+// Adds each text that the messages don't have as often as a case says.
+fn add_miscounted(alloc: Global, case: &Case<'_>, messages: &str, missing: &mut Told) {
+    for place in 0..16 {
+        let Some(value) = case.value_at("counts", place) else {
+            break;
+        };
+        if !is_counted(alloc, value, messages, missing) {
+            add_part("counts", value, missing);
+        }
+    }
+}
+
+// Whether a text stands in the messages as often as the word in front of it says.
+fn is_counted(alloc: Global, value: &str, messages: &str, missing: &mut Told) -> bool {
+    let (count, text) = value.split_once(' ').unwrap_or(("", value));
+    count.parse::<usize>().ok() == Some(count_of(alloc, text, messages, missing))
+}
+
+// How often the text that a value spells stands in what came.
+fn count_of(alloc: Global, value: &str, came: &str, missing: &mut Told) -> usize {
+    match bytes_of(alloc, value) {
+        Ok(bytes) => count_in(bytes.as_slice(), came),
+        Err(_) => {
+            missing.lack();
+            0
+        }
+    }
+}
+
+// How often bytes stand in what came; never where they are no text.
+fn count_in(bytes: &[u8], came: &str) -> usize {
+    match str::from_utf8(bytes) {
+        Ok(text) => came.matches(text).count(),
+        Err(_) => 0,
+    }
+}
+
+// Adds `begins` where the messages begin otherwise than the case says.
+fn add_begin(alloc: Global, case: &Case<'_>, messages: &[u8], missing: &mut Told) {
+    match bytes_of(alloc, case.value("begins")) {
+        Ok(begin) => missing.either(messages.starts_with(begin.as_slice()), "", "begins "),
+        Err(_) => missing.lack(),
+    }
+}
+
+// Adds `ends` where the messages end otherwise than the case says.
+fn add_end(alloc: Global, case: &Case<'_>, messages: &[u8], missing: &mut Told) {
+    match bytes_of(alloc, case.value("ends")) {
+        Ok(end) => missing.either(messages.ends_with(end.as_slice()), "", "ends "),
+        Err(_) => missing.lack(),
+    }
+}
+
+// Adds `length` where the messages have another number of bytes than the case says.
+fn add_length(case: &Case<'_>, length: u64, missing: &mut Told) {
+    if !case.has("length", "") && case.number("length", u64::MAX) != length {
+        missing.text("length ");
+    }
+}
