@@ -8,6 +8,7 @@ use gc_lines::{Durable, Source};
 use gc_links::Place;
 use gc_measuring::{Appended, append_at, measure_at};
 use gc_messages::{Lossy, Noticed, Noting, Spot, Standard, Streams};
+use gc_station::Kept;
 use gc_subcommands::Asking;
 use gc_subcommands::ask::ask_place;
 use gc_subcommands::looped::loop_port;
@@ -21,7 +22,7 @@ use std::process::ExitCode;
 use std::rt::Files;
 use std::time::Clock;
 
-/// Asks, and tells how it ended; or tells that a standard stream is closed. The streams are handed back.
+/// Asks, and reports how that ended, or that a standard stream is closed. The streams are handed back.
 pub(crate) fn run_asking<
     R: Net<Listener = TcpListener, Stream = TcpStream> + Clock + Files<File = File>,
     S: Source,
@@ -34,7 +35,7 @@ pub(crate) fn run_asking<
     asking: Asking<'_>,
     mut streams: Streams<S, K, E>,
 ) -> (Streams<S, K, E>, io::Result<ExitCode>)
-    // Where one is closed that is told, with status 1, and nothing was read or written.
+    // Where a stream is closed, that is reported with status 1, and nothing was read or written.
     ensures closed { are_open standard ≡ false → IfOk result.1 (λ status. TellsClosed standard (exit_status status) (E.contents streams.messages) (E.contents result.0.messages)) }
     ensures untouched { are_open standard ≡ false → (result.0.input ≡ streams.input) × (result.0.output ≡ streams.output) }
     ensures bound { IfOk result.1 (λ status. exit_status status ≤ 2) }
@@ -46,7 +47,7 @@ pub(crate) fn run_asking<
     run_open(rt, alloc, standard, asking, streams)
 }
 
-// Asks over streams that are open, and tells how it ended. The streams are handed back.
+// Asks over streams that are open, and reports how that ended. The streams are handed back.
 fn run_open<
     R: Net<Listener = TcpListener, Stream = TcpStream> + Clock + Files<File = File>,
     S: Source,
@@ -125,7 +126,7 @@ fn run_ask<
     (streams, ended)
 }
 
-// Measures at a site, and tells how it ended. Where a message can't be written it is lost, and the status stays. The streams are
+// Measures at a site, and reports how that ended. A message that can't be written is lost, and the status stays. The streams are
 // handed back.
 fn measure_site<
     R: Net<Listener = TcpListener, Stream = TcpStream> + Clock + Files<File = File>,
@@ -173,14 +174,16 @@ fn measure_recorded<
 ) -> (Streams<S, K, E>, io::Result<ExitCode>)
     ensures { IfOk result.1 (λ status. exit_status status ≤ 1) }
 {
+    // What is seen at each act, for proofs alone.
+    let mut kept = Kept::new();
     match recording {
         None => {
-            let (streams, ended, _) = measure_at(rt, alloc, spot, log, station, streams);
+            let (streams, ended, _) = measure_at(rt, alloc, spot, log, station, streams, &mut kept);
             (streams, ended)
         }
         Some(recording) => {
             let (streams, ended, appended) = append_at(
-                rt, alloc, spot, log, station, recording, streams,
+                rt, alloc, spot, log, station, recording, streams, &mut kept,
             );
             end_appending(appended);
             (streams, ended)
@@ -196,7 +199,7 @@ fn end_appending<R: Files<File = File>>(appended: Option<Appended<'_, R>>) {
     }
 }
 
-// Streams with messages that may be lost.
+// These streams, but with messages of which one that can't be written is lost, and is no error.
 fn lossy_of<S, K, E>(streams: Streams<S, K, E>) -> Streams<S, K, Lossy<E>> {
     let Streams {
         input,
@@ -210,7 +213,7 @@ fn lossy_of<S, K, E>(streams: Streams<S, K, E>) -> Streams<S, K, Lossy<E>> {
     }
 }
 
-// The same streams, as they were.
+// The streams as they were before `lossy_of`.
 fn lossless_of<S, K, E>(lossy: Streams<S, K, Lossy<E>>) -> Streams<S, K, E> {
     let Streams {
         input,

@@ -30,8 +30,8 @@ use std::time::Clock;
 /// and a place for messages, and gives the exit status: 0 where it is done or asked for help or the version, 1 after a fault, which
 /// is one line on the messages, and 2 for words that don't parse. It fails itself only where a text can't be written.
 ///
-/// `standard` says which of the three streams are open. Where one isn't, `station`, `ask` and `loop` do nothing but tell it, and
-/// `serve` fills its place.
+/// `standard` says which of the three streams are open. Where one isn't, `station`, `ask` and `loop` only report it, and `serve`
+/// fills its place.
 pub fn run_program<
     R: Net<Listener = TcpListener, Stream = TcpStream> + Clock + Files<File = File>,
     I: Read + Drop,
@@ -76,7 +76,7 @@ fn run_words<
     }
 }
 
-// Runs what is asked for over the streams, and tells how it ended.
+// Runs what is asked for over the streams, and reports how that ended.
 fn run_asked<
     R: Net<Listener = TcpListener, Stream = TcpStream> + Clock + Files<File = File>,
     I: Read + Drop,
@@ -102,7 +102,7 @@ fn run_asked<
     }
 }
 
-// Answers requests. What it reads is read ahead.
+// Answers requests. The input is read ahead.
 fn run_exec<R: Files, I: Read + Drop, O: Write + Drop, E: Write + Drop>(
     rt: &R,
     alloc: Global,
@@ -121,7 +121,7 @@ fn run_exec<R: Files, I: Read + Drop, O: Write + Drop, E: Write + Drop>(
     exec_scene(rt, alloc, scene, &mut source, &mut sink, &mut messages)
 }
 
-// Checks a log, or a stream. What it reads is read ahead.
+// Checks a log where `log` is set, else a stream. The input is read ahead.
 fn run_check<I: Read + Drop, O: Write + Drop, E: Write + Drop>(
     log: bool,
     streams: Streams<I, O, E>,
@@ -207,7 +207,7 @@ fn run_over<
     noting.tell(standard, ended, &mut streams.messages)
 }
 
-// Tells why words ask for no subcommand: memory was wanted, they don't parse, or they ask for the help or the version.
+// Reports why words ask for no subcommand: memory ran out, they don't parse, or they ask for the help or the version.
 fn answer<O: Write, E: Write>(
     error: &Error,
     reads: bool,
@@ -250,8 +250,8 @@ fn reads_a_text(words: &[String]) -> bool {
     }
 }
 
-// Tells why a command line doesn't parse. After an unknown argument of a subcommand that reads a text it adds that the text comes on
-// standard input.
+// Writes why a command line doesn't parse, and after an unknown argument of a subcommand that reads a text, that the text comes on
+// standard input. The status is 2.
 fn refuse<E: Write>(error: &Error, reads: bool, messages: &mut E) -> io::Result<ExitCode>
     ensures { IfOk result (λ status. exit_status status ≡ 2) }
 {
@@ -265,12 +265,12 @@ fn refuse<E: Write>(error: &Error, reads: bool, messages: &mut E) -> io::Result<
     Ok(ExitCode::from(2))
 }
 
-// The words of the command line in a vector. It fails where one isn't UTF-8, or for want of memory.
+// The words of the command line in a vector. It fails where one isn't UTF-8, or where memory ran out.
 fn all_words(alloc: Global, words: io::Result<Args>) -> io::Result<Vec<String>> {
     Ok(words?.collect(alloc)?)
 }
 
-// The words couldn't be read: one isn't UTF-8, which ends with status 2, or memory was wanted.
+// Reports that the words couldn't be read: with status 2 where one isn't UTF-8, and with status 1 where memory ran out.
 fn refuse_words<E: Write>(error: &io::Error, messages: &mut E) -> io::Result<ExitCode>
     ensures refused { IfOk result (λ status. 1 ≤ exit_status status) }
     ensures bound { IfOk result (λ status. exit_status status ≤ 2) }
@@ -282,7 +282,7 @@ fn refuse_words<E: Write>(error: &io::Error, messages: &mut E) -> io::Result<Exi
     Ok(ExitCode::from(2))
 }
 
-// Where the command line found no memory that is told, with status 1 as any fault.
+// Reports that memory ran out as the command line was read, with status 1, as any fault.
 fn want_of_memory<E: Write>(messages: &mut E) -> io::Result<ExitCode>
     ensures status { IfOk result (λ status. exit_status status ≡ 1) }
     ensures text { OnOk result (Appends (E.contents messages.old) (E.contents messages.new) (fault_line (run_fault_text RunFault.Memory))) }

@@ -1,4 +1,4 @@
--- Status 0 is told only of a run that is done.
+-- Status 0 is reported only of a run that is done.
 use Rattle.std.proofs.Common.{◌≡◌, ℕ, List, Option, Result, Ok, Err, inl, inr, arith}
 use Rattle.std.specs.Io.KnownBytes.{Consumes}
 use Rattle.gc_measuring.specs.Measuring.{Places, Measures, IsMeasured, TellsCounts}
@@ -8,9 +8,11 @@ use Rattle.gc_measuring.specs.declared.stop.Stop.TheVariants.{Run}
 use Rattle.gc_station.specs.declared.tally.Tally.{Tally}
 use Rattle.gc_texts.specs.declared.fault.RunFault.TheVariants.{Output}
 
+-- an end isn't both a value and a stop
 never : {A : Type 0} (x : A) (stop : Stop) → ◌≡◌ {A = Result A Stop} (Ok x) (Err stop) → ⊥
 never x stop is = cc
 
+-- where status 0 is reported, the source gave a text to its end, and the run over its tasks is done
 pub done_at_0 : (given : List ℕ) (station : Station) (old new : Places) (end : Result Tally Stop) (status : ℕ) (told messages : Option (List ℕ))
     → Consumes old.input.remaining new.input.remaining given → Measures given station 18446744073709551615 old new end → TellsCounts end status told messages → status ≡ 0
     → IsMeasured station old new

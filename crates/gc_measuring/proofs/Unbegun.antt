@@ -8,22 +8,23 @@ use Rattle.gc_station.specs.Runs.{FailsAtOutput}
 use Rattle.gc_station.specs.declared.tally.Tally.{Tally}
 use Rattle.gc_texts.specs.declared.fault.RunFault.{RunFault}
 
--- without a link
+-- a run that stopped because it had no link didn't fail at its output: its sink is as it was
 without_link : (reason : Option Unusable) (failed : Bool) → FailsAtOutput {X = Tally} failed failed (Err (fault_without_link reason))
 without_link (Some NoTerminal) failed = refl
 without_link (Some Held) failed = refl
 without_link (Some Forbidden) failed = refl
 without_link None failed = refl
 
+-- false isn't true
 never : ◌≡◌ {A = Bool} false true → ⊥
 never is = cc
 
--- for whatever it can't begin
+-- a run that couldn't begin, for whatever fault, didn't fail at its output: its sink is as it was
 pub sink_is_as_it_was : (has_log : Bool) (fault : RunFault) (failed : Bool) → CannotBegin has_log fault → FailsAtOutput {X = Tally} failed failed (Err fault)
 sink_is_as_it_was has_log fault failed (inl linkless) =
     subst (λ e. FailsAtOutput {X = Tally} failed failed (Err e)) (sym linkless.1) (without_link linkless.0 failed)
 sink_is_as_it_was has_log fault failed (inr logless) = subst (λ e. FailsAtOutput {X = Tally} failed failed (Err e)) (sym logless.1) refl
 
--- no log is lost
+-- a run that lost no log is one that may have been asked for none
 pub none_is_lost : (has_log : Bool) → false ≡ true → has_log ≡ true
 none_is_lost has_log lost = absurd (never lost)

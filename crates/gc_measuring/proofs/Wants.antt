@@ -7,7 +7,7 @@ use Rattle.gc_station.specs.declared.book.LinkHealth.TheVariants.{Fine, Idle, Un
 use Rattle.gc_measuring.specs.Wanted.{behind_look, wanted_from, WantCountsOverConnections}
 use Rattle.gc_measuring.specs.declared.wanted.Wanted.{Wanted}
 
--- a look is no answer
+-- a look at a station gives the cycle no answer
 still_unheard : (health : LinkHealth) (moment : Moment) (w : Wanted) → w.heard ≡ false → (behind_look health moment w).heard ≡ false
 still_unheard Fine moment w unheard = unheard
 still_unheard Idle moment w unheard = refl
@@ -23,7 +23,7 @@ still_since Unconnected moment since w unheard is = ap (λ from. wanted_from fro
 still_since Unquiet moment since w unheard is = ap (λ from. wanted_from from moment) is
 still_since Unheard moment since w unheard is = ap (λ from. wanted_from from moment) is
 
--- while no answer comes the moment stays
+-- while no answer comes the moment since which one is wanted stays, over any looks
 pub want_stays : WantCountsOverConnections
 want_stays [] since w unheard is = is
 want_stays (look ∷ later) since w unheard is =

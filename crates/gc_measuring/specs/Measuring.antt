@@ -1,4 +1,4 @@
--- What a station does with the tasks of a text, in front of its records and with them, and what is told of its end: this project's own.
+-- What a station does with the tasks of a text, what it writes of them, and how its end is reported: this project's own.
 use Rattle.std.specs.Prelude.{◌≡◌, ℕ, Bool, true, ◌⊎◌, List, [], ◌++◌, if◌then◌else◌, Option, Result, Ok, Err, codes}
 use Rattle.std.specs.Fmt.{decimal}
 use Rattle.std.specs.Io.KnownBytes.{Consumes, Appends}
@@ -13,6 +13,7 @@ use Rattle.gc_measuring.specs.declared.stop.Stop.{Stop}
 use Rattle.gc_measuring.specs.declared.stop.Stop.TheVariants.{Text, Empty, Line, Run}
 use Rattle.gc_lines.specs.Ports.{TakesFront}
 use Rattle.gc_links.specs.Acts.{Act}
+use Rattle.gc_station.specs.Keeping.{Turn, KeepsUp, closing_at}
 use Rattle.gc_station.specs.Records.{Record}
 use Rattle.gc_station.specs.Runs.{Ran, LastsBut}
 use Rattle.gc_station.specs.Scopes.{ForReadings}
@@ -26,7 +27,7 @@ use Rattle.gc_texts.specs.declared.name.Name.{Name}
 use Rattle.gc_texts.specs.declared.tasks.Task.{Task}
 use Rattle.gc_rows.specs.declared.when.When.{When}
 
--- the moments of a record of a run that began then
+-- the moments, the cycle and the place of a record, of a run that began at this moment
 abbrev pub when_of : ℕ → Record → When
 when_of run r = record { run = run; stamp = record { sent = r.sent; utc = r.utc; cycle = r.cycle; place = r.place } }
 
@@ -34,25 +35,27 @@ when_of run r = record { run = run; stamp = record { sent = r.sent; utc = r.utc;
 abbrev pub text_in : Layout → List Name → Record → List ℕ
 text_in layout names r = record_text layout.form (when_of layout.run r) (name_text r.command.target names) r.command r.end
 
--- what is to be written in front of the records
+-- what is to be written in front of the records: nothing where the sink has its header already
 abbrev pub front_text : Layout → List ℕ
 front_text layout = if layout.headed then [] else head_text layout.form
 
--- what is seen of where a station works: its source, and what the link told, what the sink took, and what stands on the messages, where
--- these are known
+-- what is seen of a station's ports: its source; what its link told, what its sink took and what was written on its messages, where these
+-- are known; and what was seen of link and sink at each act
 pub record Places : Type 0 where
   pub input : Input
   pub acts : Option (List Act)
   pub taken : Option (List ℕ)
   pub messages : Option (List ℕ)
+  pub turns : List Turn
 
--- the sink failed in front of the records: it took the first bytes of what stands there, which aren't all, and nothing else was done
+-- the sink failed in front of the records: it took some of the first bytes of what is to stand there, not all, and nothing else was done
 pub record FailsInFront (layout : Layout) (old new : Places) (result : Result Tally Stop) : Type 0 where
   pub is : result ≡ Err (Run Output)
   pub bytes : ℕ
   pub took : TakesFront old.taken new.taken bytes (front_text layout)
   pub acts : new.acts ≡ old.acts
   pub messages : new.messages ≡ old.messages
+  pub turns : new.turns ≡ old.turns
 
 -- what a run measures: tasks, by a plan, in at most this number of acts (turns), with its records in a layout, and the names of targets
 pub record Course : Type 0 where
@@ -67,25 +70,33 @@ abbrev pub course_of : Station → ℕ → List Task → List Name → Course
 course_of station turns tasks names =
     record { plan = plan_of station.choice tasks; tasks = tasks; turns = turns; layout = station.layout; names = names }
 
--- a run over a link wrote down what its acts say of these tasks, for whatever function says what each reply says of its call, and for one
--- that there is
+-- a run over a link wrote down what its acts say of these tasks: for every function that gives each reply's reading for its call, and there
+-- is such a function
 abbrev pub RunsCourse : Course → Option (List Act) → Option (List Act) → Option (List ℕ) → Option (List ℕ) → Result Tally RunFault → Type 0
 RunsCourse course acts acts' taken taken' end = ForReadings (λ reads.
     Ran course.plan course.tasks (record { turns = course.turns; reads = reads }) (text_in course.layout course.names) acts acts' taken taken' end)
 
--- the sink took what stands in front of the records, and then what a run over the link writes down of its tasks
+-- at each act of a run over these tasks what the acts before it settled was written down, and lasted
+abbrev pub CourseKeepsUp : Course → Option (List Act) → Option (List Act) → Option (List ℕ) → List Turn → List Turn → Result Tally RunFault → Type 0
+CourseKeepsUp course acts acts' taken seen seen' end = ForReadings (λ reads.
+    KeepsUp course.plan course.tasks (record { turns = course.turns; reads = reads }) (text_in course.layout course.names) acts acts' taken seen seen' (closing_at end))
+
+-- the sink took what stands in front of the records, and then what a run over the link writes down of its tasks. Before each act what was
+-- written by then lasted
 pub record RunsBehind (course : Course) (old new : Places) (result : Result Tally Stop) : Type 0 where
   pub between : Option (List ℕ)
   pub front : Appends old.taken between (front_text course.layout)
   pub end : Result Tally RunFault
   pub is : result ≡ end_of_run end
   pub ran : RunsCourse course old.acts new.acts between new.taken end
+  pub keeps : CourseKeepsUp course old.acts new.acts between old.turns new.turns end
 
 -- nothing was done over the link, and nothing written
 pub record IsUnused (old new : Places) : Type 0 where
   pub acts : new.acts ≡ old.acts
   pub taken : new.taken ≡ old.taken
   pub messages : new.messages ≡ old.messages
+  pub turns : new.turns ≡ old.turns
 
 -- the text that a source gave was refused, and then nothing was done over the link, and nothing written; or its tasks were measured
 abbrev pub Measures : List ℕ → Station → ℕ → Places → Places → Result Tally Stop → Type 0
@@ -94,11 +105,11 @@ Measures given station turns old new result =
     ⊎ ((tasks : List Task) × (names : List Name) × GivesTasks given old.input new.input station.choice tasks names
     × (FailsInFront station.layout old new result ⊎ RunsBehind (course_of station turns tasks names) old new result))
 
--- what a source gave was measured, in at most this number of acts
+-- a source gave bytes, by at most one read for each and one for the end, and they were measured, in at most this number of acts
 abbrev pub MeasuresText : Station → ℕ → Places → Places → Result Tally Stop → Type 0
 MeasuresText station turns old new result = (given : List ℕ) × Gave given old.input new.input × Measures given station turns old new result
 
--- what a source gave was measured, in at most as many acts as a u64 counts
+-- a source gave bytes, by any number of reads, and they were measured, in at most as many acts as a u64 counts
 abbrev pub MeasuresGiven : Station → Places → Places → Result Tally Stop → Type 0
 MeasuresGiven station old new result =
     (given : List ℕ) × Consumes old.input.remaining new.input.remaining given × Measures given station 18446744073709551615 old new result
@@ -121,7 +132,7 @@ IsUntouched old new (Err Empty) = IsUnused old new
 IsUntouched old new (Err (Line n trouble)) = IsUnused old new
 IsUntouched old new _ = Unit {0}
 
--- all records last, but where the text was refused or the sink failed
+-- all records last; nothing is said where the text was refused or the sink failed
 abbrev pub AllLast : Bool → Result Tally Stop → Type 0
 AllLast is_durable (Ok _) = is_durable ≡ true
 AllLast is_durable (Err (Run fault)) = LastsBut {X = Tally} is_durable (Err fault)
@@ -131,10 +142,11 @@ AllLast is_durable (Err _) = Unit {0}
 abbrev pub overrun_line : ℕ → List ℕ
 overrun_line cycle = codes "geocom: cycle " ++ decimal cycle ++ codes " was not done when the next was due\n"
 
--- how many were answered, late and lost, and how many were skipped, unreadable, missed and elsewhere, to the end of the line
+-- the front of the line of the counts: how many commands were answered, late and lost
 abbrev pub ends_text : Tally → List ℕ
 ends_text t = codes "answered " ++ decimal t.answered ++ codes " late " ++ decimal t.late ++ codes " lost " ++ decimal t.lost ++ codes " "
 
+-- the rest of the line of the counts: how many commands were skipped, unreadable, missed and elsewhere
 abbrev pub others_text : Tally → List ℕ
 others_text t =
     codes "skipped " ++ decimal t.skipped ++ codes " unreadable " ++ decimal t.unreadable ++ codes " missed " ++ decimal t.missed
@@ -144,7 +156,7 @@ others_text t =
 abbrev pub tally_line : Tally → List ℕ
 tally_line t = ends_text t ++ others_text t
 
--- what the program tells of a station's end: status 0 and the line of its counts, or status 1 and why it stopped
+-- how the program reports a station's end: by status 0 and the line of its counts, or by status 1 and the lines of its stop
 abbrev pub TellsCounts : Result Tally Stop → ℕ → Option (List ℕ) → Option (List ℕ) → Type 0
 TellsCounts (Ok tally) status old new = (status ≡ 0) × Appends old new (tally_line tally)
 TellsCounts (Err stop) status old new = (status ≡ 1) × Appends old new (stop_text stop)

@@ -1,4 +1,4 @@
--- Records in a file: what is told of its opening, this project's own.
+-- What is reported of the opening of a file of records: this project's own.
 use Rattle.std.specs.Prelude.{ℕ, List, [], ◌++◌, ◌==◌, if◌then◌else◌, codes}
 use Rattle.std.specs.Fmt.{decimal}
 use Rattle.gc_files.specs.declared.system.Unfit.{Unfit}
@@ -14,7 +14,8 @@ fault_of_unfit Held = RecordsHeld
 fault_of_unfit Foreign = RecordsForeign
 fault_of_unfit Failed = Output
 
--- what is told behind the fault: where a file holds something else than such rows, what may have come of it, and how to rotate it
+-- the line behind the fault's line: for a file that doesn't begin as this station's rows do, what may have happened and how to rotate the
+-- file
 abbrev pub rotation_line : Unfit → List ℕ
 rotation_line Unopened = []
 rotation_line Held = []
@@ -22,19 +23,19 @@ rotation_line Foreign =
     codes "geocom: the file does not begin as this station's rows do: it has other columns, or a rotation cut off its header (copytruncate). To rotate it, stop the station, rename the file, and start it\n"
 rotation_line Failed = []
 
--- all that is told of a path that can't be had as a file of records
+-- all that is written of a path that can't be had as a file of records
 abbrev pub unfit_text : Unfit → List ℕ
 unfit_text why = fault_line (run_fault_text (fault_of_unfit why)) ++ rotation_line why
 
--- what is told of a torn row that was cut off, by its number of bytes: nothing where there were none
+-- what is written of a torn row that was cut off, by its number of bytes: nothing where there were none
 abbrev pub torn_line : ℕ → List ℕ
 torn_line torn = if torn == 0 then [] else codes "geocom: " ++ decimal torn ++ codes " bytes of a torn row were cut off\n"
 
--- what is told of rows that were copied, by their number, since an earlier run had no good end: nothing where there were none
+-- what is written of rows that were copied because an earlier run had no good end, by their number: nothing where there were none
 abbrev pub copied_line : ℕ → List ℕ
 copied_line copied =
     if copied == 0 then [] else codes "geocom: the last run was killed, or a sync failed: " ++ decimal copied ++ codes " rows were copied to a new file and synced\n"
 
--- what is told of a file that was opened, by how many rows were copied and how many bytes cut off
+-- what is written of a file that was opened, by how many rows were copied and how many bytes were cut off
 abbrev pub opened_lines : ℕ → ℕ → List ℕ
 opened_lines copied torn = copied_line copied ++ torn_line torn

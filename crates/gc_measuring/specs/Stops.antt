@@ -1,4 +1,4 @@
--- Why a station that measures the commands of a text stopped before its end, and what the program tells of it: this project's own.
+-- Why a station that measures the commands of a text stopped before its end, and how that is reported: this project's own.
 use Rattle.std.specs.Prelude.{◌≡◌, ℕ, List, ◌++◌, Option, Some, None, Result, Ok, Err, codes}
 use Rattle.gc_ask.specs.Places.{fault_of_reason}
 use Rattle.gc_measuring.specs.declared.stop.Stop.{Stop}
@@ -16,20 +16,20 @@ fault_of_stop Empty = NoCommand
 fault_of_stop (Line n trouble) = Schedule n
 fault_of_stop (Run fault) = fault
 
--- what is told of a stop: the fault's line, behind that of a text without a command that it has none, and behind that of a faulty line the
--- line's trouble
+-- what is written of a stop: the fault's line, and a second line for a text without a command, which says so, and for a faulty line, with
+-- its trouble
 abbrev pub stop_text : Stop → List ℕ
 stop_text (Text fault) = fault_line (run_fault_text fault)
 stop_text Empty = fault_line (run_fault_text NoCommand) ++ codes "geocom: the text has no command\n"
 stop_text (Line n trouble) = fault_line (run_fault_text (Schedule n)) ++ trouble_line n trouble
 stop_text (Run fault) = fault_line (run_fault_text fault)
 
--- the end of a run, as the end of measuring
+-- the end of a run over tasks, as the end of measuring a text
 abbrev pub end_of_run : {X : Type 0} → Result X RunFault → Result X Stop
 end_of_run (Ok x) = Ok x
 end_of_run (Err fault) = Err (Run fault)
 
--- the end of measuring, by its fault
+-- the end of measuring a text, with the fault in place of the stop
 abbrev pub with_fault : {X : Type 0} → Result X Stop → Result X RunFault
 with_fault (Ok x) = Ok x
 with_fault (Err stop) = Err (fault_of_stop stop)

@@ -20,7 +20,7 @@ use Rattle.gc_texts.specs.declared.trouble.Trouble.{Trouble}
 abbrev pub Gave : List ℕ → Input → Input → Type 0
 Gave given old new = Consumes old.remaining new.remaining given × (new.reads ≤ old.reads + length given + end_reads new.ended)
 
--- why a text that has this fault is refused: of a faulty line the trouble is told
+-- the stop by which a text with this fault is refused: for a faulty line, with the line's trouble
 abbrev pub IsRefusal : List ℕ → RunFault → Stop → Type 0
 IsRefusal text (Schedule n) stop = (trouble : Trouble) × IsTrouble (line_at text n) trouble × (stop ≡ Line n trouble)
 IsRefusal text fault stop = stop ≡ Text fault

@@ -1,4 +1,4 @@
--- What a station's status and messages tell of its run, and what it measured then: this project's own.
+-- What a station's status and messages report of its run, and what it measured then: this project's own.
 use Rattle.std.specs.Prelude.{◌≡◌, ℕ, Bool, true, ◌⊎◌, List, [], Option, Some, None, Result, Err}
 use Rattle.std.specs.Io.KnownBytes.{Appends}
 use Rattle.gc_measuring.specs.Logging.{TellsLoss}
@@ -15,82 +15,89 @@ use Rattle.gc_lines.specs.declared.ports.Source.{Ghosts as Source}
 use Rattle.gc_lines.specs.declared.ports.Sink.{Ghosts as Sink}
 use Rattle.gc_links.specs.Acts.{Act}
 use Rattle.gc_links.specs.declared.telling.Telling.{Telling}
+use Rattle.gc_station.specs.Keeping.{Turn}
 use Rattle.gc_station.specs.Runs.{FailsAtOutput}
 use Rattle.gc_station.specs.declared.tally.Tally.{Tally}
 use Rattle.gc_texts.specs.WholeTexts.{input_of}
 use Rattle.gc_texts.specs.declared.fault.RunFault.{RunFault}
 use Rattle.gc_texts.specs.declared.fault.RunFault.TheVariants.{Log}
 
--- what is seen of a station's streams, by the ghost members of their traits, beside the acts that its link told
-abbrev pub places_of : {S K E : Type 0} → Source S → Sink K → (E → Option (List ℕ)) → Streams S K E → Option (List Act) → Places
-places_of source sink shown streams acts =
-    record { input = input_of source streams.input; acts = acts; taken = sink.taken streams.output; messages = shown streams.messages }
+-- what is seen of a station's ports: of its streams by the ghost members of their traits, the acts that its link told, and what was seen at
+-- each of them
+abbrev pub places_of : {S K E : Type 0} → Source S → Sink K → (E → Option (List ℕ)) → Streams S K E → Option (List Act) → List Turn → Places
+places_of source sink shown streams acts turns =
+    record { input = input_of source streams.input; acts = acts; taken = sink.taken streams.output; messages = shown streams.messages; turns = turns }
 
 -- the acts that a link told, where there is one
 abbrev pub acts_of : {L : Type 0} → Option (Telling L) → Option (List Act)
 acts_of None = None
 acts_of (Some link) = Some link.history.acts
 
--- what the text was, and what of its commands was measured over a link that told these acts, and that the status and the messages tell how
--- it ended
+-- a text was refused, or its commands were measured, over a link that told these acts, with what was seen at each; and the status and the
+-- messages report how that ended
 pub record TellsMeasuring {S K E : Type 0} (source : Source S) (sink : Sink K) (lasts : K → Bool) (shown : E → Option (List ℕ)) (station : Station)
-    (acts acts' : Option (List Act)) (old new : Streams S K E) (status : ℕ) : Type 0 where
+    (acts acts' : Option (List Act)) (turns turns' : List Turn) (old new : Streams S K E) (status : ℕ) : Type 0 where
   pub end : Result Tally Stop
   pub between : E
-  pub measured : MeasuresGiven station (places_of source sink shown old acts) (places_of source sink shown (record new { messages = between }) acts') end
+  pub measured : MeasuresGiven station (places_of source sink shown old acts turns) (places_of source sink shown (record new { messages = between }) acts' turns') end
   pub all_last : AllLast (lasts new.output) end
   pub fails : FailsAtOutput (sink.failed old.output) (sink.failed new.output) (with_fault end)
   pub counts : TellsCounts end status (shown between) (shown new.messages)
 
 -- a source gave a text to its end, and the run over its commands is done, over a link that told these acts
-pub record MeasuresAll {S K E : Type 0} (source : Source S) (sink : Sink K) (shown : E → Option (List ℕ)) (station : Station) (acts acts' : Option (List Act)) (old new : Streams S K E) : Type 0 where
+pub record MeasuresAll {S K E : Type 0} (source : Source S) (sink : Sink K) (shown : E → Option (List ℕ)) (station : Station)
+    (acts acts' : Option (List Act)) (turns turns' : List Turn) (old new : Streams S K E) : Type 0 where
   pub between : E
-  pub is : IsMeasured station (places_of source sink shown old acts) (places_of source sink shown (record new { messages = between }) acts')
+  pub is : IsMeasured station (places_of source sink shown old acts turns) (places_of source sink shown (record new { messages = between }) acts' turns')
 
 -- a run can't begin, for this fault: there is no link, or, where a log was asked for, the log can't be had
 abbrev pub CannotBegin : Bool → RunFault → Type 0
 CannotBegin has_log fault = IsWithoutLink fault ⊎ ((has_log ≡ true) × (fault ≡ Log))
 
 -- a run didn't begin, and then there was no link, and nothing was read or written
-abbrev pub IsUnbegun : {S K E : Type 0} → Bool → Streams S K E → Streams S K E → Option (List Act) → Result Tally Stop → Type 0
-IsUnbegun has_log old new acts end = (fault : RunFault) × (end ≡ Err (Run fault)) × CannotBegin has_log fault
-    × (new.input ≡ old.input) × (new.output ≡ old.output) × (new.messages ≡ old.messages) × (acts ≡ None)
+abbrev pub IsUnbegun : {S K E : Type 0} → Bool → Streams S K E → Streams S K E → Option (List Act) → List Turn → List Turn → Result Tally Stop → Type 0
+IsUnbegun has_log old new acts turns turns' end = (fault : RunFault) × (end ≡ Err (Run fault)) × CannotBegin has_log fault
+    × (new.input ≡ old.input) × (new.output ≡ old.output) × (new.messages ≡ old.messages) × (acts ≡ None) × (turns' ≡ turns)
 
--- what a run measured by these acts, which its link told from none on; and all records last, but where the text was refused or the sink failed
+-- a text was refused, or its commands were measured, by these acts, which the link told from none on, with what was seen at each. All records
+-- last; nothing is said of that where the text was refused or the sink failed
 pub record MeasuresFromNone {S K E : Type 0} (source : Source S) (sink : Sink K) (lasts : K → Bool) (shown : E → Option (List ℕ)) (station : Station)
-    (old new : Streams S K E) (acts : Option (List Act)) (end : Result Tally Stop) : Type 0 where
+    (old new : Streams S K E) (acts : Option (List Act)) (turns turns' : List Turn) (end : Result Tally Stop) : Type 0 where
   pub told : List Act
   pub is : acts ≡ Some told
-  pub measured : MeasuresBegun station (places_of source sink shown old (Some [])) (places_of source sink shown new (Some told)) end
+  pub measured : MeasuresBegun station (places_of source sink shown old (Some []) turns) (places_of source sink shown new (Some told) turns') end
   pub all_last : AllLast (lasts new.output) end
 
--- what a run measured, by these acts of its link, or that it didn't begin; that the status and the messages tell how it ended; and behind that
--- whether a log was lost
+-- a run measured by these acts of its link, with what was seen at each, or it didn't begin; and the status and the messages report how it
+-- ended, and behind that a log that was lost
 pub record TellsRun {S K E : Type 0} (source : Source S) (sink : Sink K) (lasts : K → Bool) (shown : E → Option (List ℕ)) (has_log : Bool) (station : Station)
-    (old new : Streams S K E) (acts : Option (List Act)) (status : ℕ) : Type 0 where
+    (old new : Streams S K E) (acts : Option (List Act)) (turns turns' : List Turn) (status : ℕ) : Type 0 where
   pub end : Result Tally Stop
   pub between : E
   pub behind : E
   pub is_lost : Bool
   pub logged : is_lost ≡ true → has_log ≡ true
-  pub ran : MeasuresFromNone source sink lasts shown station old (record new { messages = between }) acts end ⊎ IsUnbegun has_log old (record new { messages = between }) acts end
+  pub ran : MeasuresFromNone source sink lasts shown station old (record new { messages = between }) acts turns turns' end
+      ⊎ IsUnbegun has_log old (record new { messages = between }) acts turns turns' end
   pub fails : FailsAtOutput (sink.failed old.output) (sink.failed new.output) (with_fault end)
   pub counts : TellsCounts end status (shown between) (shown behind)
   pub loss : TellsLoss is_lost (shown behind) (shown new.messages)
 
 -- a source gave a text to its end, and the run over its commands is done, by these acts, which its link told from none on
-abbrev pub MeasuresAllFromNone : {S K E : Type 0} → Source S → Sink K → (E → Option (List ℕ)) → Station → Streams S K E → Streams S K E → Option (List Act) → Type 0
-MeasuresAllFromNone source sink shown station old new acts =
-    (told : List Act) × (acts ≡ Some told) × ((run : ℕ) × MeasuresAll source sink shown (begun_at run station) (Some []) (Some told) old new)
+abbrev pub MeasuresAllFromNone : {S K E : Type 0} → Source S → Sink K → (E → Option (List ℕ)) → Station → Streams S K E → Streams S K E → Option (List Act)
+    → List Turn → List Turn → Type 0
+MeasuresAllFromNone source sink shown station old new acts turns turns' =
+    (told : List Act) × (acts ≡ Some told) × ((run : ℕ) × MeasuresAll source sink shown (begun_at run station) (Some []) (Some told) turns turns' old new)
 
--- a file of records can't be had, which is told with status 1, and nothing was read
+-- a file of records can't be had, which is reported with status 1, and nothing was read
 pub record RefusesFile {S K E : Type 0} (shown : E → Option (List ℕ)) (old new : Streams S K E) (status : ℕ) : Type 0 where
   pub why : Unfit
   pub is : status ≡ 1
   pub tells : Appends (shown old.messages) (shown new.messages) (unfit_text why)
   pub unread : new.input ≡ old.input
 
--- the output of a run is a file of rows that it opened, and that it left so; the other streams are these
+-- the streams of a run that appends to a file: its output is a file of rows, which had taken nothing at the start, and which is handed back
+-- as the run left it. The source is the caller's, and so are the messages in the end
 pub record IsFiled {S F K E : Type 0} (sink : Sink F) (old new : Streams S K E) (begun ended : Streams S F E) (file : Option F) : Type 0 where
   pub fresh : sink.taken begun.output ≡ Some []
   pub left : file ≡ Some ended.output
@@ -98,18 +105,18 @@ pub record IsFiled {S F K E : Type 0} (sink : Sink F) (old new : Streams S K E) 
   pub read : new.input ≡ ended.input
   pub messages : new.messages ≡ ended.messages
 
--- what a run tells that appends to a file, behind what was told of the file; and what it measured, of which the file has the rows
+-- a run that appends to a file is reported behind what was written of the file's opening, and the file has the rows of what was measured
 pub record TellsAppended {S F K E : Type 0} (source : Source S) (sink : Sink F) (lasts : F → Bool) (shown : E → Option (List ℕ)) (has_log : Bool) (station : Station)
-    (old new : Streams S K E) (file : Option F) (acts : Option (List Act)) (status : ℕ) : Type 0 where
+    (old new : Streams S K E) (file : Option F) (acts : Option (List Act)) (turns turns' : List Turn) (status : ℕ) : Type 0 where
   pub begun : Streams S F E
   pub ended : Streams S F E
   pub filed : IsFiled sink old new begun ended file
-  pub run : TellsRun source sink lasts shown has_log (appended station) begun ended acts status
+  pub run : TellsRun source sink lasts shown has_log (appended station) begun ended acts turns turns' status
 
 -- a source gave a text to its end, and the run over its commands, which appended to a file, is done
 pub record AppendsAll {S F K E : Type 0} (source : Source S) (sink : Sink F) (shown : E → Option (List ℕ)) (station : Station)
-    (old new : Streams S K E) (file : Option F) (acts : Option (List Act)) : Type 0 where
+    (old new : Streams S K E) (file : Option F) (acts : Option (List Act)) (turns turns' : List Turn) : Type 0 where
   pub begun : Streams S F E
   pub ended : Streams S F E
   pub filed : IsFiled sink old new begun ended file
-  pub all : MeasuresAllFromNone source sink shown (appended station) begun ended acts
+  pub all : MeasuresAllFromNone source sink shown (appended station) begun ended acts turns turns'

@@ -5,21 +5,22 @@ use Rattle.gc_station.specs.declared.book.LinkHealth.{LinkHealth}
 use Rattle.gc_station.specs.declared.book.LinkHealth.TheVariants.{Fine, Idle, Unconnected, Unquiet, Unheard}
 use Rattle.gc_measuring.specs.declared.wanted.Wanted.{Wanted}
 
--- behind an answer no answer is wanted, and the cycle has one
+-- the want behind an answer: no answer is wanted, and the cycle has one
 abbrev pub behind_answer : Wanted → Wanted
 behind_answer w = record { since = None; heard = true; told = false }
 
--- the moment since which an answer is wanted, where one is wanted at this moment: an earlier one stays
+-- since when an answer is wanted, given that one is wanted at this moment: an earlier start stays, else it is this moment
 abbrev pub wanted_from : Option Moment → Moment → Option Moment
 wanted_from None moment = Some moment
 wanted_from (Some since) moment = Some since
 
--- the want behind a cycle of which nothing is left to be asked: it is over if the cycle had an answer, and the message that
--- no answer comes wasn't told
+-- the want behind a cycle of which nothing is left to be asked: the want is over if the cycle had an answer, and no message said that none
+-- comes
 abbrev pub behind_cycle : Wanted → Wanted
 behind_cycle w = record { since = if w.heard && not w.told then None else w.since; heard = false; told = w.told }
 
--- behind a look at a station: without a connection, while the line is to be quiet, and while a request waits, an answer is wanted
+-- the want behind a look at a station: an answer is wanted without a connection, while the line is to be quiet, and while a
+-- request has no reply. A station that is idle has ended a cycle, and one that is fine changes nothing
 abbrev pub behind_look : LinkHealth → Moment → Wanted → Wanted
 behind_look Fine moment w = w
 behind_look Idle moment w = behind_cycle w
@@ -36,7 +37,7 @@ abbrev pub lasting : ℕ → ℕ → Option Moment → Option Moment
 lasting now least None = None
 lasting now least (Some since) = if has_lasted since.elapsed now least then Some since else None
 
--- a look at a station: how things stand, and the moment
+-- a look at a station: the health of its link, and the moment
 pub record Look : Type 0 where
   pub health : LinkHealth
   pub moment : Moment

@@ -1,4 +1,4 @@
-//! How a station's end is told: the counts of a run that is done, or why it stopped.
+//! How the end of a station's run is reported: by the counts of a run that is done, or by the fault for which it stopped.
 
 ghost use Rattle.std.specs.Prelude.{◌≤◌, IfOk, OnOk};
 ghost use Rattle.std.specs.Io.KnownBytes.{Appends};
@@ -10,7 +10,7 @@ use gc_station::Tally;
 use std::io::{self, Write};
 use std::process::ExitCode;
 
-/// Tells how a run ended: the status, and the counts, or why it stopped.
+/// Reports how a run ended: with status 0 and the line of its counts, or with status 1 and the lines of its fault.
 pub(crate) fn tell_counts<E: Write>(
     end: Result<Tally, Stop>,
     messages: &mut E,
@@ -30,7 +30,7 @@ pub(crate) fn tell_counts<E: Write>(
     }
 }
 
-// The line of the counts.
+// Writes the line of the counts.
 fn write_counts<E: Write>(tally: Tally, messages: &mut E) -> io::Result<()>
     ensures { OnOk result (Appends (E.contents messages.old) (E.contents messages.new) (tally_line tally)) }
 {
@@ -38,7 +38,7 @@ fn write_counts<E: Write>(tally: Tally, messages: &mut E) -> io::Result<()>
     write_others(tally, messages)
 }
 
-// How many were answered, late and lost.
+// Writes the front of that line: how many commands were answered, late and lost.
 fn write_ends<E: Write>(tally: Tally, messages: &mut E) -> io::Result<()>
     ensures { OnOk result (Appends (E.contents messages.old) (E.contents messages.new) (ends_text tally)) }
 {
@@ -51,7 +51,7 @@ fn write_ends<E: Write>(tally: Tally, messages: &mut E) -> io::Result<()>
     write!(messages, "answered {answered} late {late} lost {lost} ")
 }
 
-// How many were skipped, unreadable, missed and elsewhere, to the end of the line.
+// Writes the rest of that line: how many commands were skipped, unreadable, missed and elsewhere.
 fn write_others<E: Write>(tally: Tally, messages: &mut E) -> io::Result<()>
     ensures { OnOk result (Appends (E.contents messages.old) (E.contents messages.new) (others_text tally)) }
 {

@@ -1,4 +1,4 @@
-//! A station over its ports: its text, its records and their file, its log, and what it tells of itself while it measures.
+//! A station over its ports: its text, its records and their file, its log, and the messages that it writes while it measures.
 #![tactic(auto)]
 
 mod counts;

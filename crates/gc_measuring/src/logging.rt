@@ -14,6 +14,7 @@ use gc_lines::{Durable, PortFailed, Sink, Source};
 use gc_links::Link;
 use gc_logs::{Bounded, Logged};
 use gc_messages::{FilesSeen, LogSeen, Noticed, Spot, Streams};
+use gc_station::Kept;
 use gc_texts::RunFault;
 use gc_words::{LogPlace, Station};
 use std::alloc::Global;
@@ -26,11 +27,13 @@ use std::rt::Files;
 // How a line of a log begins: a moment, of which each 0 stands for a digit, and behind it one of these marks.
 const MOMENT: &[u8] = b"0000-00-00T00:00:00.000Z ";
 
+// The marks of lines of a log: what came, what went, and what became of the connection.
 const MARKS: &[u8] = b"<>-";
 
+// The length of a moment and a mark.
 const FRONT: usize = 26;
 
-// Whether the first bytes of a file, at most as many as stand in front of a line's text, are those of a log. An empty file is one.
+// Whether `front`, at most the first `FRONT` bytes of a file, is how a log begins. An empty file counts as a log.
 fn begins_log(front: &[u8]) -> bool {
     for (at, b) in front.iter().enumerate() {
         let fits = match MOMENT.get(at) {
@@ -45,8 +48,9 @@ fn begins_log(front: &[u8]) -> bool {
     true
 }
 
-// Opens the file of a log, and cuts off a torn last line. It is refused, and stays, where it is no regular file, begins as no log does, or
-// another program, or the records of this one, hold it. Where a file can't be held it is nobody's.
+// Opens the file of a log, and cuts off a torn last line. The file is refused, and stays as it is, where it can't be opened or read, is
+// no regular file, doesn't begin as a log does, or is held by another program or by the records of this one. Where a file can't be
+// locked, it is taken unlocked.
 fn open_log<R: Files<File = File>>(rt: &R, path: &str) -> Result<RowsFile<SystemFile>, Unfit> {
     let file = open_file(rt, path)?;
     if file.hold() == Err(Unfit::Held) {
@@ -65,8 +69,8 @@ fn open_log<R: Files<File = File>>(rt: &R, path: &str) -> Result<RowsFile<System
     }
 }
 
-/// Opens the log that is asked for, and notes how many bytes of a torn line its opening cut off. Fails with `Log` where the
-/// log can't be had.
+/// Opens the log, if one is asked for, and notes how many bytes of a torn line were cut off. Fails with `Log` where the file
+/// can't be had as a log.
 pub(crate) fn log_at<'a, R: Files<File = File>>(
     rt: &R,
     noticed: &'a Cell<Noticed>,
@@ -89,7 +93,7 @@ pub(crate) fn log_at<'a, R: Files<File = File>>(
     }))
 }
 
-// How many more bytes a file may have.
+// How many bytes may be appended until the file has `most`; 0 where its length can't be read.
 fn room_in<F: Appending>(file: &F, most: u64) -> u64 {
     match file.len() {
         Ok(len) => most.saturating_sub(len),
@@ -97,7 +101,7 @@ fn room_in<F: Appending>(file: &F, most: u64) -> u64 {
     }
 }
 
-/// A log that notes down when it ends before its time.
+/// The sink of a log. Where a write fails, it notes that the log has ended, at its bound or because the file failed.
 #[derive(Drop)]
 pub(crate) struct Noted<'a, K> {
     sink: Bounded<K>,
@@ -109,6 +113,7 @@ impl<'a, K: Sink> Sink for Noted<'a, K> {
 
     ghost failed = { λ n. has_ended n.sink };
 
+    // Writes into the bounded sink. Where that fails it notes whether the log is full, or was lost.
     fn write(&mut self, bytes: &[u8]) -> Result<usize, PortFailed> {
         match self.sink.write(bytes) {
             Ok(n) => Ok(n),
@@ -125,7 +130,7 @@ impl<'a, K: Sink> Sink for Noted<'a, K> {
     }
 }
 
-// Notes that the log ended, at its bound or since it couldn't be written.
+// Notes that the log ended, at its bound or because it couldn't be written.
 fn note_log(noticed: &Cell<Noticed>, is_full: bool) {
     let seen = noticed.get();
     let log = if is_full {
@@ -151,29 +156,32 @@ fn note_torn(noticed: &Cell<Noticed>, torn: u64) {
     });
 }
 
-/// Measures over a link with a log, and tells how it ended, and behind that whether the log was lost. The streams are handed back.
+/// Measures over a link with a log, and reports how the run ended, and behind that a log that was lost. The streams are handed back.
 pub(crate) fn measure_logged<L: Link, G: Sink, S: Source, K: Durable, E: Write>(
     alloc: Global,
     logged: &mut Logged<L, G>,
     station: Station,
     spot: Spot<'_>,
     streams: Streams<S, K, E>,
+    kept: &mut Kept,
 ) -> (Streams<S, K, E>, io::Result<ExitCode>)
-    // As without a log; and the log was lost exactly where that is told.
+    // As without a log; and the log was lost exactly where the messages say so behind that.
     ensures told { IfOk result.1 (λ status. (behind : E)
-        × TellsMeasuring S.Source K.Sink K.is_durable E.contents station (L.acts logged.old.link) (L.acts logged.new.link) streams (record result.0 { messages = behind }) (exit_status status)
+        × TellsMeasuring S.Source K.Sink K.is_durable E.contents station (L.acts logged.old.link) (L.acts logged.new.link)
+        kept.old.turns kept.new.turns streams (record result.0 { messages = behind }) (exit_status status)
         × TellsLoss (G.failed (sink_of logged.new)) (E.contents behind) (E.contents result.0.messages)) }
 
     // Status 0 only where the source gave a text to its end, and the run over its commands is done.
-    ensures done { IfOk result.1 (λ status. exit_status status ≡ 0 → MeasuresAll S.Source K.Sink E.contents station (L.acts logged.old.link) (L.acts logged.new.link) streams result.0) }
+    ensures done { IfOk result.1 (λ status. exit_status status ≡ 0 → MeasuresAll S.Source K.Sink E.contents station
+        (L.acts logged.old.link) (L.acts logged.new.link) kept.old.turns kept.new.turns streams result.0) }
     ensures bound { IfOk result.1 (λ status. exit_status status ≤ 1) }
 {
-    let (mut streams, ended) = measure_over(alloc, logged, station, spot, streams);
+    let (mut streams, ended) = measure_over(alloc, logged, station, spot, streams, kept);
     let ended = tell_loss(ended, logged.has_lost_its_log(), &mut streams.messages);
     (streams, ended)
 }
 
-// Tells that a log was lost, where it was, behind how the run ended, whose status stays.
+// Reports a log that was lost, behind how the run ended. The status stays as it was.
 fn tell_loss<E: Write>(
     ended: io::Result<ExitCode>,
     is_lost: bool,

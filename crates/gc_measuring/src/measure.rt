@@ -1,11 +1,12 @@
 //! A station's text, read from a source, measured over a link, and its records written into a sink, all in one form.
 
-ghost use Rattle.std.specs.Prelude.{◌≡◌, ◌+◌, ◌≤◌, OnOk, IfErr};
+ghost use Rattle.std.specs.Prelude.{◌≡◌, ◌+◌, ◌≤◌, [], List, OnOk, IfErr};
 ghost use Rattle.std.specs.Io.KnownBytes.{Appends};
-ghost use Rattle.gc_measuring.specs.Measuring.{text_in, front_text, course_of, RunsCourse, MeasuresText, IsUntouched, AllLast};
+ghost use Rattle.gc_measuring.specs.Measuring.{text_in, front_text, course_of, RunsCourse, CourseKeepsUp, MeasuresText, IsUntouched, AllLast};
 ghost use Rattle.gc_measuring.specs.Stops.{with_fault};
 ghost use Rattle.gc_measuring.specs.Telling.{places_of};
 ghost use Rattle.gc_lines.specs.Ports.{FailsWith, TakesFront};
+ghost use Rattle.gc_station.specs.Keeping.{Turn};
 ghost use Rattle.gc_station.specs.Runs.{FailsAtOutput, LastsBut};
 ghost use Rattle.gc_texts.specs.declared.text.TheConstants.{TEXT_LIMIT};
 
@@ -17,7 +18,7 @@ use gc_lines::{Durable, PortFailed, Source, write_whole};
 use gc_links::{Link, Moment};
 use gc_messages::{Noticed, Spot, Streams, tell_turns, tell_unasked};
 use gc_rows::{When, write_head, write_record};
-use gc_station::{Book, LinkHealth, Tally, run_station};
+use gc_station::{Book, Kept, LinkHealth, Tally, run_station};
 use gc_texts::{Command, Ending, RunFault, Stamp, Task, Tasks};
 use gc_words::{Layout, Station};
 use std::alloc::Global;
@@ -25,37 +26,35 @@ use std::cell::Cell;
 use std::io::Write;
 
 /// Reads the whole text of the input, writes what stands in front of the records on the output, and measures the commands over a
-/// link as the station is told, in at most `max_turns` acts. The streams are handed back, with how the run ended.
+/// link by the settings of `station`, in at most `max_turns` acts. The streams are handed back, with how the run ended.
 ///
 /// Before the link is used or anything is written, `Text` comes with `Read` where the input failed, with `InputTooLong` where it
-/// gave more than 65,536 bytes, and with `Memory` where a growth was refused, `Line` at the first line without form, and `Empty`
-/// where the text has no command. `Run`
-/// comes with the faults of [`run_station`], and with `Output` where the output failed: in front of the records, and then the link
-/// wasn't used, or at a record.
+/// gave more than 65,536 bytes, and with `Memory` where memory was refused, `Line` at the first faulty line, and `Empty` where the
+/// text has no command. `Run` comes with the faults of [`run_station`], and with `Output` where the output failed: in front of the
+/// records, and then the link wasn't used, or at a record.
 ///
-/// What is odd of the text is told on the messages at the start: each angle of a positioning that lies outside one turn, and each target
-/// that stands somewhere and that no command asks for its direction. So are signs
-/// of life, each at most once a minute, where the choice has them, and once what is noticed of the line at the spot. Where that
-/// can't be written the station measures on.
+/// The messages get at the start what is odd about the text: each angle of a positioning that lies outside one turn, and each target
+/// of which the text says where it stands, and which no command asks for its direction. Then they get signs of life, each kind at most
+/// once a minute, where the choice has them, and what `spot` notices of the line. Where they can't be written the station measures on.
 pub fn run_station_text<L: Link, S: Source, K: Durable, E: Write>(
     alloc: Global,
     link: &mut L,
     station: Station,
     spot: Spot<'_>,
-    mut streams: Streams<S, K, E>,
+    streams: Streams<S, K, E>,
     max_turns: u64,
 ) -> (Streams<S, K, E>, Result<Tally, Stop>)
-    // What the text was, and what of its commands was measured: what the link told, what the output took, and why it ended.
-    ensures measures { MeasuresText station max_turns
-        (places_of S.Source K.Sink E.contents streams (L.acts link.old))
-        (places_of S.Source K.Sink E.contents result.0 (L.acts link.new))
+    // The text was refused; or its commands were measured, and the link, the output and the run's end are as the model has
+    // them. At each act all that the acts before it settled was written, and lasted.
+    ensures measures { (turns : List Turn) × MeasuresText station max_turns
+        (places_of S.Source K.Sink E.contents streams (L.acts link.old) [])
+        (places_of S.Source K.Sink E.contents result.0 (L.acts link.new) turns)
         result.1 }
 
-    // The output failed exactly where that is the fault.
+    // Where the fault is `Output` the output has failed; else whether it has failed is as before.
     ensures output { FailsAtOutput (K.failed streams.output) (K.failed result.0.output) (with_fault result.1) }
 
-    // At each end but that of the output all that was written lasts, as far as the output is meant for it. That it does before each
-    // act is a clause of the private function that makes one.
+    // At each end but that of the output, all that was written outlasts what the output is meant to outlast.
     ensures is_durable { AllLast (K.is_durable result.0.output) result.1 }
 
     // At most 65,537 reads of the input were answered.
@@ -63,8 +62,34 @@ pub fn run_station_text<L: Link, S: Source, K: Durable, E: Write>(
 
     // Where the text was refused nothing was done over the link, and nothing written.
     ensures untouched { IsUntouched
-        (places_of S.Source K.Sink E.contents streams (L.acts link.old))
-        (places_of S.Source K.Sink E.contents result.0 (L.acts link.new))
+        (places_of S.Source K.Sink E.contents streams (L.acts link.old) [])
+        (places_of S.Source K.Sink E.contents result.0 (L.acts link.new) [])
+        result.1 }
+{
+    let mut kept = Kept::new();
+    measure_text(alloc, link, station, spot, streams, max_turns, &mut kept)
+}
+
+// As `run_station_text`; what was seen of link and output at each act is noted in `kept`.
+pub(crate) fn measure_text<L: Link, S: Source, K: Durable, E: Write>(
+    alloc: Global,
+    link: &mut L,
+    station: Station,
+    spot: Spot<'_>,
+    mut streams: Streams<S, K, E>,
+    max_turns: u64,
+    kept: &mut Kept,
+) -> (Streams<S, K, E>, Result<Tally, Stop>)
+    ensures measures { MeasuresText station max_turns
+        (places_of S.Source K.Sink E.contents streams (L.acts link.old) kept.old.turns)
+        (places_of S.Source K.Sink E.contents result.0 (L.acts link.new) kept.new.turns)
+        result.1 }
+    ensures output { FailsAtOutput (K.failed streams.output) (K.failed result.0.output) (with_fault result.1) }
+    ensures is_durable { AllLast (K.is_durable result.0.output) result.1 }
+    ensures bounded { S.reads result.0.input ≤ S.reads streams.input + (TEXT_LIMIT + 1) }
+    ensures untouched { IsUntouched
+        (places_of S.Source K.Sink E.contents streams (L.acts link.old) kept.old.turns)
+        (places_of S.Source K.Sink E.contents result.0 (L.acts link.new) kept.new.turns)
         result.1 }
 {
     let (tasks, text) = match read_task_text(alloc, &mut streams.input, &station.choice) {
@@ -85,7 +110,7 @@ pub fn run_station_text<L: Link, S: Source, K: Durable, E: Write>(
         names,
         nears,
     } = tasks;
-    // A run may take months.
+    // A run may take months: the memory of the text is given back first.
     drop(text);
     let named = Tasks {
         tasks: Vec::new(alloc),
@@ -97,7 +122,7 @@ pub fn run_station_text<L: Link, S: Source, K: Durable, E: Write>(
         named,
         max_turns,
     };
-    let (streams, end) = measure(link, station, work, spot, streams);
+    let (streams, end) = measure(link, station, work, spot, streams, kept);
     match end {
         Ok(tally) => (streams, Ok(tally)),
         Err(fault) => (streams, Err(Stop::Run(fault))),
@@ -112,16 +137,20 @@ struct Work {
     max_turns: u64,
 }
 
-// Measures tasks over a link as a station is told, and writes their records into the output. The streams are handed back.
+// Measures the tasks of `work` over a link by the settings of `station`, and writes their records into the output. The streams are
+// handed back.
 fn measure<L: Link, S, K: Durable, E: Write>(
     link: &mut L,
     station: Station,
     work: Work,
     spot: Spot<'_>,
     streams: Streams<S, K, E>,
+    kept: &mut Kept,
 ) -> (Streams<S, K, E>, Result<Tally, RunFault>)
     ensures ran { RunsCourse (course_of station work.max_turns work.tasks.items work.named.names.items)
         (L.acts link.old) (L.acts link.new) (K.taken streams.output) (K.taken result.0.output) result.1 }
+    ensures keeps { CourseKeepsUp (course_of station work.max_turns work.tasks.items work.named.names.items)
+        (L.acts link.old) (L.acts link.new) (K.taken streams.output) kept.old.turns kept.new.turns result.1 }
     ensures output { FailsAtOutput (K.failed streams.output) (K.failed result.0.output) result.1 }
     ensures is_durable { LastsBut (K.is_durable result.0.output) result.1 }
     ensures input { result.0.input ≡ streams.input }
@@ -146,7 +175,7 @@ fn measure<L: Link, S, K: Durable, E: Write>(
         noticed: spot.noticed,
         teller,
     };
-    let end = run_station(link, &mut records, tasks.as_slice(), &plan, max_turns);
+    let end = run_station(link, &mut records, tasks.as_slice(), &plan, max_turns, kept);
     let Records {
         sink,
         layout: _,
@@ -162,24 +191,25 @@ fn measure<L: Link, S, K: Durable, E: Write>(
     (streams, end)
 }
 
-// Writes what stands in front of the records, where it doesn't stand there.
+// Writes what stands in front of the records, unless the sink has it already. `Err`: the write failed, with the number of bytes
+// taken.
 fn write_front<K: Durable>(sink: &mut K, layout: Layout) -> Result<(), usize>
     ensures failed { FailsWith result (K.failed sink.old) (K.failed sink.new) }
     ensures ok { OnOk result (Appends (K.taken sink.old) (K.taken sink.new) (front_text layout)) }
     ensures err { IfErr result (λ n. TakesFront (K.taken sink.old) (K.taken sink.new) n (front_text layout)) }
 {
     if layout.headed {
-        // The clauses want it shown that nothing is written: an empty text is.
+        // For the proof: writing no bytes gives the clauses, which an `Ok(())` alone doesn't.
         return write_whole(sink, b"");
     }
     write_head(sink, layout.form)
 }
 
-// A book of records in one layout, with the names of targets, and what a station tells of itself while it writes them.
+// A book that writes records in one layout into a sink, and reports on the messages what the station does.
 struct Records<'a, K, E> {
     sink: K,
     layout: Layout,
-    // The names of targets: its tasks are empty.
+    // The names of targets, in a `Tasks` whose own tasks are empty.
     named: Tasks,
     noticed: &'a Cell<Noticed>,
     teller: Teller<E>,
@@ -194,7 +224,7 @@ impl<'a, K: Durable, E: Write> Book for Records<'a, K, E> {
 
     ghost is_durable = { λ book. K.is_durable book.sink };
 
-    // Writes a record, which counts for the signs of life also where it can't be written.
+    // Writes a record. The signs of life count the record also where it can't be written.
     fn write(
         &mut self,
         stamp: Stamp,
@@ -220,7 +250,7 @@ impl<'a, K: Durable, E: Write> Book for Records<'a, K, E> {
         }
     }
 
-    // What was written lasts then as far as the sink is meant for it.
+    // Syncs the sink: where that succeeds, what was written outlasts all that the sink is meant to outlast.
     fn sync(&mut self) -> Result<(), PortFailed> {
         match self.sink.sync() {
             Ok(()) => Ok(()),
@@ -228,10 +258,12 @@ impl<'a, K: Durable, E: Write> Book for Records<'a, K, E> {
         }
     }
 
+    // Writes the messages that are due, by the health of the link and by what was noticed.
     fn sees(&mut self, health: LinkHealth, moment: Moment) {
         self.teller.tell(self.noticed.get(), health, moment);
     }
 
+    // Reports on the messages that the cycle wasn't done when the next was due, where a line of this kind may be written.
     fn overran(&mut self, cycle: u64) {
         self.teller.overran(cycle);
     }

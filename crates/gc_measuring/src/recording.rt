@@ -1,4 +1,4 @@
-//! Records in a file that outlasts the program: a station that appends to it.
+//! A station that appends its records, as rows, to a file that outlasts the program.
 
 ghost use Rattle.std.specs.Prelude.{◌≡◌, ◌≤◌, ◌⊎◌, ℕ, [], Ok, IfOk, OnOk, OnErr};
 ghost use Rattle.std.specs.Io.KnownBytes.{Appends};
@@ -19,6 +19,7 @@ use gc_lines::{Durable, Sink, Source};
 use gc_links::{PlacedLink, Telling};
 use gc_messages::{Followed, Spot, Streams};
 use gc_rows::{head, sign};
+use gc_station::Kept;
 use gc_texts::RunFault;
 use gc_words::{LogPlace, Recording, Station};
 use std::alloc::Global;
@@ -41,23 +42,23 @@ fn fault_of_unfit(why: Unfit) -> RunFault
     }
 }
 
-// Tells how many bytes of a torn row were cut off, where there were some.
+// Writes how many bytes of a torn row were cut off, if any were.
 fn tell_torn<E: Write>(torn: u64, messages: &mut E) -> io::Result<()>
     ensures { OnOk result (Appends (E.contents messages.old) (E.contents messages.new) (torn_line torn)) }
 {
     if torn == 0 {
-        // The clause wants it shown that nothing is written: an empty text is.
+        // For the proof: writing an empty text gives the clause, which an `Ok(())` alone doesn't.
         return write!(messages, "");
     }
     writeln!(messages, "geocom: {torn} bytes of a torn row were cut off")
 }
 
-// Tells how many rows were copied, since an earlier run had no good end, where there were some.
+// Writes how many rows were copied because an earlier run had no good end, if any were.
 fn tell_copied<E: Write>(copied: u64, messages: &mut E) -> io::Result<()>
     ensures { OnOk result (Appends (E.contents messages.old) (E.contents messages.new) (copied_line copied)) }
 {
     if copied == 0 {
-        // The clause wants it shown that nothing is written: an empty text is.
+        // For the proof: writing an empty text gives the clause, which an `Ok(())` alone doesn't.
         return write!(messages, "");
     }
     writeln!(
@@ -66,7 +67,7 @@ fn tell_copied<E: Write>(copied: u64, messages: &mut E) -> io::Result<()>
     )
 }
 
-// Tells what the opening of a file made of it.
+// Writes what the opening of a file did: how many rows it copied, and how many bytes of a torn row it cut off.
 fn tell_opened<E: Write>(copied: u64, torn: u64, messages: &mut E) -> io::Result<()>
     ensures { OnOk result (Appends (E.contents messages.old) (E.contents messages.new) (opened_lines copied torn)) }
 {
@@ -74,8 +75,8 @@ fn tell_opened<E: Write>(copied: u64, torn: u64, messages: &mut E) -> io::Result
     tell_torn(torn, messages)
 }
 
-// Adds to the fault's line, for a file that doesn't begin as this station's rows do, what may have happened and how to rotate it. The
-// status is passed on.
+// Writes behind the fault's line, for a file that doesn't begin as this station's rows do, what may have happened and how to rotate the
+// file. The status stays as it was.
 fn tell_rotation<E: Write>(
     ended: io::Result<ExitCode>,
     why: Unfit,
@@ -97,13 +98,13 @@ fn write_rotation<E: Write>(why: Unfit, messages: &mut E) -> io::Result<()>
             messages,
             "geocom: the file does not begin as this station's rows do: it has other columns, or a rotation cut off its header (copytruncate). To rotate it, stop the station, rename the file, and start it"
         ),
-        // The clause wants it shown that nothing is written: an empty text is.
+        // For the proof: writing an empty text gives the clause, which an `Ok(())` alone doesn't.
         Unfit::Unopened | Unfit::Held | Unfit::Failed => write!(messages, ""),
     }
 }
 
-// Opens the file of records of a station, in the form of its rows, which then syncs as it was asked to, and tells how many rows were copied
-// and how many bytes of a torn row cut off, where there were some. Whether that could be told stands beside the file.
+// Opens the file of records of a station, in the form of its rows, which then syncs as `recording` asks, and writes how many rows were
+// copied and how many bytes of a torn row were cut off, if any were. Beside the file stands whether that could be written.
 fn open_records<R: Files<File = File>, E: Write>(
     rt: &R,
     alloc: Global,
@@ -134,7 +135,7 @@ fn open_records<R: Files<File = File>, E: Write>(
     }
 }
 
-/// What a run leaves that appended to a file: the file, and the link, where there was one.
+/// What is left of a run that appended to a file: the file, and the link, where there was one.
 #[derive(Drop)]
 pub struct Appended<'a, R> {
     pub file: Followed<'a, R>,
@@ -142,7 +143,8 @@ pub struct Appended<'a, R> {
 }
 
 impl<'a, R: Files<File = File>> Appended<'a, R> {
-    /// Ends the appending. Where all that was written is on the disk the next start finds nothing in doubt.
+    /// Closes the link, and then ends the appending. Where the path still leads to the file, and all that it holds is on the disk, the mark
+    /// that has the next start copy the file is taken away.
     pub fn end(self) {
         let Appended { file, link } = self;
         drop(link);
@@ -150,12 +152,12 @@ impl<'a, R: Files<File = File>> Appended<'a, R> {
     }
 }
 
-/// Measures at a site, and appends the records as rows to a file, which is opened before anything else is done. Where it can't be had,
-/// nothing is read, and nothing is sent: `RecordsUnopened`, `RecordsHeld`, `RecordsForeign`, and `Output` where a call of the system
-/// failed. Of `RecordsForeign` it is told, too, how a file is rotated. What stood in it stays, but for half a row at its end, which is
-/// cut off and told. Where an earlier run was killed, or a sync of it failed, the rows are copied to a new file, which is told too. Where
+/// Measures at a site, and appends the records as rows to a file, which is opened before anything else is done. Where the file
+/// can't be had, nothing is read or sent, and the fault is `RecordsUnopened`, `RecordsHeld`, `RecordsForeign`, or `Output` where a call
+/// of the system failed. For `RecordsForeign` the messages also say how to rotate the file. What stood in the file stays, but for half a row at
+/// its end, which is cut off. Where an earlier run was killed, or a sync failed, the rows are copied to a new file. Both are reported. Where
 /// the path no longer leads to the file, rows go on in a new one there, if it can be had. The streams are handed back, and the file and the
-/// link, where there was a file; [`Appended::end`] is left to the caller.
+/// link, where there was a file; [`Appended::end`] is left to the caller. What was seen of link and file at each act is noted in `kept`.
 pub fn append_at<
     'a,
     R: Net<Listener = TcpListener, Stream = TcpStream> + Clock + Files<File = File>,
@@ -170,32 +172,41 @@ pub fn append_at<
     station: Station,
     recording: Recording<'a>,
     mut streams: Streams<S, K, E>,
+    kept: &mut Kept,
 ) -> (
     Streams<S, K, E>,
     io::Result<ExitCode>,
     Option<Appended<'a, R>>,
 )
-    // Either the file can't be had, which is told with status 1, and nothing was read; or the status and the messages tell how it ended, as
-    // where the rows go elsewhere, but for what was told of half a row, and the file that is handed back has the rows of the run, which are
-    // those of the acts that the link told.
+    // Either the file can't be had, which is reported with status 1, and nothing was read. Or the status and the messages report how the run
+    // ended, behind what was written of the file's opening, and the file that is handed back has the run's rows: those of the acts that the
+    // link told. At each act the file had all rows that the acts before it settled, and they lasted.
     ensures told { IfOk result.1 (λ status. RefusesFile E.contents streams result.0 (exit_status status)
         ⊎ TellsAppended S.Source ⟦<Followed<'a, R> as Sink>⟧ ⟦<Followed<'a, R> as Durable>⟧.is_durable E.contents (is_some log.entry) station
-        streams result.0 (file_of result.2) (acts_in result.2) (exit_status status)) }
+        streams result.0 (file_of result.2) (acts_in result.2) kept.old.turns kept.new.turns (exit_status status)) }
 
     // Status 0 only where the source gave a text to its end, and the run over its commands is done.
     ensures done { IfOk result.1 (λ status. exit_status status ≡ 0
-        → AppendsAll S.Source ⟦<Followed<'a, R> as Sink>⟧ E.contents station streams result.0 (file_of result.2) (acts_in result.2)) }
+        → AppendsAll S.Source ⟦<Followed<'a, R> as Sink>⟧ E.contents station streams result.0 (file_of result.2) (acts_in result.2) kept.old.turns kept.new.turns) }
 
     // Nothing is written on the output.
     ensures output { result.0.output ≡ streams.output }
     ensures bound { IfOk result.1 (λ status. exit_status status ≤ 1) }
 {
     match open_records(rt, alloc, recording, station, &mut streams.messages) {
-        // Where that couldn't be told the station measures all the same.
+        // Where the messages on the opening can't be written, the station measures all the same.
         Ok((rows, _)) => {
             let followed = Followed::new(rt, alloc, recording.path, rows, spot.noticed);
             let (filed, output) = streams.with_output(followed);
-            let (filed, ended, link) = measure_at(rt, alloc, spot, log, station.appended(), filed);
+            let (filed, ended, link) = measure_at(
+                rt,
+                alloc,
+                spot,
+                log,
+                station.appended(),
+                filed,
+                kept,
+            );
             let (streams, file) = filed.with_output(output);
             (streams, ended, Some(Appended { file, link }))
         }
@@ -206,7 +217,7 @@ pub fn append_at<
     }
 }
 
-// Tells why a file of records can't be had and, for one that doesn't begin as this station's rows do, how to rotate it.
+// Reports why a file of records can't be had and, for one that doesn't begin as this station's rows do, how to rotate it.
 fn refuse_file<E: Write>(why: Unfit, messages: &mut E) -> io::Result<ExitCode>
     ensures told { IfOk result (λ status. (exit_status status ≡ 1) × Appends (E.contents messages.old) (E.contents messages.new) (unfit_text why)) }
 {

@@ -1,4 +1,4 @@
-//! Signs of life: what a station tells of itself while it runs. No record, and nothing that goes out, rests on it.
+//! Signs of life: what a station reports of itself while it runs. No record and no request depends on them.
 
 ghost use Rattle.std.specs.Prelude.{◌≡◌};
 ghost use Rattle.gc_station.specs.Tallies.{counted};
@@ -12,16 +12,17 @@ use gc_texts::{Ending, Stamp, stamp_text};
 use gc_words::Watch;
 use std::io::{self, Write};
 
-// How far apart the lines of one kind are at least, in milliseconds.
+// The least time between two lines of one kind, in milliseconds.
 const MINUTE: u64 = 60_000;
 
-// How long a trouble lasts before it is told, in milliseconds. A station is looked at each second, so that the line comes within a minute.
+// How long a trouble has to last before it is reported, in milliseconds. A station is looked at each second, so the line comes within a
+// minute.
 const LASTING: u64 = 59_000;
 
-// How many columns the line of a terminal has at most.
+// How many columns the status line of a terminal has at most.
 const COLUMNS: usize = 79;
 
-// How far apart the line of a terminal is written over at least, in milliseconds.
+// A second, in milliseconds: the status line of a terminal is rewritten once a second at most, and gives ages in seconds.
 const SECOND: u64 = 1_000;
 
 // How often a line of one kind may be written: when it was written last, in milliseconds of the clock for deadlines.
@@ -49,32 +50,35 @@ impl RateLimit {
     }
 }
 
-/// What was seen of a station, and what was told of it.
+/// What was seen of a station, and what was reported of it.
 #[derive(Clone, Copy)]
 pub(crate) struct Signs {
     watch: Watch,
-    // How things stood before the last act, since when, and the moment that was seen last.
+    // The health of the link when it was seen last, the moment since which it is so, and when it was seen, in milliseconds of the clock
+    // for deadlines.
     health: LinkHealth,
     since: Moment,
     elapsed: u64,
     // Since when an answer is wanted.
     wanted: Wanted,
-    // Whether a trouble was told, and whether a command was answered since.
+    // Whether a trouble was reported and no line yet says that it is over, and whether a command was answered since the trouble.
     is_troubled: bool,
     is_answered: bool,
-    // How many commands were skipped since that was told last, how many of them before the last look, and since when, in milliseconds
-    // since 1970.
+    // How many skipped commands no line has reported yet, how many of them the last look found, and when the first of them was skipped,
+    // in milliseconds since 1970.
     skipped: u64,
     skipped_before: u64,
     skipped_since: u64,
-    // The cycle of the last record, how many ended how, and when the last answer was written.
+    // The cycle of the last record, how many commands ended in each way, and when the last answer came, in milliseconds of the clock for
+    // deadlines.
     cycle: u64,
     counts: Tally,
     answered: Option<u64>,
-    // Whether a terminal shows the line that is written over.
+    // Whether a terminal shows its status line.
     is_shown: bool,
-    // What was told of what is odd about the line.
+    // What was reported as odd about the line.
     odd: Oddities,
+    // When the lines of each kind were written last.
     unconnected: RateLimit,
     connected: RateLimit,
     unquiet: RateLimit,
@@ -113,7 +117,7 @@ impl Signs {
         }
     }
 
-    /// Counts a record, and notes what it shows.
+    /// Counts a record, and notes its cycle and whether its command was answered or skipped.
     pub(crate) fn count(&mut self, stamp: Stamp, ending: Ending<'_>)
         ensures { self.new.counts ≡ counted (ending_seen ending.entry) self.old.counts }
     {
@@ -133,7 +137,7 @@ impl Signs {
         }
     }
 
-    // An answer came, whether its values read or not, and wherever it was measured.
+    // Notes that an answer came, whether its values read or not, and wherever it was measured.
     fn answer(&mut self)
         ensures { self.new.counts ≡ self.old.counts }
     {
@@ -142,7 +146,7 @@ impl Signs {
         self.wanted.hear();
     }
 
-    // Counts a command that was skipped, for the next line of those.
+    // Counts a command that was skipped, for the next line on skipped commands.
     fn skip(&mut self, utc: u64)
         ensures { self.new.counts ≡ self.old.counts }
     {
@@ -152,7 +156,7 @@ impl Signs {
         self.skipped = self.skipped.saturating_add(1);
     }
 
-    /// Whether a cycle that isn't done in time may be told.
+    /// Whether a line on a cycle that isn't done in time may be written now. If so, it counts as written.
     pub(crate) fn may_tell_late(&mut self) -> bool {
         self.watch != Watch::Nobody && self.late.allows(self.elapsed, MINUTE)
     }
@@ -188,7 +192,8 @@ impl Signs {
         self.elapsed = moment.elapsed;
     }
 
-    // Tells of a connection, a line that isn't quiet and an answer that doesn't come, and that a command was answered behind that.
+    // Writes the lines that are due: on a missing connection, on a line that isn't quiet, on an answer that doesn't come, and on the end of
+    // such a trouble.
     fn tell_troubles<E: Write>(
         &mut self,
         before: LinkHealth,
@@ -203,7 +208,7 @@ impl Signs {
         self.tell_again(messages)
     }
 
-    // Tells how many commands were skipped, once no more were since the last look.
+    // Reports how many commands were skipped, once no further one was skipped since the last look.
     fn tell_passed_over<E: Write>(&mut self, messages: &mut E) -> io::Result<()> {
         let before = self.skipped_before;
         if self.skipped == before {
@@ -213,7 +218,7 @@ impl Signs {
         Ok(())
     }
 
-    /// Tells what is odd about the line, each thing once.
+    /// Writes what is odd about the line, each thing once.
     pub(crate) fn tell_odd<E: Write>(&mut self, odd: Oddities, messages: &mut E) -> io::Result<()> {
         if self.watch == Watch::Nobody || self.odd == odd {
             return Ok(());
@@ -236,8 +241,8 @@ impl Signs {
         Ok(())
     }
 
-    // Tells that there is no connection, where it was lost or couldn't be made, and one is wanted. Not where a cycle just began: then the
-    // station makes one at once.
+    // Reports that there is no connection, where the last one was lost or couldn't be made. Not where a cycle just began: then the station
+    // makes a connection at once.
     fn tell_connection<E: Write>(
         &mut self,
         before: LinkHealth,
@@ -255,7 +260,7 @@ impl Signs {
         self.tell_since(may, self.since.utc, "no connection", messages)
     }
 
-    // Tells that a new connection isn't quiet, once that has lasted.
+    // Reports that a new connection isn't quiet, once that has lasted for `LASTING`.
     fn tell_unquiet<E: Write>(&mut self, messages: &mut E) -> io::Result<()> {
         if self.health != LinkHealth::Unquiet
             || !has_lasted(self.since.elapsed, self.elapsed, LASTING)
@@ -266,7 +271,7 @@ impl Signs {
         self.tell_since(may, self.since.utc, "not quiet", messages)
     }
 
-    // Tells that no answer came, once that has lasted, whatever became of connections meanwhile.
+    // Reports that no answer comes, once that has lasted for `LASTING`, whatever became of connections meanwhile.
     fn tell_unanswered<E: Write>(&mut self, messages: &mut E) -> io::Result<()> {
         match self.wanted.lasting(self.elapsed, LASTING) {
             Some(since) => {
@@ -297,7 +302,7 @@ impl Signs {
         writeln!(messages, "geocom: {what} since {since}")
     }
 
-    // Tells behind a trouble that a command was answered, where that may be told.
+    // Reports the end of a trouble, once a command was answered and a line of this kind may be written.
     fn tell_again<E: Write>(&mut self, messages: &mut E) -> io::Result<()> {
         if !self.is_troubled || !self.is_answered || !self.connected.allows(self.elapsed, MINUTE) {
             return Ok(());
@@ -307,7 +312,7 @@ impl Signs {
         writeln!(messages, "geocom: connected again")
     }
 
-    // Tells how many commands were skipped.
+    // Writes how many commands were skipped, if any were and a line of this kind may be written.
     fn tell_skipped<E: Write>(&mut self, messages: &mut E) -> io::Result<()> {
         if self.skipped == 0 || !self.passed_over.allows(self.elapsed, MINUTE) {
             return Ok(());
@@ -332,7 +337,7 @@ impl Signs {
         messages.write_all(row.bytes.as_slice())
     }
 
-    // The cycle, how many commands were answered and how long ago the last one was, and how many ended otherwise, where there are some.
+    // Writes the cycle, how many commands were answered, how long ago the last one was, and the other counts, but for those that are 0.
     fn show_counts<E: Write>(&self, row: &mut E) -> io::Result<()> {
         let cycle = self.cycle;
         let answered = self.counts.answered;
@@ -341,7 +346,7 @@ impl Signs {
         show_others(self.counts, row)
     }
 
-    // How long ago the last answer was, where there was one.
+    // Writes how long ago the last answer was, where there was one.
     fn show_age<E: Write>(&self, row: &mut E) -> io::Result<()> {
         match self.answered {
             Some(moment) => {
@@ -352,7 +357,8 @@ impl Signs {
         }
     }
 
-    /// Tells at the end of a run what wasn't told yet, and takes the line of a terminal away.
+    /// Writes at the end of a run how many commands were skipped that no line reported yet, where that may be written, and clears the status
+    /// line of a terminal.
     pub(crate) fn end<E: Write>(&mut self, messages: &mut E) -> io::Result<()> {
         if self.watch != Watch::Nobody {
             self.tell_skipped(messages)?;
@@ -360,7 +366,7 @@ impl Signs {
         self.clear(messages)
     }
 
-    /// Takes the line of a terminal away.
+    /// Clears the status line of a terminal, if it is shown.
     pub(crate) fn clear<E: Write>(&mut self, messages: &mut E) -> io::Result<()> {
         if !self.is_shown {
             return Ok(());
@@ -370,7 +376,7 @@ impl Signs {
     }
 }
 
-// How many commands weren't answered, by how they ended, where there are some.
+// Writes how many commands ended in each way but answered, but for counts that are 0.
 fn show_others<E: Write>(counts: Tally, row: &mut E) -> io::Result<()> {
     for (name, count) in [
         ("late", counts.late),
@@ -385,7 +391,7 @@ fn show_others<E: Write>(counts: Tally, row: &mut E) -> io::Result<()> {
     Ok(())
 }
 
-// How many ended so, where there are some.
+// Writes one of these counts with its name, unless it is 0.
 fn show_count<E: Write>(name: &str, count: u64, row: &mut E) -> io::Result<()> {
     if count == 0 {
         return Ok(());

@@ -1,4 +1,4 @@
-//! A station over its ports: it measures at a place, and tells how that ended.
+//! A station at a place: it opens its log and its link, measures, and reports how that ended.
 
 ghost use Rattle.std.specs.Prelude.{◌≡◌, ◌≤◌, IfOk, IfErr};
 ghost use Rattle.std.specs.Option.{is_some};
@@ -8,7 +8,7 @@ ghost use Rattle.gc_measuring.specs.Telling.{TellsMeasuring, MeasuresAll, TellsR
 
 use crate::counts::tell_counts;
 use crate::logging::{Noted, log_at, measure_logged};
-use crate::measure::run_station_text;
+use crate::measure::measure_text;
 use crate::stop::Stop;
 use gc_ask::fault_of;
 use gc_files::{RowsFile, SystemFile};
@@ -16,7 +16,7 @@ use gc_lines::{Durable, Source};
 use gc_links::{Link, Moment, Place, PlacedLink, Telling, Unusable};
 use gc_logs::Logged;
 use gc_messages::{Noticing, Spot, Streams};
-use gc_station::Tally;
+use gc_station::{Kept, Tally};
 use gc_texts::RunFault;
 use gc_words::{LogPlace, Station};
 use std::alloc::Global;
@@ -27,10 +27,11 @@ use std::process::ExitCode;
 use std::rt::Files;
 use std::time::Clock;
 
-/// Measures at a place, and tells how it ended: the counts, or the fault's line. Where a log is asked for, its file is opened first, and
-/// what was on the link is appended to it: where it can't be had that is `Log`. `Clock` comes where the clock can't be read, and the
+/// Measures at a place, and reports how the run ended: by the counts, or by the fault's line. Where a log is asked for, its file is opened
+/// first, and what was on the link is appended to it. `Log` comes where no log can be had, `Clock` where the clock can't be read, and the
 /// faults of a device where one is there and can't be used. That a log couldn't be written to its end is told behind the counts, or
-/// the fault, and changes no status. The streams are handed back, and the link, where there was one.
+/// the fault, and changes no status. The streams are handed back, and the link, where there was one. What was seen of link and output at each
+/// act is noted in `kept`.
 pub fn measure_at<
     'a,
     R: Net<Listener = TcpListener, Stream = TcpStream> + Clock + Files<File = File>,
@@ -44,18 +45,21 @@ pub fn measure_at<
     log: Option<LogPlace<'_>>,
     station: Station,
     mut streams: Streams<S, K, E>,
+    kept: &mut Kept,
 ) -> (
     Streams<S, K, E>,
     io::Result<ExitCode>,
     Option<Telling<PlacedLink<'a, R>>>,
 )
-    // The status and the messages tell how it ended, and behind that whether a log was lost: what was measured, by the acts that the link
-    // told from none on, as link and sink have it that are handed back; or that no log, no link or no clock could be had, and then nothing
-    // was read or written.
-    ensures told { IfOk result.1 (λ status. TellsRun S.Source K.Sink K.is_durable E.contents (is_some log.entry) station streams result.0 (acts_of result.2) (exit_status status)) }
+    // The status and the messages report how the run ended, and behind that a log that was lost. Either a text was refused or measured, by
+    // the acts that the link told from none on, as the link and the sink have it that are handed back, and at each act all lasted that the
+    // acts before it settled. Or no log, no link or no clock could be had, and nothing was read or written.
+    ensures told { IfOk result.1 (λ status. TellsRun S.Source K.Sink K.is_durable E.contents (is_some log.entry) station
+        streams result.0 (acts_of result.2) kept.old.turns kept.new.turns (exit_status status)) }
 
     // Status 0 only where the source gave a text to its end, and the run over its commands is done.
-    ensures done { IfOk result.1 (λ status. exit_status status ≡ 0 → MeasuresAllFromNone S.Source K.Sink E.contents station streams result.0 (acts_of result.2)) }
+    ensures done { IfOk result.1 (λ status. exit_status status ≡ 0
+        → MeasuresAllFromNone S.Source K.Sink E.contents station streams result.0 (acts_of result.2) kept.old.turns kept.new.turns) }
     ensures bound { IfOk result.1 (λ status. exit_status status ≤ 1) }
 {
     let Ends { link, moment, log } = match open_ends(rt, spot, log) {
@@ -70,12 +74,12 @@ pub fn measure_at<
     let mut link = Noticing::new(told, spot.noticed);
     match log {
         None => {
-            let (streams, ended) = measure_over(alloc, &mut link, station, spot, streams);
+            let (streams, ended) = measure_over(alloc, &mut link, station, spot, streams, kept);
             (streams, ended, Some(link.into_link()))
         }
         Some(log) => {
             let mut logged = Logged::new(link, log, moment.utc);
-            let (streams, ended) = measure_logged(alloc, &mut logged, station, spot, streams);
+            let (streams, ended) = measure_logged(alloc, &mut logged, station, spot, streams, kept);
             (streams, ended, Some(logged.into_link().into_link()))
         }
     }
@@ -89,7 +93,7 @@ struct Ends<'a, R> {
     log: Option<Noted<'a, RowsFile<SystemFile>>>,
 }
 
-// Opens the log, where one is asked for, and then the link.
+// Opens the log, if one is asked for, and then the link. Where there is no link, the fault is noted at `spot`, too.
 fn open_ends<'a, R: Net<Listener = TcpListener, Stream = TcpStream> + Clock + Files<File = File>>(
     rt: &'a R,
     spot: Spot<'a>,
@@ -129,7 +133,7 @@ fn link_at<'a, R: Net<Listener = TcpListener, Stream = TcpStream> + Clock + File
     }
 }
 
-// The fault where there is no link.
+// The fault where there is no link: for `Some` by what is wrong with the device, and for `None` that the clock can't be read.
 fn without_link(reason: Option<Unusable>) -> RunFault
     ensures { result ≡ fault_without_link reason }
 {
@@ -139,22 +143,25 @@ fn without_link(reason: Option<Unusable>) -> RunFault
     }
 }
 
-/// Measures over a link, and tells how it ended. The streams are handed back.
+/// Measures over a link, and reports how the run ended. The streams are handed back.
 pub(crate) fn measure_over<L: Link, S: Source, K: Durable, E: Write>(
     alloc: Global,
     link: &mut L,
     station: Station,
     spot: Spot<'_>,
     streams: Streams<S, K, E>,
+    kept: &mut Kept,
 ) -> (Streams<S, K, E>, io::Result<ExitCode>)
-    // What the text was, what of its commands was measured, and that the messages and the status tell how that ended.
-    ensures told { IfOk result.1 (λ status. TellsMeasuring S.Source K.Sink K.is_durable E.contents station (L.acts link.old) (L.acts link.new) streams result.0 (exit_status status)) }
+    // The text was refused, or its commands were measured; and the status and the messages report how that ended.
+    ensures told { IfOk result.1 (λ status. TellsMeasuring S.Source K.Sink K.is_durable E.contents station
+        (L.acts link.old) (L.acts link.new) kept.old.turns kept.new.turns streams result.0 (exit_status status)) }
 
     // Status 0 only where the source gave a text to its end, and the run over its commands is done.
-    ensures done { IfOk result.1 (λ status. exit_status status ≡ 0 → MeasuresAll S.Source K.Sink E.contents station (L.acts link.old) (L.acts link.new) streams result.0) }
+    ensures done { IfOk result.1 (λ status. exit_status status ≡ 0
+        → MeasuresAll S.Source K.Sink E.contents station (L.acts link.old) (L.acts link.new) kept.old.turns kept.new.turns streams result.0) }
     ensures bound { IfOk result.1 (λ status. exit_status status ≤ 1) }
 {
-    let (mut streams, end) = run_station_text(alloc, link, station, spot, streams, u64::MAX);
+    let (mut streams, end) = measure_text(alloc, link, station, spot, streams, u64::MAX, kept);
     note_stop(spot, end);
     let ended = tell_counts(end, &mut streams.messages);
     (streams, ended)

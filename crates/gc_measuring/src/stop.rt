@@ -1,4 +1,4 @@
-//! The stop: why a station that measures the commands of a text stopped before its end, and how that is told.
+//! The stop: why a station that measures the commands of a text stopped before its end, and how that is reported.
 
 ghost use Rattle.std.specs.Prelude.{◌≡◌, OnOk};
 ghost use Rattle.std.specs.Io.KnownBytes.{Appends};
@@ -16,12 +16,13 @@ pub enum Stop {
     Empty,
     /// The line of the text with this number, counted from 1, is the first faulty one, with this trouble. Nothing was done.
     Line(u32, Trouble),
-    /// The run over its commands ended for this fault, or what stands in front of the records couldn't be written.
+    /// The run over the text's commands ended for this fault or couldn't begin, or what stands in front of the records couldn't be
+    /// written.
     Run(RunFault),
 }
 
 impl Stop {
-    /// The fault.
+    /// The fault that is reported for this stop.
     pub fn fault(self) -> RunFault
         ensures { result ≡ fault_of_stop self }
     {
@@ -46,7 +47,7 @@ impl Stop {
     }
 }
 
-// Writes the line of an empty text's fault, and what it lacks.
+// Writes the line of the fault of a text without a command, and a second line that says so.
 fn tell_empty<E: Write>(messages: &mut E) -> io::Result<()>
     ensures { OnOk result (Appends (E.contents messages.old) (E.contents messages.new) (stop_text Stop.Empty)) }
 {
@@ -54,7 +55,7 @@ fn tell_empty<E: Write>(messages: &mut E) -> io::Result<()>
     writeln!(messages, "geocom: the text has no command")
 }
 
-// Writes the line of a faulty line's fault, and of its trouble.
+// Writes the line of the fault of a faulty line, and a second line with its trouble.
 fn tell_line<E: Write>(line: u32, trouble: Trouble, messages: &mut E) -> io::Result<()>
     ensures { OnOk result (Appends (E.contents messages.old) (E.contents messages.new) (stop_text (Stop.Line line trouble))) }
 {

@@ -1,5 +1,5 @@
-//! What a station tells of itself while it runs, on its messages: an error of writing them is ignored, since what it does, and what it writes
-//! of each request, doesn't depend on them.
+//! The messages that a station writes while it runs. An error of writing them is ignored, because neither its requests nor its records
+//! depend on them.
 
 ghost use Rattle.std.specs.Prelude.{◌≡◌, OnOk};
 ghost use Rattle.std.specs.Io.KnownBytes.{Appends};
@@ -15,17 +15,17 @@ use gc_texts::{Ending, Stamp};
 use gc_words::Watch;
 use std::io::{self, Write};
 
-/// The messages of a station, with what was seen of it and told so far.
+/// The messages of a station, with what was seen of the station and reported so far.
 pub(crate) struct Teller<E> {
     watch: Watch,
     signs: Signs,
-    // What was told of the station's files.
+    // What was reported of the station's files.
     files: FilesTold,
     messages: E,
 }
 
 impl<E: Write> Teller<E> {
-    /// Nothing was told yet.
+    /// Nothing was reported yet.
     pub(crate) fn new(watch: Watch, messages: E) -> Teller<E> {
         Teller {
             watch,
@@ -35,7 +35,7 @@ impl<E: Write> Teller<E> {
         }
     }
 
-    /// Tells at the start how many commands there are, and where they are asked.
+    /// Writes at the start how many commands there are, and to which place they go.
     pub(crate) fn begin(&mut self, place: Place<'_>, count: usize) {
         if self.watch != Watch::Nobody {
             let _ = tell_start(place, count, &mut self.messages);
@@ -49,7 +49,7 @@ impl<E: Write> Teller<E> {
         self.signs.count(stamp, ending);
     }
 
-    /// Tells before each act what is new.
+    /// Writes before an act what is new of the link, the line and the files.
     pub(crate) fn tell(&mut self, noticed: Noticed, health: LinkHealth, moment: Moment) {
         let Noticed {
             odd,
@@ -62,7 +62,7 @@ impl<E: Write> Teller<E> {
         self.tell_files(files, moment);
     }
 
-    // Tells what became of the files, also where no signs of life are told.
+    // Writes what became of the files, also where no signs of life are written.
     fn tell_files(&mut self, files: FilesSeen, moment: Moment) {
         if let Some(news) = self.files.news(files, moment) {
             let _ = self.signs.clear(&mut self.messages);
@@ -70,7 +70,7 @@ impl<E: Write> Teller<E> {
         }
     }
 
-    /// Tells that a cycle was not done when the next was due.
+    /// Writes that a cycle was not done when the next was due, where a line of this kind may be written.
     pub(crate) fn overran(&mut self, cycle: u64) {
         if self.signs.may_tell_late() {
             let _ = self.signs.clear(&mut self.messages);
@@ -78,7 +78,7 @@ impl<E: Write> Teller<E> {
         }
     }
 
-    /// Tells at the end what wasn't told yet, and hands the messages back.
+    /// Writes at the end what wasn't reported yet, and hands the messages back.
     pub(crate) fn end(self) -> E {
         let Teller {
             watch: _,
@@ -91,7 +91,7 @@ impl<E: Write> Teller<E> {
     }
 }
 
-// The line of a station's start: how many commands there are, where they are asked, and what it waits for first.
+// Writes the line of a station's start: how many commands there are, to which place they go, and what the station waits for first.
 fn tell_start<E: Write>(place: Place<'_>, count: usize, messages: &mut E) -> io::Result<()> {
     let commands = if count == 1 { "command" } else { "commands" };
     writeln!(
@@ -100,7 +100,7 @@ fn tell_start<E: Write>(place: Place<'_>, count: usize, messages: &mut E) -> io:
     )
 }
 
-// The line of a cycle that was not done when the next was due.
+// Writes the line of a cycle that was not done when the next was due.
 fn tell_overrun<E: Write>(messages: &mut E, cycle: u64) -> io::Result<()>
     ensures { OnOk result (Appends (E.contents messages.old) (E.contents messages.new) (overrun_line cycle)) }
 {

@@ -9,9 +9,9 @@ use gc_station::LinkHealth;
 /// Since when an answer is wanted.
 #[derive(Clone, Copy)]
 pub(crate) struct Wanted {
-    // Since when, where one is.
+    // The moment from which on an answer has been wanted. `None`: no answer is wanted.
     pub since: Option<Moment>,
-    // Whether there was an answer since nothing was left to be asked.
+    // Whether an answer came since the last cycle ended.
     pub heard: bool,
     // Whether a message said that no answer comes.
     pub told: bool,
@@ -70,7 +70,7 @@ impl Wanted {
         };
     }
 
-    /// Since when an answer is wanted, where that is at least `least` milliseconds ago.
+    /// Since when an answer is wanted, if at `elapsed`, by the clock for deadlines, that is at least `least` milliseconds ago.
     pub(crate) fn lasting(&self, elapsed: u64, least: u64) -> Option<Moment>
         ensures { result ≡ lasting elapsed least self.now.since }
     {

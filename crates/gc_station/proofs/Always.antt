@@ -12,7 +12,7 @@ use Rattle.gc_station.proofs.Counts.{ended_progress}
 use Rattle.gc_station.proofs.Going.{after_all-append}
 
 module _ (plan : Plan) (commands : List Task) where
-  -- of the acts so far, and where the station stands behind them
+  -- a fact of the acts so far, and of the model behind them: if each act of a run keeps it, each run does
   pub always : (s : Model) (P : List Act → Model → Type 0)
       → ((done : List Act) (act : Act) → Runs plan commands s done → Performs commands (after_all plan commands s done) (action_at plan (after_all plan commands s done)) act
       → P done (after_all plan commands s done) → P (done ++ act ∷ []) (after plan commands (after_all plan commands s done) act))
@@ -22,7 +22,7 @@ module _ (plan : Plan) (commands : List Task) where
       always (after plan commands s act) (λ (done : List Act) (t : Model). P (act ∷ done) t)
       (λ done next runs' o p. step (act ∷ done) next (runs.0, runs') o p) (step [] act tt runs.0 start) acts runs.1
 
-  -- of the acts so far, and how far the station is
+  -- a fact of the acts so far, and of the progress behind them: if each act of a run keeps it, each run does
   pub always_far : (s : Model) (P : Progress → List Act → Type 0)
       → ((done : List Act) (act : Act) → Runs plan commands s done → Performs commands (after_all plan commands s done) (action_at plan (after_all plan commands s done)) act
       → P (after_all plan commands s done).progress done
@@ -35,7 +35,7 @@ module _ (plan : Plan) (commands : List Task) where
         let t = after_all plan commands s done in
         subst (λ (q : Progress). P q (done ++ act ∷ [])) (sym (ended_progress (moved plan commands (action_at plan t) (with_progress turned t) act))) (step done act runs o p)
 
--- how far it is behind one act more
+-- the progress behind one act more is what the act makes of it: what is lost then changes no progress
 pub progress_behind : (plan : Plan) (commands : List Task) (scope : Scope) (done : List Act) (act : Act)
     → (stood plan commands scope (done ++ act ∷ [])).progress ≡ (moved plan commands (action_at plan (stood plan commands scope done))
     (with_progress turned (stood plan commands scope done)) act).progress

@@ -43,21 +43,23 @@ use Rattle.gc_station.specs.Scopes.{Scope}
 
 -- A request goes out.
 
+-- an act that puts bytes tells no moment
 puts_still : (bytes : List ℕ) (act : Act) → Puts bytes act → (d : ℕ) → IsBefore d act
 puts_still bytes (Put out) o d = tt
 puts_still bytes (Cut out n) o d = tt
 puts_still bytes act o d = absurd o
 
--- where the window has room
+-- the client once a request was sent, where the window has room
 abbrev pub with_sent : ById → ℕ → Call → ℕ → ById
 with_sent c target call deadline = record { next = (c.next + 1) % 8; waiting = c.waiting ++ pending_of target call deadline ∷ [] }
 
+-- where the window has room, a send isn't refused, and leaves that client
 pub client_is : (c : ById) (target : ℕ) (call : Call) (deadline : ℕ) → length c.waiting < 7 → client_sent c (sends WINDOW c target call deadline) ≡ with_sent c target call deadline
 client_is c target call deadline room = ap (λ (b : Bool). client_sent c (id_send c target call deadline b)) (not_full (length c.waiting) 7 room) where
   not_full : (n w : ℕ) → n < w → nat_eq n w ≡ false
   not_full n w low = grind (arith, nat_tests, low)
 
--- one more waits, behind the others
+-- an act that sends a request keeps what every run keeps of the requests that wait: one more waits, behind the others
 sent_honest : (plan : Plan) (commands : List Task) (scope : Scope) (acts : List Act) (act : Act) (c : ById) (marks : List (Option Mark))
     (records : List Record) (target : ℕ) (call : Call) (deadline : ℕ) (mark : Option Mark)
     → ((d : ℕ) → IsBefore d act) → c.next < 8 → length c.waiting < 7 → length marks ≡ length c.waiting
@@ -85,7 +87,7 @@ sent_honest plan commands scope acts act c marks records target call deadline ma
       written = h.written;
     }
 
--- the request that goes out
+-- the request that goes out is one that was put among the acts, as the last of them
 asked_here : (plan : Plan) (commands : List Task) (scope : Scope) (acts : List Act) (act : Act) (target : ℕ) (call : Call) (deadline : ℕ) (mark : Option Mark)
     → Invariant plan commands (stood plan commands scope acts)
     → length (stood plan commands scope acts).client.waiting < 7 → (0 < length (stood plan commands scope acts).client.waiting → IsAsking (action_at plan (stood plan commands scope acts)))
@@ -115,7 +117,7 @@ is_asking : (o : Action) → (o ≡ actions.Send) ⊎ (o ≡ actions.Flush) → 
 is_asking o (inl is) = subst (λ (x : Action). IsAsking x) (sym is) tt
 is_asking o (inr is) = subst (λ (x : Action). IsAsking x) (sym is) tt
 
--- a command's
+-- an act that sends a command keeps what every run keeps
 command_honest : (plan : Plan) (commands : List Task) (scope : Scope) (acts : List Act) (act : Act) (target : ℕ) (call : Call)
     → Invariant plan commands (stood plan commands scope acts) → IsHonest plan commands scope acts (acts ++ act ∷ []) (stood plan commands scope acts)
     → action_at plan (stood plan commands scope acts) ≡ actions.Send → length (stood plan commands scope acts).client.waiting < 7
@@ -137,6 +139,7 @@ command_honest plan commands scope acts act target call fine h is room puts =
           ap (λ (x : Mark). x.sent) (sym same);
     }) (λ m its. refl) puts) h
 
+-- the act that sends the next command keeps what every run keeps
 first_honest : (plan : Plan) (commands : List Task) (scope : Scope) (acts : List Act) (act : Act) (next_is_chained : Bool) (left : List Task)
     → Invariant plan commands (stood plan commands scope acts) → IsHonest plan commands scope acts (acts ++ act ∷ []) (stood plan commands scope acts)
     → action_at plan (stood plan commands scope acts) ≡ actions.Send → length (stood plan commands scope acts).client.waiting < 7
@@ -159,7 +162,7 @@ first_honest plan commands scope acts act next_is_chained (task ∷ others) fine
     ∙ client_is s.client task.command.target task.command.call (deadline_behind plan commands scope acts) room))
     (command_honest plan commands scope acts act task.command.target task.command.call fine h is room puts)
 
--- a null procedure's
+-- an act that sends a null procedure behind commands keeps what every run keeps
 null_honest : (plan : Plan) (commands : List Task) (scope : Scope) (acts : List Act) (act : Act) (f : Progress → Progress)
     → Invariant plan commands (stood plan commands scope acts) → IsHonest plan commands scope acts (acts ++ act ∷ []) (stood plan commands scope acts)
     → length (stood plan commands scope acts).client.waiting < 7 → (0 < length (stood plan commands scope acts).client.waiting → IsAsking (action_at plan (stood plan commands scope acts)))
@@ -174,6 +177,7 @@ null_honest plan commands scope acts act f fine h room asks puts =
       never : (m : Mark) → None ≡ Some m → ⊥
       never m e = cc
 
+-- a write that is cut keeps what a whole one keeps
 put_honest : (plan : Plan) (commands : List Task) (scope : Scope) (acts : List Act) (requests : ℕ) (f : Model → Model) (t : Model) (act : Act)
     → IsHonest plan commands scope acts acts (f t) → IsHonest plan commands scope acts acts (after_put requests f t act)
 put_honest plan commands scope acts requests f t (Cut out n) h = h
@@ -181,6 +185,7 @@ put_honest plan commands scope acts requests f t act h = h
 
 -- A command that isn't sent is neither answered nor late nor lost.
 
+-- the record of a command that isn't sent is true: it is neither an answer nor late nor lost
 unsent_true : (plan : Plan) (commands : List Task) (scope : Scope) (all : List Act) (b : Bool) (utc : ℕ) (mark : Mark) (command : Command)
     → IsTrue plan commands scope all (record { sent = None; utc = utc; cycle = mark.cycle; place = mark.place; command = command; end = if b then Missed else Skipped })
 unsent_true plan commands scope all true utc mark command = record { answered = λ line e. cc; late = λ e. cc; lost = λ e. cc }
@@ -197,6 +202,7 @@ skips_true plan commands scope all p act = tt
 
 -- Each action.
 
+-- an act that reads the clock keeps what every run keeps
 clock_honest : (plan : Plan) (commands : List Task) (scope : Scope) (acts : List Act) (act : Act) (f : Moment → Progress → Progress) (s : Model)
     → IsHonest plan commands scope acts (acts ++ act ∷ []) s → ReadsClock act
     → IsHonest plan commands scope (acts ++ act ∷ []) (acts ++ act ∷ []) (after_clock f (with_progress turned s) act)
@@ -204,12 +210,14 @@ clock_honest plan commands scope acts (Told m) f s h o = moment_told plan comman
 clock_honest plan commands scope acts Untold f s h o = still plan commands scope acts Untold _ _ _ (λ d. tt) h
 clock_honest plan commands scope acts act f s h o = absurd o
 
+-- an attempt to connect keeps what every run keeps
 open_honest : (plan : Plan) (commands : List Task) (scope : Scope) (acts : List Act) (act : Act) (s : Model) → IsHonest plan commands scope acts (acts ++ act ∷ []) s → IsOpening act
     → IsHonest plan commands scope (acts ++ act ∷ []) (acts ++ act ∷ []) (after_open plan (with_progress turned s) act)
 open_honest plan commands scope acts Opened s h o = still plan commands scope acts Opened _ _ _ (λ d. tt) h
 open_honest plan commands scope acts Unopened s h o = still plan commands scope acts Unopened _ _ _ (λ d. tt) h
 open_honest plan commands scope acts act s h o = absurd o
 
+-- a read keeps what every run keeps, whatever came of it
 read_honest : (plan : Plan) (commands : List Task) (scope : Scope) (acts : List Act) (until : Until) (act : Act) (tail : List Record)
     → Invariant plan commands (stood plan commands scope acts) → IsHonest plan commands scope acts (acts ++ act ∷ []) (stood plan commands scope acts)
     → IsReading act
@@ -224,9 +232,11 @@ read_honest plan commands scope acts until Ended tail fine h o ends = still plan
 read_honest plan commands scope acts until Broke tail fine h o ends = still plan commands scope acts Broke _ _ _ (λ d. tt) h
 read_honest plan commands scope acts until act tail fine h o ends = absurd o
 
+-- a close tells no moment
 close_still : (act : Act) → act ≡ Closed → (d : ℕ) → IsBefore d act
 close_still act is d = subst (λ (x : Act). IsBefore d x) (sym is) tt
 
+-- each act keeps what every run keeps, before what is lost by it
 moved_honest : (plan : Plan) (commands : List Task) (scope : Scope) (acts : List Act) (action : Action) (act : Act) (tail : List Record)
     → Invariant plan commands (stood plan commands scope acts) → IsHonest plan commands scope acts (acts ++ act ∷ []) (stood plan commands scope acts)
     → action_at plan (stood plan commands scope acts) ≡ action → IsFor plan (stood plan commands scope acts).progress (waiting_of (stood plan commands scope acts)) action
@@ -267,6 +277,7 @@ moved_honest plan commands scope acts (actions.Read until) act tail fine h is ne
 moved_honest plan commands scope acts (actions.Close why) act tail fine h is needs o ends = still plan commands scope acts act _ _ _ (close_still act o) h
 moved_honest plan commands scope acts (actions.Stop why) act tail fine h is needs o ends = absurd o
 
+-- acts of a run keep what every run keeps
 honest_along : (plan : Plan) (commands : List Task) (scope : Scope) (done acts : List Act)
     → IsHonest plan commands scope done done (stood plan commands scope done) → Runs plan commands (stood plan commands scope done) acts
     → IsHonest plan commands scope (done ++ acts) (done ++ acts) (stood plan commands scope (done ++ acts))
@@ -286,21 +297,24 @@ honest_along plan commands scope done (act ∷ acts) h runs =
     subst (λ (xs : List Act). IsHonest plan commands scope xs xs (stood plan commands scope xs)) (append_assoc done (act ∷ []) acts)
     (honest_along plan commands scope (done ++ act ∷ []) acts here goes_on)
 
--- each record is true
+-- each record of a run is true, whatever ending it has
 all_true : (plan : Plan) (commands : List Task) (scope : Scope) (acts : List Act) → Runs plan commands (opening plan scope) acts
     → AllByRecursion (IsTrue plan commands scope acts) (stood plan commands scope acts).records
 all_true plan commands scope acts runs = (honest_along plan commands scope [] acts (record { waiting = tt; written = tt }) runs).written
 
+-- each record of a reply in time is true
 pub answers_true : (plan : Plan) (commands : List Task) (scope : Scope) (acts : List Act) → Runs plan commands (opening plan scope) acts
     → AllByRecursion (IsTrueRecord plan commands scope acts) (stood plan commands scope acts).records
 answers_true plan commands scope acts runs = all_on (IsTrue plan commands scope acts) (IsTrueRecord plan commands scope acts)
     (stood plan commands scope acts).records (λ r is. is.answered) (all_true plan commands scope acts runs)
 
+-- each late record is true
 pub late_true : (plan : Plan) (commands : List Task) (scope : Scope) (acts : List Act) → Runs plan commands (opening plan scope) acts
     → AllByRecursion (IsTrulyLate plan commands scope acts) (stood plan commands scope acts).records
 late_true plan commands scope acts runs = all_on (IsTrue plan commands scope acts) (IsTrulyLate plan commands scope acts)
     (stood plan commands scope acts).records (λ r is. is.late) (all_true plan commands scope acts runs)
 
+-- each lost record is true
 pub lost_true : (plan : Plan) (commands : List Task) (scope : Scope) (acts : List Act) → Runs plan commands (opening plan scope) acts
     → AllByRecursion (IsTrulyLost plan commands scope acts) (stood plan commands scope acts).records
 lost_true plan commands scope acts runs = all_on (IsTrue plan commands scope acts) (IsTrulyLost plan commands scope acts)

@@ -22,11 +22,13 @@ use Rattle.gc_station.proofs.Words.{left_none}
 
 -- What is heard among turns.
 
+-- the lines of two lists of turns, one behind the other, are those of the first and then those of the second
 pub heard_append : (xs ys : List part.Turn) → heard_in (xs ++ ys) ≡ heard_in xs ++ heard_in ys
 heard_append [] ys = refl
 heard_append (part.Asks ∷ xs) ys = heard_append xs ys
 heard_append (part.Hears line ∷ xs) ys = ap (λ l. line ∷ l) (heard_append xs ys)
 
+-- what two lists of lines leave of a word is what the second leaves of what the first left
 pub left_append : (word : List ℕ) (xs ys : List (List ℕ)) → left_behind word (xs ++ ys) ≡ left_behind (left_behind word xs) ys
 left_append word [] ys = refl
 left_append word (line ∷ xs) ys = left_append (left_by word (heard line)) xs ys
@@ -37,16 +39,18 @@ heard_lines (line ∷ lines) = ap (λ l. line ∷ l) (heard_lines lines)
 
 -- What an act does while it begins.
 
+-- where no id is left, the word is empty
 pub word_of : (w : List ℕ) → is_none_left w ≡ true → w ≡ []
 word_of [] e = refl
 word_of (asked ∷ others) e = cc
 
 module _ (plan : Plan) (commands : List Task) where
+  -- the lines heard by the turns of a piece are its lines where it is heard, and none where it is dropped
   heard_piece : (h : Bool) (lines : List (List ℕ)) → heard_in (if h then map part.Hears lines else []) ≡ (if h then lines else [])
   heard_piece true lines = heard_lines lines
   heard_piece false lines = refl
 
-  -- what it hears are the lines that it brings
+  -- the lines that a station hears by an act while it begins are those that the act brings
   heard_by : (s : Model) (o : Action) (act : Act) → Performs commands s o act → heard_in (beginning s o act).turns ≡ heard_at s act
   heard_by s action.Ask (Put bytes) obeys = refl
   heard_by s action.Ask (Cut bytes count) obeys = refl
@@ -55,80 +59,89 @@ module _ (plan : Plan) (commands : List Task) where
   heard_by s o (Gave piece m) obeys = absurd obeys
   heard_by s o act obeys = refl
 
+  -- the turns of a piece, while the station begins, are its lines where it is heard, and none where it is dropped
   pub turns_gave : (s : Model) (o : Action) (piece : List ℕ) (m : Moment) → Performs commands s o (Gave piece m)
       → (beginning s o (Gave piece m)).turns ≡ (if is_heard s.progress.phase then map part.Hears (lines_behind s.rest piece) else [])
   turns_gave s (action.Read until) piece m obeys = refl
   turns_gave s (action.Close why) piece m obeys = cc
   turns_gave s o piece m obeys = absurd obeys
 
-  -- an act that puts no bytes, and brings none
+  -- the act puts no bytes, and brings none
   abbrev pub IsPlain : Act → Type 0
   IsPlain (Put bytes) = ⊥
   IsPlain (Cut bytes count) = ⊥
   IsPlain (Gave piece m) = ⊥
   IsPlain act = Unit {0}
 
+  -- an act that is `IsPlain` makes no turn
   pub turns_plain : (s : Model) (o : Action) (act : Act) → IsPlain act → (beginning s o act).turns ≡ []
   turns_plain s action.Ask (Put bytes) h = absurd h
   turns_plain s action.Ask (Cut bytes count) h = absurd h
   turns_plain s (action.Read until) (Gave piece m) h = absurd h
   turns_plain s o act h = refl
 
-  -- the next null procedure is asked for where the one before it is answered
+  -- behind an act while the station begins, the ids that are left are those that the lines of the act leave
   pub word_after : (s : Model) (act : Act) → Performs commands s (action_at plan s) act → has_begun s.progress ≡ false
       → (after plan commands s act).progress.word ≡ left_behind s.progress.word (heard_in (beginning s (action_at plan s) act).turns)
   word_after s act obeys begins = word_left plan commands s act obeys begins ∙ ap (λ l. left_behind s.progress.word l) (sym (heard_by s (action_at plan s) act obeys))
 
   -- Each part begins first.
 
+  -- the part of an act while the station begins has no steps of the client
   pub steps_none : (s : Model) (o : Action) (act : Act) → (beginning s o act).steps ≡ []
   steps_none s action.Ask (Put bytes) = refl
   steps_none s action.Ask (Cut bytes count) = refl
   steps_none s (action.Read until) (Gave piece m) = refl
   steps_none s o act = refl
 
+  -- the part of an act while the station begins has no marks
   pub marks_none : (s : Model) (o : Action) (act : Act) → (beginning s o act).marks ≡ []
   marks_none s action.Ask (Put bytes) = refl
   marks_none s action.Ask (Cut bytes count) = refl
   marks_none s (action.Read until) (Gave piece m) = refl
   marks_none s o act = refl
 
+-- two empty lists, one behind the other, are empty
 pub nil_both : {A : Type 0} (xs ys : List A) → xs ≡ [] → ys ≡ [] → xs ++ ys ≡ []
 nil_both [] ys e f = f
 nil_both (x ∷ xs) ys e f = cc
 
+-- the first of these parts has no turns
 abbrev pub FirstHasNone : List Part → Type 0
 FirstHasNone [] = Unit {0}
 FirstHasNone (p ∷ ps) = p.turns ≡ []
 
+-- what two lists of turns leave of a word is what the second leaves of what the first left
 left_both : (word : List ℕ) (xs ys : List part.Turn) → left_behind word (heard_in (xs ++ ys)) ≡ left_behind (left_behind word (heard_in xs)) (heard_in ys)
 left_both word xs ys = ap (λ l. left_behind word l) (heard_append xs ys) ∙ left_append word (heard_in xs) (heard_in ys)
 
--- a part goes on that begins
+-- parts have begun with one more act in front, of a part that still begins, if they have begun with the ids that its lines leave
 begun_on : (word : List ℕ) (p : Part) (ps : List Part) → p.steps ≡ [] → AreBegun (left_behind word (heard_in p.turns)) ps → AreBegun word (in_front p false ps)
 begun_on word p [] e h = inl e
 begun_on word p (q ∷ []) e (inl f) = inl (nil_both p.steps q.steps e f)
 begun_on word p (q ∷ []) e (inr f) = inr (left_both word p.turns q.turns ∙ f)
 begun_on word p (q ∷ r ∷ ps) e h = (left_both word p.turns q.turns ∙ h.0, h.1)
 
--- in front of parts that have begun, a part that is joined to the first of them keeps them so
+-- parts that have begun still have with a part in front that is joined to the first of them
 begun_in : (p : Part) (ps : List Part) → AreBegun [] ps → AreBegun [] (in_front p false ps)
 begun_in p [] h = inr (left_none (heard_in p.turns))
 begun_in p (q ∷ []) h = inr (left_none (heard_in (p.turns ++ q.turns)))
 begun_in p (q ∷ r ∷ ps) h = (left_none (heard_in (p.turns ++ q.turns)), h.1)
 
+-- parts that begin with the whole word still do behind a part that has begun
 begun_out : (p : Part) (ps : List Part) → AreBegun the_word ps → AreBegun [] (p ∷ ps)
 begun_out p [] h = inr (left_none (heard_in p.turns))
 begun_out p (q ∷ ps) h = (left_none (heard_in p.turns), h)
 
 module _ (plan : Plan) (commands : List Task) where
+  -- where nothing is lost the station has begun
   pub goes_begun : (t : Model) → loses_all t.progress ≡ false → has_begun t.progress ≡ true
   goes_begun t e = still (has_begun t.progress) (is_over t.progress) e where
     still : (b over : Bool) → (not b || over) ≡ false → b ≡ true
     still true over e = refl
     still false over e = cc
 
-  -- the next part begins with all eight, or there is none
+  -- the part behind one that ends begins with the whole word, or no act follows
   next_begun : (t : Model) (acts : List Act) → loses_all t.progress ≡ true → (has_begun t.progress ≡ false → t.progress.word ≡ the_word)
       → Runs plan commands t acts → AreBegun t.progress.word (parts_of plan commands t acts)
       → AreBegun the_word (parts_of plan commands t acts)
@@ -141,6 +154,8 @@ module _ (plan : Plan) (commands : List Task) where
     by_case true e over = none_over acts over runs
     by_case false e over = subst (λ w. AreBegun w (parts_of plan commands t acts)) (anew e) h
 
+  -- parts that have begun still have with an act in front, whether the station has begun or not, and whether the part ends or
+  -- not
   parts_begun_with : (s : Model) (act : Act) (acts : List Act) (begun lost : Bool) → has_begun s.progress ≡ begun → loses_all (after plan commands s act).progress ≡ lost
       → Performs commands s (action_at plan s) act → Runs plan commands (after plan commands s act) acts
       → AreBegun (after plan commands s act).progress.word (parts_of plan commands (after plan commands s act) acts)
@@ -162,6 +177,7 @@ module _ (plan : Plan) (commands : List Task) where
       subst (λ w. AreBegun w (p ∷ parts_of plan commands t acts)) (sym (word_of s.progress.word e))
       (begun_out p (parts_of plan commands t acts) (next_begun t acts f (λ begins. word_anew plan commands s act obeys e begins) runs h))
 
+  -- all parts of a run have begun but the last
   pub parts_begun : (s : Model) (acts : List Act) → Runs plan commands s acts → AreBegun s.progress.word (parts_of plan commands s acts)
   parts_begun s [] runs = inl refl
   parts_begun s (act ∷ acts) runs =
@@ -169,6 +185,7 @@ module _ (plan : Plan) (commands : List Task) where
 
   -- Once it has begun there are no turns.
 
+  -- parts of which the first has no turns stay so with a part without turns in front
   none_in_front : (p : Part) (b : Bool) (ps : List Part) → p.turns ≡ [] → (b ≡ false → FirstHasNone ps) → FirstHasNone (in_front p b ps)
   none_in_front p true ps e h = e
   none_in_front p false [] e h = e
@@ -183,6 +200,7 @@ module _ (plan : Plan) (commands : List Task) where
   none_putting s action.Send = none_asking s.progress.moment.elapsed (mark_next plan commands s.progress) (drop (place_next commands s.progress) commands)
   none_putting s o = refl
 
+  -- the part of an act once the station has begun has no turns
   pub none_doing : (s : Model) (o : Action) (act : Act) → (doing plan commands s o act).turns ≡ []
   none_doing s o (Put bytes) = none_putting s o
   none_doing s o (Cut bytes count) = none_putting s o
@@ -190,6 +208,7 @@ module _ (plan : Plan) (commands : List Task) where
   none_doing s o (Gave piece m) = refl
   none_doing s o act = refl
 
+  -- the first part of acts, once the station has begun, has no turns
   pub no_turns : (s : Model) (acts : List Act) → has_begun s.progress ≡ true → FirstHasNone (parts_of plan commands s acts)
   no_turns s [] e = refl
   no_turns s (act ∷ acts) e =

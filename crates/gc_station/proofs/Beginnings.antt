@@ -32,6 +32,7 @@ use Rattle.gc_station.proofs.Words.{word_moved, renews_only, renews_needs}
 
 -- Where a line leaves what a subsequence of later ids answers, its id stands before them.
 
+-- if these ids are answered behind a line, the ids that were left before the line are answered by its id and these
 left_answered : (word : List ℕ) (line : List ℕ) (others : List (List ℕ)) (ids : List ℕ)
     → IsSubsequence (left_by word (heard line)) (filter_map heard others ++ ids) → IsSubsequence word (filter_map heard (line ∷ others) ++ ids)
 left_answered [] line others ids h = tt
@@ -44,23 +45,24 @@ left_answered (asked ∷ rest) line others ids h = by_id (heard line) refl h whe
   by_id None e h = rw e h
   by_id (Some id) e h = rw e (by_test id (nat_eq id asked) refl h)
 
+-- if these ids are answered behind lines, the ids that were left before the lines are answered by them and these
 lines_answered : (word : List ℕ) (lines : List (List ℕ)) (ids : List ℕ) → IsSubsequence (left_behind word lines) ids → IsSubsequence word (filter_map heard lines ++ ids)
 lines_answered word [] ids h = h
 lines_answered word (line ∷ others) ids h = left_answered word line others ids (lines_answered (left_by word (heard line)) others ids h)
 
 module _ (plan : Plan) (commands : List Task) where
-  -- while it begins the station doesn't begin anew
+  -- a station that begins doesn't begin anew
   begins_not : (s : Model) (o : Action) → IsFor plan s.progress (waiting_of s) o → has_begun s.progress ≡ false → o ≡ actions.Renew → ⊥
   begins_not s o needs begins is = let it = subst (λ (x : Action). IsFor plan s.progress (waiting_of s) x) is needs in clash (has_begun s.progress) it.1 begins
 
-  -- what an act leaves while it begins
+  -- while the station begins, the ids that an act leaves unanswered are those that its lines leave
   pub word_after : (s : Model) (act : Act) → Performs commands s (action_at plan s) act → has_begun s.progress ≡ false
       → (after plan commands s act).progress.word ≡ left_behind s.progress.word (heard_at s act)
   word_after s act obeys begins =
       ap (λ (p : Progress). p.word) (ended_progress (moved plan commands (action_at plan s) (with_progress turned s) act))
       ∙ word_moved plan commands s (action_at plan s) act obeys (begins_not s (action_at plan s) (action_for plan s.progress (waiting_of s)) begins)
 
-  -- where it begins anew, it is the whole word
+  -- where the station begins anew, all ids of the word are left
   pub word_anew : (s : Model) (act : Act) → Performs commands s (action_at plan s) act → has_begun s.progress ≡ true
       → has_begun (after plan commands s act).progress ≡ false → (after plan commands s act).progress.word ≡ the_word
   word_anew s act obeys begun begins =
@@ -70,16 +72,19 @@ module _ (plan : Plan) (commands : List Task) where
       ap (λ (p : Progress). p.word) far ∙ ap (λ (x : Action). (moved plan commands x (with_progress turned s) act).progress.word) it.0
       ∙ ap (λ (x : Act). (moved plan commands actions.Renew (with_progress turned s) x).progress.word) it.2
 
+  -- a word of which no id is left is a subsequence of any ids
   none_left : (word ids : List ℕ) → is_none_left word ≡ true → IsSubsequence word ids
   none_left [] ids e = tt
   none_left (asked ∷ others) ids e = cc
 
+  -- if the ids left behind an act are answered, those before it are answered by the lines of the act and these
   one_before : (s : Model) (act : Act) (ids : List ℕ) (begun : Bool) → has_begun s.progress ≡ begun → Performs commands s (action_at plan s) act
       → IsSubsequence (after plan commands s act).progress.word ids
       → IsSubsequence s.progress.word (filter_map heard (heard_at s act) ++ ids)
   one_before s act ids true begun obeys h = none_left s.progress.word _ begun
   one_before s act ids false begins obeys h = lines_answered s.progress.word (heard_at s act) ids (subst (λ (w : List ℕ). IsSubsequence w ids) (word_after s act obeys begins) h)
 
+  -- where the station has begun behind acts, their lines answer the ids that were left before
   none_before : (s : Model) (acts : List Act) → Runs plan commands s acts → has_begun (after_all plan commands s acts).progress ≡ true
       → IsSubsequence s.progress.word (filter_map heard (heard_behind plan commands s acts))
   none_before s [] runs begun = none_left s.progress.word [] begun
@@ -89,6 +94,7 @@ module _ (plan : Plan) (commands : List Task) where
       subst (λ (all : List ℕ). IsSubsequence s.progress.word all) (sym (filter_map-append heard (heard_at s act) (heard_behind plan commands u acts)))
       (one_before s act ids (has_begun s.progress) refl runs.0 (none_before u acts runs.1 begun))
 
+-- where a command or a null procedure behind commands goes out, the station has begun
 asking_begun : (plan : Plan) (s : Model) (o : Action) → IsAsking o → IsFor plan s.progress (waiting_of s) o → has_begun s.progress ≡ true
 asking_begun plan s actions.Send asks needs = needs.1
 asking_begun plan s actions.Flush asks needs = needs.1
@@ -104,12 +110,15 @@ none_before_the_last plan commands scope earlier between runs asks =
 -- Each act while it begins, and where it begins anew.
 
 module _ (plan : Plan) (commands : List Task) (scope : Scope) (acts : List Act) (act : Act) where
+  -- the model before the act
   abbrev here : Model
   here = stood plan commands scope acts
 
+  -- the model behind the act
   abbrev there : Model
   there = stood plan commands scope (acts ++ act ∷ [])
 
+  -- an act of a run, while the station begins, is `IsOfBeginning`
   of_beginning : Performs commands here (action_at plan here) act → has_begun here.progress ≡ false → IsOfBeginning plan commands scope acts act
   of_beginning obeys begins =
       let fine = fine_stood plan commands scope acts in
@@ -122,6 +131,7 @@ module _ (plan : Plan) (commands : List Task) (scope : Scope) (acts : List Act) 
         left = ap (λ (x : Model). x.progress.word) (after_all-append plan commands (opening plan scope) acts (act ∷ [])) ∙ word_after plan commands here act obeys begins;
       }
 
+  -- an act of a run at which the station begins anew is `IsAnew`
   is_anew : Performs commands here (action_at plan here) act → has_begun here.progress ≡ true → has_begun there.progress ≡ false → IsAnew plan commands scope acts act
   is_anew obeys begun begins =
       let far = progress_behind plan commands scope acts act in
@@ -138,6 +148,7 @@ module _ (plan : Plan) (commands : List Task) (scope : Scope) (acts : List Act) 
         client = (fine_stood plan commands scope (acts ++ act ∷ [])).begins begins;
       }
 
+  -- each act of a run is as `BeginsSo` says
   pub begins_so : Runs plan commands (opening plan scope) (acts ++ act ∷ []) → BeginsSo plan commands scope acts act
   begins_so runs =
       let obeys = (runs_split plan commands (opening plan scope) acts [] act runs).1 in

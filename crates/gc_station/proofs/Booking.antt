@@ -22,6 +22,7 @@ use Rattle.gc_station.specs.Parts.{Turn, Part, only_turns, only, nothing, joined
 
 -- Steps.
 
+-- the course of this client that has sent and settled nothing
 abbrev pub course_at : ById → Course
 course_at c = record { sent = []; settlements = []; client = c }
 
@@ -32,32 +33,36 @@ abbrev pub client_after : ById → List Step → ById
 client_after c [] = c
 client_after c (s ∷ ss) = client_after (stepped c s) ss
 
--- what steps settle, and what they send, from a client on
+-- what these steps settle, from this client on
 abbrev pub settled_by : ById → List Step → List Settlement
 settled_by c [] = []
 settled_by c (s ∷ ss) = (goes 7 (course_at c) s).settlements ++ settled_by (stepped c s) ss
 
+-- what these steps send, from this client on
 abbrev pub sent_by : ById → List Step → List Asked
 sent_by c [] = []
 sent_by c (s ∷ ss) = (goes 7 (course_at c) s).sent ++ sent_by (stepped c s) ss
 
+-- a client behind two lists of steps is the one behind the second, from the one behind the first on
 pub client_append : (c : ById) (first later : List Step) → client_after c (first ++ later) ≡ client_after (client_after c first) later
 client_append c [] later = refl
 client_append c (s ∷ first) later = client_append (stepped c s) first later
 
+-- two lists of steps settle what the first settles and then what the second settles behind it
 pub settled_append : (c : ById) (first later : List Step) → settled_by c (first ++ later) ≡ settled_by c first ++ settled_by (client_after c first) later
 settled_append c [] later = refl
 settled_append c (s ∷ first) later =
     ap (λ k. (goes 7 (course_at c) s).settlements ++ k) (settled_append (stepped c s) first later)
     ∙ sym (append_assoc (goes 7 (course_at c) s).settlements (settled_by (stepped c s) first) (settled_by (client_after (stepped c s) first) later))
 
+-- two lists of steps send what the first sends and then what the second sends behind it
 pub sent_append : (c : ById) (first later : List Step) → sent_by c (first ++ later) ≡ sent_by c first ++ sent_by (client_after c first) later
 sent_append c [] later = refl
 sent_append c (s ∷ first) later =
     ap (λ k. (goes 7 (course_at c) s).sent ++ k) (sent_append (stepped c s) first later)
     ∙ sym (append_assoc (goes 7 (course_at c) s).sent (sent_by (stepped c s) first) (sent_by (client_after (stepped c s) first) later))
 
--- a send of a course settles what it settles of a course that has settled nothing yet
+-- what a send adds to a course is what it adds to the course of the same client that has sent and settled nothing
 sent_parts : (x : Course) (target : ℕ) (call : Call) (o : Option (Sending ById))
     → ((sent_on x target call o).settlements ≡ x.settlements ++ (sent_on (course_at x.client) target call o).settlements)
     × ((sent_on x target call o).sent ≡ x.sent ++ (sent_on (course_at x.client) target call o).sent)
@@ -65,6 +70,7 @@ sent_parts : (x : Course) (target : ℕ) (call : Call) (o : Option (Sending ById
 sent_parts x target call None = (sym (append-nil x.settlements), sym (append-nil x.sent), refl)
 sent_parts x target call (Some s) = (sym (append-nil x.settlements), refl, refl)
 
+-- what a step adds to a course is what it adds to the course of the same client that has sent and settled nothing
 goes_parts : (x : Course) (s : Step)
     → ((goes 7 x s).settlements ≡ x.settlements ++ (goes 7 (course_at x.client) s).settlements)
     × ((goes 7 x s).sent ≡ x.sent ++ (goes 7 (course_at x.client) s).sent) × ((goes 7 x s).client ≡ stepped x.client s)
@@ -73,6 +79,7 @@ goes_parts x (Hear line) = (refl, sym (append-nil x.sent), refl)
 goes_parts x (Expire now) = (sym (append-nil x.settlements), sym (append-nil x.sent), refl)
 goes_parts x Restart = (refl, sym (append-nil x.sent), refl)
 
+-- steps add to the settlements of a course what they settle from its client on
 pub course_settled : (steps : List Step) (x : Course) → (course 7 x steps).settlements ≡ x.settlements ++ settled_by x.client steps
 course_settled [] x = sym (append-nil x.settlements)
 course_settled (s ∷ ss) x =
@@ -81,6 +88,7 @@ course_settled (s ∷ ss) x =
     let now = (goes 7 (course_at x.client) s).settlements in
     course_settled ss y ∙ ap (λ l. l ++ settled_by y.client ss) p.0 ∙ ap (λ c. (x.settlements ++ now) ++ settled_by c ss) p.2 ∙ append_assoc x.settlements now (settled_by (stepped x.client s) ss)
 
+-- steps add to the requests of a course what they send from its client on
 pub course_sent : (steps : List Step) (x : Course) → (course 7 x steps).sent ≡ x.sent ++ sent_by x.client steps
 course_sent [] x = sym (append-nil x.sent)
 course_sent (s ∷ ss) x =
@@ -89,6 +97,7 @@ course_sent (s ∷ ss) x =
     let now = (goes 7 (course_at x.client) s).sent in
     course_sent ss y ∙ ap (λ l. l ++ sent_by y.client ss) p.1 ∙ ap (λ c. (x.sent ++ now) ++ sent_by c ss) p.2 ∙ append_assoc x.sent now (sent_by (stepped x.client s) ss)
 
+-- the client of a course behind steps is its client behind them
 pub course_client : (steps : List Step) (x : Course) → (course 7 x steps).client ≡ client_after x.client steps
 course_client [] x = refl
 course_client (s ∷ ss) x = course_client ss (goes 7 x s) ∙ ap (λ c. client_after c ss) (goes_parts x s).2
@@ -110,16 +119,19 @@ drop_twice [] ts xs = refl
 drop_twice (s ∷ ss) ts [] = drop_none (length ts) [] refl
 drop_twice (s ∷ ss) ts (x ∷ xs) = drop_twice ss ts xs
 
+-- no settlements have no records
 pub records_none : (reads : Call → List ℕ → Reading) (utc : ℕ) (ms : List (Option Mark)) → records_of reads utc ms [] ≡ []
 records_none reads utc [] = refl
 records_none reads utc (m ∷ ms) = refl
 
+-- records without their moment are those of moment 0
 records_timeless : (reads : Call → List ℕ → Reading) (utc : ℕ) (ms : List (Option Mark)) (ss : List Settlement) → map timeless (records_of reads utc ms ss) ≡ records_of reads 0 ms ss
 records_timeless reads utc [] ss = refl
 records_timeless reads utc (m ∷ ms) [] = refl
 records_timeless reads utc (None ∷ ms) (s ∷ ss) = records_timeless reads utc ms ss
 records_timeless reads utc (Some mark ∷ ms) (s ∷ ss) = ap (λ rs. record_of reads 0 mark s ∷ rs) (records_timeless reads utc ms ss)
 
+-- the records of settlements and of others behind them: the marks of the first are taken out for the second
 records_append : (reads : Call → List ℕ → Reading) (ms : List (Option Mark)) (ss ts : List Settlement)
     → records_of reads 0 ms (ss ++ ts) ≡ records_of reads 0 ms ss ++ records_of reads 0 (drop (length ss) ms) ts
 records_append reads [] [] ts = refl
@@ -128,7 +140,7 @@ records_append reads (m ∷ ms) [] ts = refl
 records_append reads (None ∷ ms) (s ∷ ss) ts = records_append reads ms ss ts
 records_append reads (Some mark ∷ ms) (s ∷ ss) ts = ap (λ rs. record_of reads 0 mark s ∷ rs) (records_append reads ms ss ts)
 
--- marks of later requests don't count
+-- the marks of later requests don't count: with more marks behind them, settlements have the same records
 records_more : (reads : Call → List ℕ → Reading) (ms more : List (Option Mark)) (ss : List Settlement) → length ss ≤ length ms → records_of reads 0 (ms ++ more) ss ≡ records_of reads 0 ms ss
 records_more reads [] more [] le = records_none reads 0 more
 records_more reads [] more (s ∷ ss) le = absurd (omega (arith, le))
@@ -136,22 +148,25 @@ records_more reads (m ∷ ms) more [] le = refl
 records_more reads (None ∷ ms) more (s ∷ ss) le = records_more reads ms more ss (omega (arith, le))
 records_more reads (Some mark ∷ ms) more (s ∷ ss) le = ap (λ rs. record_of reads 0 mark s ∷ rs) (records_more reads ms more ss (omega (arith, le)))
 
--- those that are of settlements went out, all of them
+-- a command that an answer ended went out, whether it was measured elsewhere or not
 value_sent : (away : Bool) (answer : Answer) (line : List ℕ) → went_out (value_as away answer line) ≡ true
 value_sent true answer line = refl
 value_sent false answer line = refl
 
+-- a command that a reply in time ended went out
 end_sent : (near : Option Near) (reading : Reading) (line : List ℕ) → went_out (answer_as near reading line) ≡ true
 end_sent near (kind.Value answer) line = value_sent (is_elsewhere near answer) answer line
 end_sent near (kind.Refused code) line = refl
 end_sent near (kind.ComFault code) line = refl
 end_sent near (kind.Unreadable fault) line = refl
 
+-- a command whose request was settled went out, however it ended
 pub ended_sent : (reads : Call → List ℕ → Reading) (near : Option Near) (call : Call) (o : Outcome) → went_out (end_of reads near call o) ≡ true
 ended_sent reads near call (Answered line) = end_sent near (reads call line) line
 ended_sent reads near call Late = refl
 ended_sent reads near call Lost = refl
 
+-- all records of settlements are of commands that went out
 records_sent : (reads : Call → List ℕ → Reading) (utc : ℕ) (ms : List (Option Mark)) (ss : List Settlement) → sent_of (records_of reads utc ms ss) ≡ records_of reads utc ms ss
 records_sent reads utc [] ss = refl
 records_sent reads utc (m ∷ ms) [] = refl
@@ -160,30 +175,36 @@ records_sent reads utc (Some mark ∷ ms) (s ∷ ss) =
     let r = record_of reads utc mark s in
     ap (λ (b : Bool). sent_with b r (sent_of (records_of reads utc ms ss))) (ended_sent reads mark.near s.call s.outcome) ∙ ap (λ rs. r ∷ rs) (records_sent reads utc ms ss)
 
+-- records behind others that went out are in order behind them
 sent_more : (b : Bool) (r : Record) (xs ys : List Record) → sent_with b r (xs ++ ys) ≡ sent_with b r xs ++ ys
 sent_more true r xs ys = refl
 sent_more false r xs ys = refl
 
+-- the records that went out, of two lists, are those of the first and then those of the second
 pub sent_both : (xs ys : List Record) → sent_of (xs ++ ys) ≡ sent_of xs ++ sent_of ys
 sent_both [] ys = refl
 sent_both (r ∷ xs) ys = ap (sent_with (went_out r.end) r) (sent_both xs ys) ∙ sent_more (went_out r.end) r (sent_of xs) (sent_of ys)
 
+-- the records of settlements, behind others, are all of commands that went out
 pub sent_records : (reads : Call → List ℕ → Reading) (rs : List Record) (utc : ℕ) (ms : List (Option Mark)) (ss : List Settlement)
     → sent_of (rs ++ records_of reads utc ms ss) ≡ sent_of rs ++ records_of reads utc ms ss
 sent_records reads rs utc ms ss = sent_both rs (records_of reads utc ms ss) ∙ ap (λ xs. sent_of rs ++ xs) (records_sent reads utc ms ss)
 
+-- where `AreOf` holds of marks and requests, and of others, it holds of both, one behind the other
 pub of_append : (commands : List Task) (ms ns : List (Option Mark)) (xs ys : List Asked) → AreOf commands ms xs → AreOf commands ns ys → AreOf commands (ms ++ ns) (xs ++ ys)
 of_append commands [] ns [] ys h g = g
 of_append commands [] ns (x ∷ xs) ys h g = absurd h
 of_append commands (m ∷ ms) ns [] ys h g = absurd h
 of_append commands (m ∷ ms) ns (x ∷ xs) ys h g = (h.0, of_append commands ms ns xs ys h.1 g)
 
+-- where `AreOf` holds, there are as many marks as requests
 pub of_length : (commands : List Task) (ms : List (Option Mark)) (xs : List Asked) → AreOf commands ms xs → length ms ≡ length xs
 of_length commands [] [] h = refl
 of_length commands [] (x ∷ xs) h = absurd h
 of_length commands (m ∷ ms) [] h = absurd h
 of_length commands (m ∷ ms) (x ∷ xs) h = ap suc (of_length commands ms xs h.1)
 
+-- the request at a place asks what the mark at that place says
 pub of_at : (commands : List Task) (ms : List (Option Mark)) (xs : List Asked) (n : ℕ) (mark : Option Mark) → AreOf commands ms xs
     → slice_get ms n ≡ Some mark → (a : Asked) × (slice_get xs n ≡ Some a) × IsOf commands mark a
 of_at commands [] [] n mark h e = cc
@@ -194,7 +215,7 @@ of_at commands (m ∷ ms) (x ∷ xs) zero mark h e = (x, refl, subst (λ (k : Op
   same m mark e = cc
 of_at commands (m ∷ ms) (x ∷ xs) (suc n) mark h e = of_at commands ms xs n mark h.1 e
 
--- what holds of each record, by its mark and its settlement
+-- what holds of each record of a settlement, by its mark and the settlement, holds of all records of these settlements
 pub all_records : (reads : Call → List ℕ → Reading) (P : Record → Type 0) (ms : List (Option Mark)) (ss : List Settlement)
     → ((n : ℕ) (mark : Mark) (s : Settlement) → slice_get ms n ≡ Some (Some mark) → slice_get ss n ≡ Some s → P (record_of reads 0 mark s)) → AllByRecursion P (records_of reads 0 ms ss)
 all_records reads P [] ss f = tt
@@ -204,8 +225,8 @@ all_records reads P (Some mark ∷ ms) (s ∷ ss) f = (f 0 mark s refl refl, all
 
 -- What is written down.
 
--- these settlements, of the requests with these marks and then of those that go out meanwhile, leave these marks and make
--- these records
+-- these settlements, of the requests with the marks `ms` and then of those that go out meanwhile, with the marks `more`, leave the last
+-- marks and make the last records
 pub record Wrote (reads : Call → List ℕ → Reading) (commands : List Task) (ms : List (Option Mark)) (rs : List Record) (more : List (Option Mark))
     (ss : List Settlement) (asks : List Asked) (ms' : List (Option Mark)) (rs' : List Record) : Type 0 where
   pub marks : ms' ≡ drop (length ss) (ms ++ more)
@@ -213,6 +234,7 @@ pub record Wrote (reads : Call → List ℕ → Reading) (commands : List Task) 
   pub records : map timeless rs' ≡ map timeless rs ++ records_of reads 0 (ms ++ more) ss
   pub sent : AreOf commands more asks
 
+-- where `Wrote` holds of settlements, and of others behind them, it holds of all
 wrote_both : (reads : Call → List ℕ → Reading) (commands : List Task) (ms ms1 ms2 more1 more2 : List (Option Mark)) (rs rs1 rs2 : List Record) (ss1 ss2 : List Settlement) (asks1 asks2 : List Asked)
     → Wrote reads commands ms rs more1 ss1 asks1 ms1 rs1 → Wrote reads commands ms1 rs1 more2 ss2 asks2 ms2 rs2
     → Wrote reads commands ms rs (more1 ++ more2) (ss1 ++ ss2) (asks1 ++ asks2) ms2 rs2
@@ -241,12 +263,13 @@ wrote_both reads commands ms ms1 ms2 more1 more2 rs rs1 rs2 ss1 ss2 asks1 asks2 
       drop_length (suc n) [] le = absurd (omega (arith, le))
       drop_length (suc n) (x ∷ xs) le = let more = drop_length n xs (omega (arith, le)) in omega (arith, more)
 
--- a client took these steps, and went on to this one; and what was written down
+-- the steps of part `p` take client `c`, with its marks and records, to client `c'` with the last marks and records
 pub record Books (reads : Call → List ℕ → Reading) (commands : List Task) (c : ById) (ms : List (Option Mark)) (rs : List Record) (p : Part) (c' : ById)
     (ms' : List (Option Mark)) (rs' : List Record) : Type 0 where
   pub client : client_after c p.steps ≡ c'
   pub wrote : Wrote reads commands ms rs p.marks (settled_by c p.steps) (sent_by c p.steps) ms' rs'
 
+-- where `Books` holds of one part, and of another behind it, it holds of both as one
 pub books_both : (reads : Call → List ℕ → Reading) (commands : List Task) (c c1 c2 : ById) (ms ms1 ms2 : List (Option Mark)) (rs rs1 rs2 : List Record) (p q : Part)
     → Books reads commands c ms rs p c1 ms1 rs1 → Books reads commands c1 ms1 rs1 q c2 ms2 rs2 → Books reads commands c ms rs (joined p q) c2 ms2 rs2
 books_both reads commands c c1 c2 ms ms1 ms2 rs rs1 rs2 p q h g =
@@ -263,7 +286,7 @@ books_both reads commands c c1 c2 ms ms1 ms2 rs rs1 rs2 p q h g =
 
 -- Single steps.
 
--- nothing is settled, and nothing sent
+-- where nothing is settled and nothing sent, the marks and the records stay
 wrote_none : (reads : Call → List ℕ → Reading) (commands : List Task) (ms : List (Option Mark)) (rs : List Record) → Wrote reads commands ms rs [] [] [] ms rs
 wrote_none reads commands ms rs = record {
   marks = sym (append-nil ms);
@@ -272,19 +295,21 @@ wrote_none reads commands ms rs = record {
   sent = tt;
 }
 
+-- a part in which nothing happens leaves the client, the marks and the records
 pub books_nothing : (reads : Call → List ℕ → Reading) (commands : List Task) (c : ById) (ms : List (Option Mark)) (rs : List Record) → Books reads commands c ms rs nothing c ms rs
 books_nothing reads commands c ms rs = record { client = refl; wrote = wrote_none reads commands ms rs }
 
--- while it begins no step is taken
+-- turns of a beginning leave the client, the marks and the records
 pub books_turns : (reads : Call → List ℕ → Reading) (commands : List Task) (c : ById) (ms : List (Option Mark)) (rs : List Record) (turns : List Turn)
     → Books reads commands c ms rs (only_turns turns) c ms rs
 books_turns reads commands c ms rs turns = record { client = refl; wrote = wrote_none reads commands ms rs }
 
+-- a moment leaves the marks and the records
 pub books_moment : (reads : Call → List ℕ → Reading) (commands : List Task) (c : ById) (ms : List (Option Mark)) (rs : List Record) (now : ℕ)
     → Books reads commands c ms rs (only (Expire now ∷ [])) (expires c now) ms rs
 books_moment reads commands c ms rs now = record { client = refl; wrote = wrote_none reads commands ms rs }
 
--- these are settled
+-- settlements of the oldest requests take out their marks, and add their records
 wrote_settled : (reads : Call → List ℕ → Reading) (commands : List Task) (ms : List (Option Mark)) (rs : List Record) (utc : ℕ) (ss ts : List Settlement)
     → ts ≡ ss → length ss ≤ length ms → Wrote reads commands ms rs [] ts [] (drop (length ss) ms) (rs ++ records_of reads utc ms ss)
 wrote_settled reads commands ms rs utc ss ts same few =
@@ -296,7 +321,7 @@ wrote_settled reads commands ms rs utc ss ts same few =
       sent = tt;
     })
 
--- no more are settled than wait
+-- no more requests are settled than have marks
 few_settled : (ms : List (Option Mark)) (c d : ById) (ss : List Settlement) → length ms ≡ length c.waiting
     → map of_settled ss ++ map of_pending d.waiting ≡ map of_pending c.waiting → length ss ≤ length ms
 few_settled ms c d ss paired parts =
@@ -305,6 +330,7 @@ few_settled ms c d ss paired parts =
     sym (length-append (map of_settled ss) (map of_pending d.waiting)) ∙ ap length parts ∙ length-map c.waiting of_pending in
     omega (arith, ended, count, paired)
 
+-- a line that the client hears: its settlements take out their marks, and add their records
 pub books_line : (reads : Call → List ℕ → Reading) (commands : List Task) (c : ById) (ms : List (Option Mark)) (rs : List Record) (utc : ℕ) (line : List ℕ) → length ms ≡ length c.waiting
     → (let x = hears c line (heard line) in Books reads commands c ms rs (only (Hear line ∷ [])) x.client (drop (length x.settlements) ms) (rs ++ records_of reads utc ms x.settlements))
 books_line reads commands c ms rs utc line paired =
@@ -315,27 +341,32 @@ books_line reads commands c ms rs utc line paired =
           (few_settled ms c x.client x.settlements paired (heard_parts c line (heard line)));
     }
 
+-- the part of a restart of the client
 abbrev pub restarting : Part
 restarting = only (Restart ∷ [])
 
+-- a restart: all requests that wait are lost, which takes out their marks and adds their records
 pub books_restart : (reads : Call → List ℕ → Reading) (commands : List Task) (c : ById) (ms : List (Option Mark)) (rs : List Record) (utc : ℕ) → length ms ≡ length c.waiting
     → Books reads commands c ms rs restarting fresh (drop (length (map lost c.waiting)) ms) (rs ++ records_of reads utc ms (map lost c.waiting))
 books_restart reads commands c ms rs utc paired =
     let ss = map lost c.waiting in
     record { client = refl; wrote = wrote_settled reads commands ms rs utc ss (ss ++ []) (append-nil ss) (few_settled ms c fresh ss paired (append-nil (map of_settled ss) ∙ lost_parts c.waiting)) }
 
--- a request goes out
+-- what a client sends that isn't refused: the id, and the client behind it
 abbrev pub sending_of : ById → ℕ → Call → ℕ → Sending ById
 sending_of c target call deadline = record { id = c.next; client = client_sent c (id_send c target call deadline false) }
 
+-- a send isn't refused where the window has room
 pub sends_with_room : (c : ById) (target : ℕ) (call : Call) (deadline : ℕ) → length c.waiting < 7 → sends 7 c target call deadline ≡ Some (sending_of c target call deadline)
 sends_with_room c target call deadline room = ap (λ b. id_send c target call deadline b) (ne_eqb (length c.waiting) 7 (λ e. omega (arith, e, room)))
 
+-- the client, the marks and the records behind a send, which the client refuses or not
 abbrev pub SentAt : (Call → List ℕ → Reading) → List Task → ById → List (Option Mark) → List Record → ℕ → Call → Option Mark → Option (Sending ById) → Type 0
 SentAt reads commands c ms rs target call mark o =
     ((sent_on (course_at c) target call o).client ≡ client_sent c o)
     × Wrote reads commands ms rs (mark ∷ []) ((sent_on (course_at c) target call o).settlements ++ []) ((sent_on (course_at c) target call o).sent ++ []) (ms ++ mark ∷ []) rs
 
+-- `SentAt` holds of a send that isn't refused
 sent_some : (reads : Call → List ℕ → Reading) (commands : List Task) (c : ById) (ms : List (Option Mark)) (rs : List Record) (target : ℕ) (call : Call)
     (mark : Option Mark) (x : Sending ById) → IsOf commands mark (record { target = target; call = call })
     → SentAt reads commands c ms rs target call mark (Some x)
@@ -349,6 +380,7 @@ sent_some reads commands c ms rs target call mark x is = (
   },
 )
 
+-- a send where there is room: its mark is added, and the records stay
 pub books_send : (reads : Call → List ℕ → Reading) (commands : List Task) (c : ById) (ms : List (Option Mark)) (rs : List Record) (target : ℕ) (call : Call)
     (deadline : ℕ) (mark : Option Mark) → length c.waiting < 7 → IsOf commands mark (record { target = target; call = call })
     → Books reads commands c ms rs (asking target call deadline mark) (client_sent c (sends 7 c target call deadline)) (ms ++ mark ∷ []) rs

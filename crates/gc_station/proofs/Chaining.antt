@@ -42,7 +42,7 @@ use Rattle.gc_station.proofs.Words.{begun_kept}
 
 -- What an act does to the place in a cycle, and to the chain that is there.
 
--- the progress goes on within the same command: what chains look at stays
+-- the fields that chains look at are the same in q as in p: it is the same command that is next
 record Still (p q : Progress) : Type 0 where
   left : q.left ≡ p.left
   unsent : q.unsent ≡ p.unsent
@@ -50,18 +50,19 @@ record Still (p q : Progress) : Type 0 where
   next_is_chained : q.next_is_chained ≡ p.next_is_chained
   chain_unbroken : q.chain_unbroken ≡ true → p.chain_unbroken ≡ true
 
--- the progress goes on to the next command, which is chained or not
+-- q has one command less to be sent than p, and the next one is chained or not, as said
 record Next (next_is_chained : Bool) (p q : Progress) : Type 0 where
   left : q.left ≡ p.left
   unsent : q.unsent ≡ p.unsent - 1
   missed : q.missed ≡ p.missed
   is_bound : q.next_is_chained ≡ next_is_chained
 
--- the progress at the beginning of a cycle of `count` commands
+-- q is at the beginning of a cycle of `count` commands
 record Anew (count : ℕ) (q : Progress) : Type 0 where
   unsent : q.unsent ≡ count
   chain_unbroken : q.chain_unbroken ≡ false
 
+-- what an act of an action does to these fields: it leaves them, breaks the chain, goes on to the next command, or begins a cycle
 abbrev Steps : ℕ → Bool → Action → Progress → Progress → Type 0
 Steps count next_is_chained Begin p q = Still p q ⊎ Anew count q
 Steps count next_is_chained Renew p q = Still p q ⊎ (Still p q × (q.chain_unbroken ≡ false))
@@ -70,10 +71,11 @@ Steps count next_is_chained Skip p q = Still p q ⊎ (Next next_is_chained p q �
 Steps count next_is_chained (Close why) p q = Still p q × (q.chain_unbroken ≡ false)
 Steps count next_is_chained _ p q = Still p q
 
+-- where these fields are the same, `Still` holds
 still : (p q : Progress) → q.left ≡ p.left → q.unsent ≡ p.unsent → q.missed ≡ p.missed → q.next_is_chained ≡ p.next_is_chained → q.chain_unbroken ≡ p.chain_unbroken → Still p q
 still p q left unsent missed next_is_chained chain_unbroken = record { left = left; unsent = unsent; missed = missed; next_is_chained = next_is_chained; chain_unbroken = λ e. sym chain_unbroken ∙ e }
 
--- the progress stays within the same command, and its chain is broken
+-- where these fields are the same, but for a chain that is broken, `Still` holds
 broken : (p q : Progress) → q.left ≡ p.left → q.unsent ≡ p.unsent → q.missed ≡ p.missed → q.next_is_chained ≡ p.next_is_chained → q.chain_unbroken ≡ false → Still p q × (q.chain_unbroken ≡ false)
 broken p q left unsent missed next_is_chained chain_unbroken = (
   record {
@@ -87,6 +89,7 @@ broken p q left unsent missed next_is_chained chain_unbroken = (
   chain_unbroken,
 )
 
+-- an act of each action does to these fields what `Steps` says
 moved_steps : (plan : Plan) (commands : List Task) (action : Action) (s : Model) (act : Act)
     → Steps (length commands) (is_chained_behind_next commands s.progress) action s.progress (moved plan commands action s act).progress
 moved_steps plan commands Begin s (Told m) = inr (record { unsent = refl; chain_unbroken = refl })
@@ -111,6 +114,7 @@ moved_steps plan commands action s act =
     (ap (λ (x : Model). x.progress.next_is_chained) is)
     (ap (λ (x : Model). x.progress.chain_unbroken) is)
 
+-- no act but that of a close closes the connection
 stays_open : (plan : Plan) (commands : List Task) (next : Action) (s : Model) (act : Act) → Performs commands s next act → ((why : Cause) → next ≡ Close why → ⊥) → KeepsOpen act
 stays_open plan commands (Read until) s act o other = walk plan commands (λ a (t : Model). KeepsOpen a) (Read until) s act o (λ bytes m. tt, λ m. tt, tt, tt, tt)
 stays_open plan commands (Close why) s act o other = absurd (other why refl)
@@ -119,17 +123,18 @@ stays_open plan commands next s act o other = walk plan commands (λ a (t : Mode
 
 -- What every run keeps of the chain where it stands.
 
--- behind each of these acts it has begun
+-- the station has begun behind each front of these acts
 abbrev pub StaysBegun : Plan → List Task → Model → List Act → Type 0
 StaysBegun plan commands s [] = Unit {0}
 StaysBegun plan commands s (act ∷ acts) = (has_begun (after plan commands s act).progress ≡ true) × StaysBegun plan commands (after plan commands s act) acts
 
+-- `StaysBegun` lasts over one act more, behind which the station has begun
 stays_more : (plan : Plan) (commands : List Task) (s : Model) (acts : List Act) (act : Act) → StaysBegun plan commands s acts
     → has_begun (after_all plan commands s (acts ++ act ∷ [])).progress ≡ true → StaysBegun plan commands s (acts ++ act ∷ [])
 stays_more plan commands s [] act h e = (e, tt)
 stays_more plan commands s (x ∷ acts) act h e = (h.0, stays_more plan commands (after plan commands s x) acts act h.1 e)
 
--- the command before the next one went out among these acts, and since then no connection was closed, and it didn't begin anew
+-- the command before the next one went out among these acts, and since then no connection was closed, and the station didn't begin anew
 record Whole (plan : Plan) (commands : List Task) (scope : Scope) (acts : List Act) (p : Progress) : Type 0 where
   before : List Act
   request : Act
@@ -142,18 +147,19 @@ record Whole (plan : Plan) (commands : List Task) (scope : Scope) (acts : List A
   begun : has_begun p ≡ true
   keeps : StaysBegun plan commands (stood plan commands scope before) (request ∷ between)
 
--- where it stands behind one act more
+-- if the station has begun behind all acts, it has behind their first part and then the others
 begun_there : (plan : Plan) (commands : List Task) (scope : Scope) (before behind all : List Act) (q : Progress) → all ≡ before ++ behind
     → (stood plan commands scope all).progress ≡ q → has_begun q ≡ true
     → has_begun (after_all plan commands (stood plan commands scope before) behind).progress ≡ true
 begun_there plan commands scope before behind all q action there begun =
     ap (λ (x : Model). has_begun x.progress) (sym (ap (stood plan commands scope) action ∙ after_all-append plan commands (opening plan scope) before behind)) ∙ ap has_begun there ∙ begun
 
--- what the two fields on chains mean: whether the next command is chained, and that the chain is unbroken
+-- what the two fields on chains mean behind these acts: whether the next command is chained, and that the chain is unbroken
 record Chain (plan : Plan) (commands : List Task) (scope : Scope) (acts : List Act) (p : Progress) : Type 0 where
   next_is_chained : 0 < place_next commands p → p.next_is_chained ≡ (p.missed || is_chained (drop (place_next commands p) commands))
   chain_unbroken : p.chain_unbroken ≡ true → Whole plan commands scope acts p
 
+-- `Chain` lasts over an act that leaves these fields and doesn't close the connection
 chain_still : (plan : Plan) (commands : List Task) (scope : Scope) (acts : List Act) (act : Act) (p q : Progress)
     → (stood plan commands scope (acts ++ act ∷ [])).progress ≡ q → Still p q → (has_begun p ≡ true → q.chain_unbroken ≡ true → has_begun q ≡ true)
     → KeepsOpen act → Chain plan commands scope acts p → Chain plan commands scope (acts ++ act ∷ []) q
@@ -183,7 +189,7 @@ chain_still plan commands scope acts act p q there k begins stays h =
           };
     }
 
--- a connection was closed, or it began anew
+-- `Chain` lasts over an act that breaks the chain, as a close or a new beginning does
 chain_closed : (plan : Plan) (commands : List Task) (scope : Scope) (acts all : List Act) (p q : Progress) → Still p q → q.chain_unbroken ≡ false
     → Chain plan commands scope acts p → Chain plan commands scope all q
 chain_closed plan commands scope acts all p q k broken h =
@@ -195,27 +201,30 @@ chain_closed plan commands scope acts all p q k broken h =
       chain_unbroken = λ e. absurd (clash q.chain_unbroken e broken);
     }
 
--- a cycle begins
+-- `Chain` holds at the beginning of a cycle
 chain_anew : (plan : Plan) (commands : List Task) (scope : Scope) (acts : List Act) (q : Progress) → Anew (length commands) q → Chain plan commands scope acts q
 chain_anew plan commands scope acts q a =
     let none : place_next commands q ≡ 0 = omega (arith, a.unsent) in
     record { next_is_chained = λ above. absurd (omega (arith, none, above)); chain_unbroken = λ e. absurd (clash q.chain_unbroken e a.chain_unbroken) }
 
--- the next command
+-- where one command less is left, the next one has the place behind
 next_place : (commands : List Task) (p q : Progress) → q.unsent ≡ p.unsent - 1 → 0 < p.unsent → p.unsent ≤ length commands → place_next commands q ≡ place_next commands p + 1
 next_place commands p q less some within = omega (arith, less, some, within)
 
+-- the new next command is chained, by its field, if it is in the text or the cycle is missed
 next_bound : (commands : List Task) (p q : Progress) → Next (is_chained_behind_next commands p) p q → place_next commands q ≡ place_next commands p + 1
     → q.next_is_chained ≡ (q.missed || is_chained (drop (place_next commands q) commands))
 next_bound commands p q n at =
     n.is_bound ∙ ap (λ (b : Bool). b || is_chained (drop (place_next commands p + 1) commands)) (sym n.missed) ∙ ap (λ (k : ℕ). q.missed || is_chained (drop k commands)) (sym at)
 
+-- `Chain` holds behind a command that isn't sent
 chain_skipped : (plan : Plan) (commands : List Task) (scope : Scope) (acts : List Act) (p q : Progress) → Next (is_chained_behind_next commands p) p q
     → q.chain_unbroken ≡ false → 0 < p.unsent → p.unsent ≤ length commands → Chain plan commands scope acts q
 chain_skipped plan commands scope acts p q n broken some within =
     let at = next_place commands p q n.unsent some within in
     record { next_is_chained = λ above. next_bound commands p q n at; chain_unbroken = λ e. absurd (clash q.chain_unbroken e broken) }
 
+-- `Chain` holds behind a command that is sent
 chain_sent : (plan : Plan) (commands : List Task) (scope : Scope) (acts : List Act) (act : Act) (p q : Progress)
     → p ≡ turned (stood plan commands scope acts).progress → (stood plan commands scope (acts ++ act ∷ [])).progress ≡ q
     → action_at plan (stood plan commands scope acts) ≡ Send → (q.chain_unbroken ≡ true → has_begun q ≡ true)
@@ -238,7 +247,7 @@ chain_sent plan commands scope acts act p q here there is begins n some within =
       };
     }
 
--- an act of an action
+-- `Chain` lasts over an act of any action
 chain_moved : (plan : Plan) (commands : List Task) (scope : Scope) (acts : List Act) (act : Act) (action : Action) (w : Waiting) (q : Progress)
     → Invariant plan commands (stood plan commands scope acts)
     → action_at plan (stood plan commands scope acts) ≡ action → IsFor plan (stood plan commands scope acts).progress w action → Performs commands (stood plan commands scope acts) action act
@@ -299,19 +308,21 @@ chain_along plan commands scope done (act ∷ acts) runs h =
     subst (λ (xs : List Act). Chain plan commands scope xs (stood plan commands scope xs).progress) (append_assoc done (act ∷ []) acts)
     (chain_along plan commands scope (done ++ act ∷ []) acts goes_on here)
 
+-- no command is behind the last
 none_behind : (commands : List Task) → drop (length commands - 0) commands ≡ []
 none_behind commands = let at : length commands - 0 ≡ length commands = omega arith in ap (λ (n : ℕ). drop n commands) at ∙ all_dropped commands where
   all_dropped : (commands : List Task) → drop (length commands) commands ≡ []
   all_dropped [] = refl
   all_dropped (task ∷ others) = all_dropped others
 
+-- `Chain` holds behind every run
 chain_stood : (plan : Plan) (commands : List Task) (scope : Scope) (acts : List Act) → Runs plan commands (opening plan scope) acts
     → Chain plan commands scope acts (stood plan commands scope acts).progress
 chain_stood plan commands scope acts runs = chain_along plan commands scope [] acts runs (record { next_is_chained = λ above. sym (ap is_chained (none_behind commands)); chain_unbroken = λ e. cc })
 
 -- What the last record says.
 
--- the last of these records is an answer that was answered well
+-- the last of these records is of a command that was answered well
 record Last (reads : Call → List ℕ → Reading) (records : List Record) : Type 0 where
   earlier : List Record
   answer : Record
@@ -321,22 +332,25 @@ record Last (reads : Call → List ℕ → Reading) (records : List Record) : Ty
   answered : answer.end ≡ Answered said line
   well : is_value (reads answer.command.call line) ≡ true
 
+-- a command that was answered well has an answer, which its line says
 well_end : (reads : Call → List ℕ → Reading) (call : Call) (end : End) → is_well reads call end ≡ true
     → (said : Option Answer) × (line : List ℕ) × (end ≡ Answered said line) × (is_value (reads call line) ≡ true)
 well_end reads call (Answered said line) e = (said, line, refl, e)
 well_end reads call end e = cc
 
+-- where the last of some records, or else the one in front of them, was answered well, `Last` holds of all
 last_one : (reads : Call → List ℕ → Reading) (r : Record) (rs : List Record) → last_well reads (is_well reads r.command.call r.end) rs ≡ true → Last reads (r ∷ rs)
 last_one reads r [] e = let it = well_end reads r.command.call r.end e in record { earlier = []; answer = r; last = refl; said = it.0; line = it.1; answered = it.2; well = it.3 }
 last_one reads r (x ∷ rs) e =
     let l = last_one reads x rs e in
     record { earlier = r ∷ l.earlier; answer = l.answer; last = ap (λ xs. r ∷ xs) l.last; said = l.said; line = l.line; answered = l.answered; well = l.well }
 
+-- where the last of some records was answered well, `Last` holds of them
 last_of : (reads : Call → List ℕ → Reading) (rs : List Record) → last_well reads false rs ≡ true → Last reads rs
 last_of reads [] e = cc
 last_of reads (r ∷ rs) e = last_one reads r rs e
 
--- two lists with one end have one last element
+-- two equal lists have the same last element
 end_same : {A : Type 0} (xs ys : List A) (a b : A) → xs ++ a ∷ [] ≡ ys ++ b ∷ [] → a ≡ b
 end_same [] [] a b e = let same : Some a ≡ Some b = ap first e in cc where
   first : {A : Type 0} → List A → Option A
@@ -352,12 +366,13 @@ all_last : {A : Type 0} (P : A → Type 0) (xs : List A) (x : A) → AllByRecurs
 all_last P [] x all = all.0
 all_last P (y ∷ xs) x all = all_last P xs x all.1
 
--- the last of the commands that were sent
+-- the commands that had their turn, with the next one behind them, are those that had their turn one place later
 last_sent : (commands : List Task) (begun place : ℕ) (left : List Task) → drop place commands ≡ left → 0 < length left → 0 < begun
     → (task : Task) × (sent_by commands begun place ++ requests begun place (of_task task ∷ []) ≡ sent_by commands begun (place + 1))
 last_sent commands begun place [] at some many = absurd (omega (arith, some))
 last_sent commands begun place (task ∷ others) at some many = (task, sent_next commands begun place task others at many)
 
+-- the command before a chained one went out, and the station has begun behind each act since
 pub chain_whole : (plan : Plan) (commands : List Task) (scope : Scope) (acts : List Act) → Runs plan commands (opening plan scope) acts
     → action_at plan (stood plan commands scope acts) ≡ Send → IsChained commands (stood plan commands scope acts)
     → (l : IsLinked plan commands scope acts) × StaysBegun plan commands (stood plan commands scope l.before) (l.request ∷ l.between)
@@ -425,6 +440,7 @@ chain_whole plan commands scope acts runs is chained = of_may needs.4 where
   of_may (inr it) = of_last it.0 (last_of scope.reads s.records (ap (λ (reads : Call → List ℕ → Reading). last_well reads false s.records)
       (sym (stood_reads plan commands scope acts)) ∙ it.1)) (h.chain_unbroken it.2)
 
+-- a chained command goes out only behind the answer of the one before it
 pub chain_kept : (plan : Plan) (commands : List Task) (scope : Scope) (acts : List Act) → Runs plan commands (opening plan scope) acts
     → action_at plan (stood plan commands scope acts) ≡ Send → IsChained commands (stood plan commands scope acts) → IsLinked plan commands scope acts
 chain_kept plan commands scope acts runs is chained = (chain_whole plan commands scope acts runs is chained).0

@@ -31,35 +31,38 @@ use Rattle.gc_station.proofs.Walk.{asked_along, came_along, quieted_along, walk}
 use Rattle.gc_station.proofs.Turns.{again_down, closed_down}
 use Rattle.gc_station.specs.Scopes.{Scope}
 
--- the end that a phase has decided
+-- the cause for which a phase closes the connection or ends the run, if it does
 abbrev pub end_of : Phase → Option Cause
 end_of (Closing why) = Some why
 end_of (Over why) = Some why
 end_of _ = None
 
--- an act shows that a call failed, and where there is no connection behind it, there was none before
+-- an act shows that a call failed; and where there is no connection behind it, there was none before
 abbrev pub Failed : Phase → Phase → Cause → Act → Type 0
 Failed before behind why act = (is_up behind ≡ false → is_up before ≡ false) × Shows why act
 
--- the end is decided: a call failed, or it came otherwise, or the phase is still the same
+-- the end is decided because a call failed, or for another reason; or the phase is still the same
 abbrev Decides : Type 0 → Phase → Phase → Cause → Act → Type 0
 Decides Other before behind why act = Failed before behind why act ⊎ (Other ⊎ (behind ≡ before))
 
--- a call failed
+-- where a call failed, the phase behind it is decided for that failure
 fail_decides : {Other : Type 0} (before at : Phase) (up : Bool) (why c : Cause) (act : Act) → is_up at ≡ up → Shows why act
     → (is_up at ≡ false → is_up before ≡ false) → end_of (if up then Closing why else Over why) ≡ Some c
     → Decides Other before (if up then Closing why else Over why) c act
 fail_decides before at true why c act is shows down e = let same : why ≡ c = cc in inl (λ d. cc, subst (λ (x : Cause). Shows x act) same shows)
 fail_decides before at false why c act is shows down e = let same : why ≡ c = cc in inl (λ d. down is, subst (λ (x : Cause). Shows x act) same shows)
 
+-- where a failure is noted, the act decides the end by showing it
 failed : {Other : Type 0} (s : Model) (why c : Cause) (act : Act) → Shows why act → end_of (with_progress (failing why) s).progress.phase ≡ Some c
     → Decides Other s.progress.phase (with_progress (failing why) s).progress.phase c act
 failed s why c act shows e = fail_decides s.progress.phase s.progress.phase (is_up s.progress.phase) why c act refl shows (λ d. d) e
 
+-- the end of a pause decides no end
 paused_same : (at : Phase) (b : Bool) (c : Cause) → end_of (if b then Down else at) ≡ Some c → (if b then Down else at) ≡ at
 paused_same at true c e = cc
 paused_same at false c e = refl
 
+-- the end of a pause or a drain decides no end
 quiet_same : (plan : Plan) (phase : Phase) (p : Progress) (c : Cause) → end_of (quieted plan phase p).phase ≡ Some c → (quieted plan phase p).phase ≡ p.phase
 quiet_same plan phase p c =
     quieted_along (λ (q : Progress). end_of q.phase ≡ Some c → q.phase ≡ p.phase) plan phase p
@@ -78,21 +81,22 @@ no_try : (spared : Bool) (tries : ℕ) → spared || nat_lt 0 tries ≡ false �
 no_try true tries e = cc
 no_try false tries e = (refl, grind (arith, nat_tests, e))
 
--- a run ends since nothing is left to be sent and no command waits, or for a cause since no try is left
+-- a run ends for being done, because nothing is left to be sent and no command waits; or for a cause, because no try is left
 abbrev EndsAgain : Plan → Progress → ℕ → Cause → Cause → Type 0
 EndsAgain plan p n other c = EndsDone p n c ⊎ ((c ≡ other) × (is_finished n p ≡ false) × (is_spared plan other p ≡ false) × (p.tries ≡ 0))
 
--- what a run ends for where no connection is made anew
+-- where the phase behind a failure ends the run, the cause is as `EndsAgain` says
 again_ends : (plan : Plan) (other c : Cause) (n : ℕ) (p : Progress) (done some : Bool) → is_finished n p ≡ done → (is_spared plan other p || nat_lt 0 p.tries) ≡ some
     → end_of (if done then Over cause.Done else if some then Pausing else Over other) ≡ Some c → EndsAgain plan p n other c
 again_ends plan other c n p true some finished tries e = let none = none_left p.left p.unsent n finished in inl (cc, none.0, none.1, none.2)
 again_ends plan other c n p false true finished tries e = cc
 again_ends plan other c n p false false finished tries e = let none = no_try (is_spared plan other p) p.tries tries in inr (cc, finished, none.0, none.1)
 
--- nothing is left to be sent, and no command waits
+-- no command is left to be sent, and none waits
 abbrev NoneLeft : Progress → ℕ → Type 0
 NoneLeft p n = (p.left ≡ 0) × (p.unsent ≡ 0) × (n ≡ 0)
 
+-- where a close ends the run, the cause is as `EndsBehind` says
 closed_ends : (plan : Plan) (w : Waiting) (other c : Cause) (p : Progress) → (other ≡ cause.Done → NoneLeft p w.commands)
     → end_of (closed plan w other (turned p)).phase ≡ Some c → EndsBehind plan p w.commands other c
 closed_ends plan w cause.Done c p done e = let none = done refl in (cc, none.0, none.1, none.2)
@@ -101,21 +105,25 @@ closed_ends plan w cause.Turns c p done e = cc
 closed_ends plan w cause.Open c p done e = again_ends plan cause.Open c w.commands p (is_finished w.commands p) (nat_lt 0 p.tries) refl refl e
 closed_ends plan w other c p done e = again_ends plan other c w.commands p (is_finished w.commands p) (is_idle plan p || nat_lt 0 p.tries) refl refl e
 
--- there is no connection behind an act that closed it, or made none, and no other is made
+-- behind an act that closed the connection, or made none, there is none, and no other is made
 abbrev pub Gone : Plan → Model → Action → Phase → Cause → Act → Type 0
 Gone plan s next behind c act = (is_up behind ≡ false) × EndsGone plan s.progress (waiting_of s) next c act
 
+-- an act of this action decides the end: by a call that failed, or by a connection that is gone
 abbrev DecidesSo : Plan → Model → Action → Cause → Act → Model → Type 0
 DecidesSo plan s next c act t = end_of t.progress.phase ≡ Some c → Decides (Gone plan s next t.progress.phase c act) s.progress.phase t.progress.phase c act
 
+-- a line feed that went out decides no end
 cleared_none : (begun : Bool) (c : Cause) → end_of (if begun then Draining else Ready) ≡ Some c → ⊥
 cleared_none true c e = cc
 cleared_none false c e = cc
 
+-- behind a line feed that went out there is a connection
 cleared_up : (begun : Bool) → is_up (if begun then Draining else Ready) ≡ false → ⊥
 cleared_up true e = cc
 cleared_up false e = cc
 
+-- where the end is decided behind an act, the act decided it, or it was decided before
 moved_decides : (plan : Plan) (commands : List Task) (next : Action) (s : Model) (act : Act) (c : Cause) → Performs commands s next act
     → (next ≡ action.Close cause.Done → NoneLeft s.progress (commands_in s.marks))
     → end_of (moved plan commands next (with_progress turned s) act).progress.phase ≡ Some c
@@ -163,7 +171,7 @@ moved_decides plan commands (action.Stop why) s act c o done e = absurd o
 moved_decides plan commands next s act c o done e =
     walk plan commands (DecidesSo plan s next c) next (with_progress turned s) act o (λ m g. inr (inr refl), λ n g. failed (with_progress turned s) cause.Clock c Untold refl g) e
 
--- where the end is decided, no act leaves the phase: a connection is closed, and without one no act is made
+-- where the end is decided, no act leaves the phase as it was: a close ends it, and without a connection no act is made
 not_twice : (plan : Plan) (commands : List Task) (s : Model) (act : Act) (c : Cause) (phase : Phase) → s.progress.phase ≡ phase → end_of phase ≡ Some c
     → Performs commands s (action_in phase plan s.progress (waiting_of s)) act
     → (moved plan commands (action_in phase plan s.progress (waiting_of s)) (with_progress turned s) act).progress.phase ≡ phase → ⊥
@@ -171,10 +179,11 @@ not_twice plan commands s act c (Closing why) is e o same = let down : true ≡ 
 not_twice plan commands s act c (Over why) is e o same = absurd o
 not_twice plan commands s act c phase is e o same = cc
 
--- what an act by which the end was decided shows
+-- what an act shows by which the end was decided
 abbrev pub Decided : Plan → Model → Phase → Cause → Act → Type 0
 Decided plan s behind c act = Failed s.progress.phase behind c act ⊎ Gone plan s (action_at plan s) behind c act
 
+-- where the end is decided behind an act, before what is lost by the act, the act shows by what it was decided
 moved_decided : (plan : Plan) (commands : List Task) (s : Model) (act : Act) (c : Cause) → Performs commands s (action_at plan s) act
     → (action_at plan s ≡ action.Close cause.Done → NoneLeft s.progress (commands_in s.marks))
     → end_of (moved plan commands (action_at plan s) (with_progress turned s) act).progress.phase ≡ Some c
@@ -187,6 +196,7 @@ moved_decided plan commands s act c o done e = pick (moved_decides plan commands
   pick (inr (inl gone)) = inr gone
   pick (inr (inr same)) = absurd (not_twice plan commands s act c s.progress.phase refl (ap end_of (sym same) ∙ e) o same)
 
+-- where the end is decided behind a whole act, the act shows by what it was decided
 pub after_decided : (plan : Plan) (commands : List Task) (s : Model) (act : Act) (c : Cause) → Performs commands s (action_at plan s) act
     → (action_at plan s ≡ action.Close cause.Done → NoneLeft s.progress (commands_in s.marks))
     → end_of (after plan commands s act).progress.phase ≡ Some c → Decided plan s (after plan commands s act).progress.phase c act
@@ -195,16 +205,18 @@ after_decided plan commands s act c o done e =
     ap (λ (p : Progress). p.phase) (ended_progress (moved plan commands (action_at plan s) (with_progress turned s) act)) in
     subst (λ (behind : Phase). Decided plan s behind c act) (sym same) (moved_decided plan commands s act c o done (sym (ap end_of same) ∙ e))
 
+-- an act of a run performs the action that was next, and the acts before it and behind it are runs
 pub runs_split : (plan : Plan) (commands : List Task) (s : Model) (earlier later : List Act) (act : Act) → Runs plan commands s (earlier ++ act ∷ later)
     → Runs plan commands s earlier × Performs commands (after_all plan commands s earlier) (action_at plan (after_all plan commands s earlier)) act
 runs_split plan commands s [] later act runs = (tt, runs.0)
 runs_split plan commands s (x ∷ xs) later act runs = let r = runs_split plan commands (after plan commands s x) xs later act runs.1 in ((runs.0, r.0), r.1)
 
--- the null procedures of a beginning go out where nothing waits
+-- where a null procedure of a beginning is next, nothing waits and the client is new
 goes_alone : (plan : Plan) (commands : List Task) (s : Model) (next : Action) → Invariant plan commands s → IsFor plan s.progress (waiting_of s) next → IsAlone next s
 goes_alone plan commands s action.Ask fine needs = let new = fine.begins needs.1 in (new, nil_from_length s.marks (fine.paired ∙ ap (λ (c : ById). length c.waiting) new))
 goes_alone plan commands s next fine needs = tt
 
+-- each act of a run is `IsReasoned`
 pub act_reasoned : (plan : Plan) (commands : List Task) (scope : Scope) (earlier later : List Act) (act : Act)
     → Runs plan commands (opening plan scope) (earlier ++ act ∷ later) → IsReasoned plan commands (stood plan commands scope earlier) act
 act_reasoned plan commands scope earlier later act runs =
@@ -216,7 +228,7 @@ act_reasoned plan commands scope earlier later act runs =
       alone = goes_alone plan commands s (action_at plan s) (fine_stood plan commands scope earlier) needs;
     }
 
--- the last of some acts
+-- a list of acts is empty, or has a last act
 last_of : (acts : List Act) → (acts ≡ []) ⊎ ((earlier : List Act) × (last : Act) × (acts ≡ earlier ++ last ∷ []))
 last_of [] = inl refl
 last_of (x ∷ xs) = on (last_of xs) where
@@ -224,15 +236,16 @@ last_of (x ∷ xs) = on (last_of xs) where
   on (inl none) = inr ([], x, ap (λ ys. x ∷ ys) none)
   on (inr some) = inr (x ∷ some.0, some.1, ap (λ ys. x ∷ ys) some.2)
 
+-- only a close performs the act that closes a connection
 pub closes_only : (commands : List Task) (s : Model) (next : Action) → Performs commands s next Closed → (why : Cause) × (next ≡ action.Close why)
 closes_only commands s (action.Close why) o = (why, refl)
 closes_only commands s next o = absurd o
 
--- what an action that is next needs
+-- the conditions of the action that is next hold
 pub needs_of : (plan : Plan) (s : Model) (next : Action) → action_at plan s ≡ next → IsFor plan s.progress (waiting_of s) next
 needs_of plan s next is = subst (λ (o : Action). IsFor plan s.progress (waiting_of s) o) is (action_for plan s.progress (waiting_of s))
 
--- a connection is closed for being done where nothing is left to be sent, and no command waits
+-- a connection is closed for being done only where no command is left to be sent, and none waits
 pub done_sent : (plan : Plan) (commands : List Task) (scope : Scope) (acts : List Act) → action_at plan (stood plan commands scope acts) ≡ action.Close cause.Done
     → NoneLeft (stood plan commands scope acts).progress (commands_in (stood plan commands scope acts).marks)
 done_sent plan commands scope acts is = by_needs (needs_of plan (stood plan commands scope acts) (action.Close cause.Done) is).1 where
@@ -242,7 +255,7 @@ done_sent plan commands scope acts is = by_needs (needs_of plan (stood plan comm
   by_needs (inl phase) = (fine_stood plan commands scope acts).finished (ap says_done phase)
   by_needs (inr end) = end
 
--- the last act of a run whose end is decided shows by what
+-- in a run whose end is decided, the last act shows by what it was decided
 decided_last : (plan : Plan) (commands : List Task) (scope : Scope) (acts : List Act) (c : Cause) → Runs plan commands (opening plan scope) acts
     → end_of (stood plan commands scope acts).progress.phase ≡ Some c
     → (earlier : List Act) × (last : Act) × (acts ≡ earlier ++ last ∷ []) × Decided plan (stood plan commands scope earlier) (stood plan commands scope acts).progress.phase c last
@@ -265,7 +278,7 @@ decided_last plan commands scope acts c runs e = by_last (last_of acts) where
             (after_decided plan commands s last c split.1 (done_sent plan commands scope earlier) (ap end_of (sym behind) ∙ e)),
       )
 
--- where a connection is to be closed for a call that failed, the last act shows it
+-- where the phase has decided that the connection is closed for a failed call, the last act shows that call
 pub closing_shown : (plan : Plan) (commands : List Task) (scope : Scope) (acts : List Act) (why : Cause) → Runs plan commands (opening plan scope) acts
     → (stood plan commands scope acts).progress.phase ≡ Closing why
     → (earlier : List Act) × (last : Act) × (acts ≡ earlier ++ last ∷ []) × Shows why last
@@ -275,6 +288,7 @@ closing_shown plan commands scope acts why runs phase =
       shows before last (inl failed) = failed.1
       shows before last (inr gone) = let up : true ≡ false = sym (ap is_up phase) ∙ gone.0 in cc
 
+-- where a connection is closed, it is closed for a cause
 pub closed_for : (plan : Plan) (commands : List Task) (scope : Scope) (acts : List Act) → Runs plan commands (opening plan scope) acts
     → Performs commands (stood plan commands scope acts) (action_at plan (stood plan commands scope acts)) Closed
     → ClosesForACause plan commands scope acts
@@ -293,6 +307,7 @@ closed_for plan commands scope acts runs o =
       by_needs why (inl phase) = inr (closing_shown plan commands scope acts why runs phase)
       by_needs why (inr end) = inl end
 
+-- where a run stops, it stops for a cause
 pub stopped_for : (plan : Plan) (commands : List Task) (scope : Scope) (acts : List Act) (why : Cause) → Runs plan commands (opening plan scope) acts
     → action_at plan (stood plan commands scope acts) ≡ action.Stop why → StopsForACause plan commands scope acts why
 stopped_for plan commands scope acts why runs stop =

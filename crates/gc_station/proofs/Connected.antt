@@ -21,13 +21,14 @@ use Rattle.gc_station.specs.Model.{Model, requests_out, request_text, null_text,
 use Rattle.gc_station.proofs.Turns.{again_down, closed_down}
 use Rattle.gc_station.proofs.Walk.{walk}
 
--- there is a connection, which isn't to be closed
+-- whether a phase has a connection that isn't to be closed
 abbrev pub is_in_use : Phase → Bool
 is_in_use phase.Clearing = true
 is_in_use phase.Draining = true
 is_in_use phase.Ready = true
 is_in_use at = false
 
+-- behind a failure no connection is in use
 pub failed_unused : (up : Bool) (why : Cause) → is_in_use (if up then phase.Closing why else phase.Over why) ≡ false
 failed_unused true why = refl
 failed_unused false why = refl
@@ -45,11 +46,13 @@ paused_unused false at is = ap is_in_use is
 -- What has to hold behind an act of an action where no call fails. A moment is given also where no clock is read, so that one row serves
 -- many actions. Behind a read that gave nothing it goes on, or a drain that was long enough ends.
 
+-- the fact holds of what a read that gave nothing makes of the progress, in each phase in which a connection is in use
 abbrev pub Silenced : Plan → (Progress → List Act → Type 0) → Until → Moment → Progress → List Act → Type 0
 Silenced plan F until m p acts =
     F (time_passed until m p) (acts ++ Silent m ∷ [])
     × (p.phase ≡ phase.Draining → is_quiet plan (time_passed until m p) ≡ true → F (drained (time_passed until m p)) (acts ++ Silent m ∷ []))
 
+-- the fact holds of what an act of this action makes of the progress, for each outcome that leaves a connection in use
 abbrev pub OnLine : Plan → List Task → (Progress → List Act → Type 0) → Action → Model → List Act → Type 0
 OnLine plan commands F actions.ReadClock s acts = (m : Moment) → F (reckoned_early plan (commands_in s.marks) (told m s.progress)) (acts ++ Told m ∷ [])
 OnLine plan commands F actions.Renew s acts = (m : Moment) → F (reckoned_early plan 0 (renewed plan m s.progress)) (acts ++ Told m ∷ [])
@@ -71,6 +74,7 @@ module _ (plan : Plan) (commands : List Task) (F : Progress → List Act → Typ
   abbrev FactBehind : List Act → Act → Model → Type 0
   FactBehind acts act t = F t.progress (acts ++ act ∷ [])
 
+  -- from `Silenced` to the fact behind a read that gave nothing
   silent_on : (until : Until) (m : Moment) (p : Progress) (at : Phase) (acts : List Act) → p.phase ≡ at → Silenced plan F until m p acts
       → F (quieted plan at (time_passed until m p)) (acts ++ Silent m ∷ [])
   silent_on until m p phase.Pausing acts is h = unused _ (acts ++ Silent m ∷ []) (paused_unused (is_past p.pause (time_passed until m p) && not (is_idle plan (time_passed until m p))) p.phase is)
@@ -80,7 +84,7 @@ module _ (plan : Plan) (commands : List Task) (F : Progress → List Act → Typ
     by_test false past = h.0
   silent_on until m p at acts is h = h.0
 
-  -- with a turn
+  -- from these facts of an action to the fact behind an act of it, in whatever phase that leaves
   pub on_line : (next : Action) (s : Model) (act : Act) (acts : List Act) → Performs commands s next act → OnLine plan commands F next (with_progress turned s) acts
       → F (moved plan commands next (with_progress turned s) act).progress (acts ++ act ∷ [])
   on_line actions.Open s act acts o h = walk plan commands (FactBehind acts) actions.Open (with_progress turned s) act o

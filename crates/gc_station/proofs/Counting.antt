@@ -6,15 +6,18 @@ use Rattle.gc_station.specs.Records.{Record}
 use Rattle.gc_station.specs.Tallies.{none_yet, one_more, counted, tallied}
 use Rattle.gc_station.specs.declared.tally.Tally.{Tally}
 
+-- no records of this ending add nothing to a count
 none_more : (n : ℕ) → at_most (0 + n) ≡ at_most n
 none_more n = omega arith
 
 -- a count of a tally that grows by one where a command ended so, and by none where it didn't
 module _ (count : Tally → ℕ) (so : End → Bool) (step : (end : End) (t : Tally) → count (counted end t) ≡ (if so end then one_more (count t) else count t)) where
+  -- one record of this ending adds one to a count, up to its greatest number
   more : (b : Bool) (n k : ℕ) → at_most ((if b then one_more n else n) + k) ≡ at_most (n + (if b then suc k else k))
   more true n k = omega arith
   more false n k = refl
 
+  -- a count behind records is that before, and the number of records with its ending, up to its greatest number
   counts : (t : Tally) (records : List Record) → count t ≤ 18446744073709551615 → count (tallied t records) ≡ at_most (count t + how_many so records)
   counts t [] few = omega (arith, few)
   counts t (r ∷ others) few =
@@ -24,6 +27,7 @@ module _ (count : Tally → ℕ) (so : End → Bool) (step : (end : End) (t : Ta
         below true e = omega (arith, e)
         below false e = omega (arith, e, few)
 
+  -- a count of a tally of all records is the number of records with its ending, up to its greatest number
   pub counts_all : count none_yet ≡ 0 → (records : List Record) → count (tallied none_yet records) ≡ at_most (how_many so records)
   counts_all none records = counts none_yet records (omega (arith, none)) ∙ ap (λ n. at_most (n + how_many so records)) none ∙ none_more (how_many so records)
 

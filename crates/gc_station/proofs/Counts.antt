@@ -11,30 +11,32 @@ use Rattle.gc_station.proofs.Walk.{moved_changed, is_sent}
 use Rattle.gc_station.specs.Model.{Model, requests_out, moved, losing, ended}
 use Rattle.gc_station.specs.Progressing.{failing, skipped, loses_all}
 
--- the counts are the same
+-- the turns, the cycles that are left and the commands that are unsent are the same
 pub record Kept (p q : Progress) : Type 0 where
   pub turns : q.turns ≡ p.turns
   pub left : q.left ≡ p.left
   pub unsent : q.unsent ≡ p.unsent
 
+-- `Kept`, from its three parts
 pub kept : (p q : Progress) → q.turns ≡ p.turns → q.left ≡ p.left → q.unsent ≡ p.unsent → Kept p q
 kept p q turns left unsent = record { turns = turns; left = left; unsent = unsent }
 
--- the progress as cycles are counted: behind the beginning of a cycle of n commands, and behind a command that was sent or
--- skipped
+-- the progress with a cycle of n commands begun, as far as these counts go
 abbrev pub counted_begun : ℕ → Progress → Progress
 counted_begun count p = record p { left = p.left - 1; unsent = count }
 
+-- the progress with one command less unsent
 abbrev pub counted_sent : Progress → Progress
 counted_sent p = record p { unsent = p.unsent - 1 }
 
--- what an act of an action does to the counts
+-- what an act of an action does to these counts: nothing, or what begins a cycle, or what sends or skips a command
 abbrev pub Counts : ℕ → Action → Progress → Progress → Type 0
 Counts count Begin p q = Kept p q ⊎ Kept (counted_begun count p) q
 Counts count Send p q = Kept (counted_sent p) q
 Counts count Skip p q = Kept p q ⊎ Kept (counted_sent p) q
 Counts count _ p q = Kept p q
 
+-- each act does to the counts what `Counts` says
 pub moved_counts : (plan : Plan) (commands : List Task) (action : Action) (s : Model) (act : Act) → Counts (length commands) action s.progress (moved plan commands action s act).progress
 moved_counts plan commands Begin s (Told m) = inr (kept (counted_begun (length commands) s.progress) _ refl refl refl)
 moved_counts plan commands Begin s act = inl (kept s.progress _ refl refl refl)
@@ -47,19 +49,20 @@ moved_counts plan commands action s act =
     let is = moved_changed plan commands action s act in
     kept s.progress _ (ap (λ (x : Model). x.progress.turns) is) (ap (λ (x : Model). x.progress.left) is) (ap (λ (x : Model). x.progress.unsent) is)
 
--- that all are lost changes no progress
+-- where requests are lost, the progress stays
 pub losing_progress : (b : Bool) (s : Model) → (losing b s).progress ≡ s.progress
 losing_progress true s = refl
 losing_progress false s = refl
 
+-- what is lost behind an act changes no progress
 pub ended_progress : (s : Model) → (ended s).progress ≡ s.progress
 ended_progress s = losing_progress (loses_all s.progress) s
 
--- no turn is taken
+-- `moved` takes no turn
 pub turns_kept : (plan : Plan) (commands : List Task) (action : Action) (s : Model) (act : Act) → (moved plan commands action s act).progress.turns ≡ s.progress.turns
 turns_kept plan commands action s act = ap (λ (x : Model). x.progress.turns) (moved_changed plan commands action s act)
 
--- no more commands are to be sent than there are
+-- no more commands are unsent behind an act than a cycle has, if no more were before
 counts_within : (count : ℕ) (action : Action) (p q : Progress) → Counts count action p q → p.unsent ≤ count → q.unsent ≤ count
 counts_within count Begin p q (inl same) h = omega (arith, same.unsent, h)
 counts_within count Begin p q (inr began) h = omega (arith, began.unsent)
@@ -67,6 +70,7 @@ counts_within count Skip p q (inl same) h = omega (arith, same.unsent, h)
 counts_within count Skip p q (inr skipped) h = omega (arith, skipped.unsent, h)
 counts_within count action p q is h = omega (arith, is.unsent, h)
 
+-- no more commands are unsent behind an act than there are, if no more were before
 pub unsent_within : (plan : Plan) (commands : List Task) (action : Action) (s : Model) (act : Act) → s.progress.unsent ≤ length commands
     → (moved plan commands action s act).progress.unsent ≤ length commands
 unsent_within plan commands action s act h = counts_within (length commands) action s.progress (moved plan commands action s act).progress (moved_counts plan commands action s act) h

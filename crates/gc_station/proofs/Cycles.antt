@@ -36,45 +36,55 @@ abbrev pub BeginsDue : Plan → Progress → Action → Type 0
 BeginsDue plan p next = next ≡ actions.Begin → is_due plan p ≡ true
 
 module _ (plan : Plan) (p : Progress) (w : Waiting) where
+  -- no cycle begins where a station waits
   pub waits_not : BeginsDue plan p (action_waiting plan p w)
   waits_not =
       either (BeginsDue plan p) (actions.Close cause.Dead) (if nat_eq w.current 0 then actions.Renew else actions.Read Limit) (is_dead plan p w) (λ d b. cc)
       (λ d. either (BeginsDue plan p) actions.Renew (actions.Read Limit) (nat_eq w.current 0) (λ e b. cc) (λ e b. cc))
 
+  -- if a cycle begins with an action only when it is due, so it does with what takes its place where there is no room
   pub room_not : (next : Action) → BeginsDue plan p next → BeginsDue plan p (action_room plan p w next)
   room_not next not = either (BeginsDue plan p) next (action_waiting plan p w) (has_room plan w) (λ e. not) (λ e. waits_not)
 
+  -- where each command of the cycle is settled, the next cycle begins only when it is due
   pub done_due : BeginsDue plan p (action_done plan p)
   done_due =
       either (BeginsDue plan p) (actions.Close cause.Done) (if is_due plan p then actions.Begin else actions.Read Due) (nat_eq p.left 0) (λ e b. cc)
       (λ e. either (BeginsDue plan p) actions.Begin (actions.Read Due) (is_due plan p) (λ d b. d) (λ d b. cc))
 
+  -- where each command that was sent is settled, the next cycle begins only when it is due
   pub settled_due : BeginsDue plan p (action_settled plan p w)
   settled_due =
       either (BeginsDue plan p) (action_done plan p) (if may_go p w then action_room plan p w actions.Send else actions.Skip) (nat_eq p.unsent 0) (λ e. done_due)
       (λ e. either (BeginsDue plan p) (action_room plan p w actions.Send) actions.Skip (may_go p w) (λ d. room_not actions.Send (λ b. cc)) (λ d b. cc))
 
+  -- where no command may go out, the next cycle begins only when it is due
   pub sent_due : BeginsDue plan p (action_sent plan p w)
   sent_due =
       either (BeginsDue plan p) (action_settled plan p w) (if nat_eq w.current 0 then action_room plan p w actions.Flush else action_waiting plan p w) (nat_eq w.commands 0) (λ e. settled_due)
       (λ e. either (BeginsDue plan p) (action_room plan p w actions.Flush) (action_waiting plan p w) (nat_eq w.current 0) (λ d. room_not actions.Flush (λ b. cc)) (λ d. waits_not))
 
+  -- once the station has begun, a cycle begins only when it is due
   pub begun_due : BeginsDue plan p (action_begun plan p w)
   begun_due =
       either (BeginsDue plan p) (action_room plan p w actions.Send) (action_sent plan p w) (nat_lt 0 p.unsent && not p.next_is_chained) (λ d. room_not actions.Send (λ b. cc)) (λ d. sent_due)
 
+  -- no cycle begins where a null procedure goes out or is waited for
   pub asks_not : BeginsDue plan p (if nat_le p.again p.moment.elapsed then actions.Ask else actions.Read Limit)
   asks_not = either (BeginsDue plan p) actions.Ask (actions.Read Limit) (nat_le p.again p.moment.elapsed) (λ e b. cc) (λ e b. cc)
 
+  -- no cycle begins while the station begins
   pub beginning_due : BeginsDue plan p (action_beginning plan p w)
   beginning_due =
       either (BeginsDue plan p) (actions.Close cause.Done) _ (is_finished w.commands p) (λ e b. cc)
       (λ more. either (BeginsDue plan p) (actions.Read Due) _ (is_idle plan p) (λ e b. cc)
       (λ e. either (BeginsDue plan p) (actions.Close cause.Dead) _ (is_dead plan p w) (λ d b. cc) (λ d. asks_not)))
 
+  -- in the phase `Ready` a cycle begins only when it is due
   pub ready_due : BeginsDue plan p (action_ready plan p w)
   ready_due = either (BeginsDue plan p) (action_begun plan p w) (action_beginning plan p w) (has_begun p) (λ e. begun_due) (λ e. beginning_due)
 
+  -- in each phase a cycle begins only when it is due, where turns are left and the moment was told
   pub told_due : (at : Phase) → BeginsDue plan p (action_told plan at p w)
   told_due phase.Ready = ready_due
   told_due phase.Down = λ b. cc
@@ -84,15 +94,18 @@ module _ (plan : Plan) (p : Progress) (w : Waiting) where
   told_due (phase.Closing why) = λ b. cc
   told_due (phase.Over why) = λ b. cc
 
+  -- no cycle begins where all turns are used up
   pub up_due : (up : Bool) → BeginsDue plan p (action_up up)
   up_due true = λ b. cc
   up_due false = λ b. cc
 
+  -- a cycle begins only when it is due, where the end isn't decided yet
   pub on_due : BeginsDue plan p (action_on plan p w)
   on_due =
       either (BeginsDue plan p) (action_up (is_up p.phase)) (if p.stale then actions.ReadClock else action_told plan p.phase p w) (nat_eq p.turns 0) (λ e. up_due (is_up p.phase))
       (λ e. either (BeginsDue plan p) actions.ReadClock (action_told plan p.phase p w) p.stale (λ d b. cc) (λ d. told_due p.phase))
 
+  -- in each phase a cycle begins only when it is due
   pub in_due : (at : Phase) → BeginsDue plan p (action_in at plan p w)
   in_due (phase.Over why) = λ b. cc
   in_due (phase.Closing why) = λ b. cc
@@ -102,15 +115,18 @@ module _ (plan : Plan) (p : Progress) (w : Waiting) where
   in_due phase.Draining = on_due
   in_due phase.Ready = on_due
 
+-- where the beginning of a cycle is next, the cycle is due
 pub begin_due : (plan : Plan) (p : Progress) (w : Waiting) → action_of plan p w ≡ actions.Begin → is_due plan p ≡ true
 begin_due plan p w = in_due plan p w p.phase
 
 -- What every run keeps of its cycles.
 
 module _ (plan : Plan) (commands : List Task) (scope : Scope) (some : 0 < plan.every) where
+  -- the cycle with n before it began at this moment, `late` milliseconds after its due moment, among these acts
   abbrev pub Late : List Act → ℕ → Moment → ℕ → Type 0
   Late acts n m late = BeginsLate plan commands scope acts n m late
 
+  -- a station is within a cycle: which one, when it began, how late, and what the fields on missed cycles mean
   pub record Cycling (acts : List Act) (p : Progress) : Type 0 where
     pub n : ℕ
     pub m : Moment
@@ -125,9 +141,11 @@ module _ (plan : Plan) (commands : List Task) (scope : Scope) (some : 0 < plan.e
     pub held : p.missed ≡ true → (p.next_is_chained ≡ true) × (p.chain_unbroken ≡ false)
     pub chained : p.next_is_chained ≡ true → (p.missed ≡ true) ⊎ ((0 < place_next commands p) × (is_chained (drop (place_next commands p) commands) ≡ true))
 
+  -- no cycle has begun, and nothing is unsent; or `Cycling` holds
   abbrev pub Begun : List Act → Progress → Type 0
   Begun acts p = ((p.left ≡ plan.cycles) × (p.unsent ≡ 0)) ⊎ Cycling acts p
 
+  -- a cycle that began among acts began among them and more
   pub at_more : (acts more : List Act) (n : ℕ) (m : Moment) → BeginsAt plan commands scope acts n m → BeginsAt plan commands scope (acts ++ more) n m
   at_more acts more n m b = record {
     before = b.before;
@@ -137,10 +155,11 @@ module _ (plan : Plan) (commands : List Task) (scope : Scope) (some : 0 < plan.e
     number = b.number;
   }
 
+  -- a cycle that began late among acts began so among them and more
   pub late_more : (acts more : List Act) (n : ℕ) (m : Moment) (late : ℕ) → BeginsLate plan commands scope acts n m late → BeginsLate plan commands scope (acts ++ more) n m late
   late_more acts more n m late b = record { first = b.first; first_begins = at_more acts more 0 b.first b.first_begins; begins = at_more acts more n m b.begins; grid = b.grid }
 
-  -- where it stays in its cycle
+  -- q is in the same cycle as p, at the same command, with its chain as it was or broken
   pub record Stays (p q : Progress) : Type 0 where
     pub left : q.left ≡ p.left
     pub unsent : q.unsent ≡ p.unsent
@@ -149,6 +168,7 @@ module _ (plan : Plan) (commands : List Task) (scope : Scope) (some : 0 < plan.e
     pub next_is_chained : q.next_is_chained ≡ p.next_is_chained
     pub chain_unbroken : (q.chain_unbroken ≡ p.chain_unbroken) ⊎ (q.chain_unbroken ≡ false)
 
+  -- `Stays`, from its parts
   pub stays : (p q : Progress) → q.left ≡ p.left → q.unsent ≡ p.unsent → q.missed ≡ p.missed → q.due ≡ p.due → q.next_is_chained ≡ p.next_is_chained
       → (q.chain_unbroken ≡ p.chain_unbroken) ⊎ (q.chain_unbroken ≡ false) → Stays p q
   stays p q left unsent missed due next_is_chained chain_unbroken = record
@@ -158,6 +178,7 @@ module _ (plan : Plan) (commands : List Task) (scope : Scope) (some : 0 < plan.e
   broken a b (inl same) e = same ∙ e
   broken a b (inr none) e = none
 
+  -- `Begun` lasts over an act that stays in its cycle, where the clock doesn't go back
   pub begun_stays : (acts : List Act) (act : Act) (p q : Progress) → Stays p q → Ticks p act q → Rises p.moment.elapsed (act ∷ []) → Begun acts p → Begun (acts ++ act ∷ []) q
   begun_stays acts act p q k t rises (inl none) = inl (k.left ∙ none.0, k.unsent ∙ none.1)
   begun_stays acts act p q k t rises (inr c) =
@@ -187,7 +208,7 @@ module _ (plan : Plan) (commands : List Task) (scope : Scope) (some : 0 < plan.e
         by_chain (inl missed) at same = inl (same ∙ missed)
         by_chain (inr (above, is)) at same = inr (subst (λ (x : ℕ). 0 < x) (sym at) above, ap (λ (x : ℕ). is_chained (drop x commands)) at ∙ is)
 
-  -- the next command goes out, or doesn't: the one behind it is bound as it is to be
+  -- an act that sends or passes over the next command keeps `Begun`, if the one behind it is bound as `is_chained_behind_next` says
   pub begun_next : (acts : List Act) (act : Act) (p q : Progress) → q.left ≡ p.left → q.unsent ≡ p.unsent - 1 → q.missed ≡ p.missed → q.due ≡ p.due
       → q.next_is_chained ≡ is_chained_behind_next commands p
       → (p.missed ≡ true → q.chain_unbroken ≡ false) → Ticks p act q → Rises p.moment.elapsed (act ∷ []) → 0 < p.unsent → p.unsent ≤ length commands → Begun acts p → Begun (acts ++ act ∷ []) q
@@ -218,7 +239,7 @@ module _ (plan : Plan) (commands : List Task) (scope : Scope) (some : 0 < plan.e
         by_missed false is e at =
             inr (omega (arith, at), ap (λ (x : ℕ). is_chained (drop x commands)) at ∙ or_second p.missed (is_chained (drop (place_next commands p + 1) commands)) e is)
 
-  -- a cycle begins
+  -- a cycle that is begun at moment m, and counts as begun at b, begins `m.elapsed - b` milliseconds after its due moment
   pub begins_cycle : (acts : List Act) (m : Moment) (p : Progress) (n : ℕ) (b : ℕ) → beginning plan m p ≡ b → b ≤ m.elapsed → cycles_begun plan p ≡ n → 0 < p.left → p.left ≤ plan.cycles
       → BeginsLate plan commands scope (acts ++ Told m ∷ []) n m (m.elapsed - b) → Cycling (acts ++ Told m ∷ []) (begun plan (length commands) m p)
   begins_cycle acts m p n b is past number left within late = record {
@@ -236,11 +257,12 @@ module _ (plan : Plan) (commands : List Task) (scope : Scope) (some : 0 < plan.e
     chained = λ e. inl e;
   }
 
+  -- the act that begins a cycle is among the acts up to it
   pub begins_here : (acts : List Act) (m : Moment) (n : ℕ) → action_at plan (stood plan commands scope acts) ≡ actions.Begin
       → cycles_begun plan (stood plan commands scope acts).progress ≡ n → BeginsAt plan commands scope (acts ++ Told m ∷ []) n m
   begins_here acts m n is number = record { before = acts; behind = []; order = refl; begins = is; number = number }
 
-  -- when a cycle begins that begins at this moment, and how late
+  -- what is known of a cycle that is begun at moment m: the moment that counts as its beginning, and how long after its due moment m is
   pub record Start (acts : List Act) (m : Moment) (p : Progress) : Type 0 where
     pub n : ℕ
     pub b : ℕ
@@ -249,6 +271,7 @@ module _ (plan : Plan) (commands : List Task) (scope : Scope) (some : 0 < plan.e
     pub number : cycles_begun plan p ≡ n
     pub late : BeginsLate plan commands scope (acts ++ Told m ∷ []) n m (m.elapsed - b)
 
+  -- the first cycle begins when it is due
   pub start_first : (acts : List Act) (m : Moment) (p : Progress) → action_at plan (stood plan commands scope acts) ≡ actions.Begin
       → cycles_begun plan (stood plan commands scope acts).progress ≡ cycles_begun plan p
       → p.left ≡ plan.cycles → Start acts m p
@@ -264,6 +287,7 @@ module _ (plan : Plan) (commands : List Task) (scope : Scope) (some : 0 < plan.e
         late = record { first = m; first_begins = here; begins = here; grid = omega arith };
       }
 
+  -- a further cycle begins `every` milliseconds after the one before it was due, or later
   pub start_more : (acts : List Act) (m : Moment) (p : Progress) → action_at plan (stood plan commands scope acts) ≡ actions.Begin
       → cycles_begun plan (stood plan commands scope acts).progress ≡ cycles_begun plan p
       → is_due plan p ≡ true → Rises p.moment.elapsed (Told m ∷ []) → Cycling acts p → Start acts m p
@@ -289,12 +313,14 @@ module _ (plan : Plan) (commands : List Task) (scope : Scope) (some : 0 < plan.e
         late = record { first = c.begins.first; first_begins = at_more acts (Told m ∷ []) 0 c.begins.first c.begins.first_begins; begins = here; grid = omega (arith, last, long, past, now) };
       }
 
+  -- a cycle that begins, the first or a further one, has a `Start`
   pub starts : (acts : List Act) (m : Moment) (p : Progress) → action_at plan (stood plan commands scope acts) ≡ actions.Begin
       → cycles_begun plan (stood plan commands scope acts).progress ≡ cycles_begun plan p
       → is_due plan p ≡ true → Rises p.moment.elapsed (Told m ∷ []) → Begun acts p → Start acts m p
   starts acts m p is same due rises (inl none) = start_first acts m p is same none.0
   starts acts m p is same due rises (inr c) = start_more acts m p is same due rises c
 
+  -- `Begun` holds behind the act that begins a cycle
   pub begun_begins : (acts : List Act) (m : Moment) (p : Progress) → action_at plan (stood plan commands scope acts) ≡ actions.Begin
       → cycles_begun plan (stood plan commands scope acts).progress ≡ cycles_begun plan p
       → is_due plan p ≡ true → 0 < p.left → p.left ≤ plan.cycles → Rises p.moment.elapsed (Told m ∷ []) → Begun acts p → Cycling (acts ++ Told m ∷ []) (begun plan (length commands) m p)
@@ -304,18 +330,22 @@ module _ (plan : Plan) (commands : List Task) (scope : Scope) (some : 0 < plan.e
 
   -- Acts.
 
+  -- behind this act the moment told last is the act's, if it tells one; and `Begun` holds if the clock doesn't go back at it
   abbrev pub OnTo : List Act → Progress → Act → Progress → Type 0
   OnTo acts p act q = (q.moment.elapsed ≡ last_of p.moment.elapsed (act ∷ [])) × (Rises p.moment.elapsed (act ∷ []) → Begun (acts ++ act ∷ []) q)
 
   abbrev pub On : List Act → Progress → Act → Model → Type 0
   On acts p act t = OnTo acts p act t.progress
 
+  -- an act stays in its cycle, and changes the moment as `Ticks` says
   abbrev pub Same : Progress → Act → Progress → Type 0
   Same p act q = Stays p q × Ticks p act q
 
+  -- `OnTo` holds of an act that stays in its cycle
   pub on_same : (acts : List Act) (p : Progress) (act : Act) (q : Progress) → Begun acts p → Same p act q → OnTo acts p act q
   on_same acts p act q h same = (last_ticks p q act same.1, λ rises. begun_stays acts act p q same.0 same.1 rises h)
 
+  -- `OnTo` holds of a call that failed
   pub fails : (acts : List Act) (s : Model) (act : Act) (why : Cause) → Begun acts s.progress → Ticks s.progress act s.progress → On acts s.progress act (with_progress (failing why) s)
   fails acts s act why h t = (
     last_ticks s.progress (failing why s.progress) act (ticks_failing act t),
@@ -327,6 +357,7 @@ module _ (plan : Plan) (commands : List Task) (scope : Scope) (some : 0 < plan.e
     ticks_failing (Silent m) e = e
     ticks_failing a e = e
 
+  -- a read that gave bytes stays in its cycle
   pub gave_same : (until : Until) (s : Model) (bytes : List ℕ) (m : Moment) → Same s.progress (Gave bytes m) (piece_at plan until bytes m s).progress
   gave_same until s bytes m =
       let mid = with_moment m (with_progress (told m) s) in
@@ -338,16 +369,19 @@ module _ (plan : Plan) (commands : List Task) (scope : Scope) (some : 0 < plan.e
             (asked_along (λ (q : Progress). (q.moment ≡ m) × (q.began ≡ min s.progress.began m.elapsed)) (λ q line e. e) mid.progress (lines_behind s.rest bytes) (refl, refl)) (refl, refl),
       )
 
+  -- a read that gave nothing stays in its cycle
   pub silent_same : (at : Phase) (p : Progress) (until : Until) (m : Moment) → Same p (Silent m) (quieted plan at (time_passed until m p))
   silent_same at p until m =
       quieted_along (λ (q : Progress). Same p (Silent m) q) plan at (time_passed until m p)
       (stays p _ refl refl refl refl refl (inl refl), (refl, refl)) (stays p _ refl refl refl refl refl (inl refl), (refl, refl)) (stays p _ refl refl refl refl refl (inl refl), (refl, refl))
 
+  -- a close stays in its cycle
   pub closed_same : (s : Model) (why : Cause) → Same s.progress Closed (closed plan (waiting_of s) why s.progress)
   closed_same s why =
       closed_along (λ (q : Progress). Same s.progress Closed q) plan (waiting_of s) why s.progress
       (stays s.progress _ refl refl refl refl refl (inr refl), (refl, refl)) (stays s.progress _ refl refl refl refl refl (inr refl), (refl, refl))
 
+  -- where a command may go out, its cycle isn't missed
   pub not_missed : (acts : List Act) (p : Progress) (w : Waiting) → 0 < p.unsent → MayGo p w → Begun acts p → p.missed ≡ false
   not_missed acts p w here may (inl none) = let nothing = none.1 in absurd (omega (arith, nothing, here))
   not_missed acts p w here may (inr c) = by_test p.missed refl may where
@@ -356,6 +390,7 @@ module _ (plan : Plan) (commands : List Task) (scope : Scope) (some : 0 < plan.e
     by_test true e (inl free) = absurd (clash p.next_is_chained (c.held e).0 free)
     by_test true e (inr going) = absurd (clash p.chain_unbroken going.2 (c.held e).1)
 
+  -- `On` holds of an act of any action
   pub on_moved : (acts : List Act) (next : Action) (act : Act) → action_at plan (stood plan commands scope acts) ≡ next
       → Performs commands (stood plan commands scope acts) next act → Invariant plan commands (stood plan commands scope acts)
       → IsFor plan (stood plan commands scope acts).progress (waiting_of (stood plan commands scope acts)) next → Begun acts (turned (stood plan commands scope acts).progress)
@@ -419,6 +454,7 @@ module _ (plan : Plan) (commands : List Task) (scope : Scope) (some : 0 < plan.e
 
   -- Whole runs.
 
+  -- a turn that is taken keeps `Begun`
   pub begun_turned : (acts : List Act) (p : Progress) → Begun acts p → Begun acts (turned p)
   begun_turned acts p (inl none) = inl none
   begun_turned acts p (inr c) = inr (record {
@@ -439,10 +475,12 @@ module _ (plan : Plan) (commands : List Task) (scope : Scope) (some : 0 < plan.e
   abbrev pub Kept : List Act → Type 0
   Kept acts = Rises 0 acts → ((stood plan commands scope acts).progress.moment.elapsed ≡ last_of 0 acts) × Begun acts (stood plan commands scope acts).progress
 
+  -- where the clock doesn't go back in acts, it doesn't at the last one, from the moment told before on
   pub rises_here : (acts : List Act) (act : Act) → Rises 0 (acts ++ act ∷ []) → (stood plan commands scope acts).progress.moment.elapsed ≡ last_of 0 acts
       → Rises (stood plan commands scope acts).progress.moment.elapsed (act ∷ [])
   rises_here acts act rises at = subst (λ (n : ℕ). Rises n (act ∷ [])) (sym at) (rises_last 0 acts act rises)
 
+  -- `Kept` lasts over one act of a run more
   pub kept_step : (done : List Act) (act : Act) → Runs plan commands (opening plan scope) done
       → Performs commands (stood plan commands scope done) (action_at plan (stood plan commands scope done)) act → Kept done → Kept (done ++ act ∷ [])
   kept_step done act runs o h rises =
@@ -455,14 +493,17 @@ module _ (plan : Plan) (commands : List Task) (scope : Scope) (some : 0 < plan.e
         subst (λ (p : Progress). Begun (done ++ act ∷ []) p) (sym there) (on.1 (rises_here done act rises old.0)),
       )
 
+  -- `Kept` holds behind every run
   pub kept_stood : (acts : List Act) → Runs plan commands (opening plan scope) acts → Kept acts
   kept_stood acts runs = always plan commands (opening plan scope) (λ (xs : List Act) (t : Model). Kept xs) kept_step (λ rises. (refl, inl (refl, refl))) acts runs
 
+  -- a cycle that isn't missed is the last that began, and began in time
   pub last_began : (acts : List Act) (p : Progress) → p ≡ (stood plan commands scope acts).progress → (c : Cycling acts p) → p.missed ≡ false
       → (last : LastBegan plan commands scope acts) × (last.late < plan.every)
   last_began acts p is c free =
       (record { n = c.n; moment = c.m; late = c.late; begins = c.begins; number = sym (ap (λ (q : Progress). cycles_begun plan q) is) ∙ c.count }, lt_of plan.every c.late (sym c.missed ∙ free))
 
+  -- where a command goes out, its cycle began before the next one was due
   pub sent_in_time : (acts : List Act) → Runs plan commands (opening plan scope) acts → Rises 0 acts
       → action_at plan (stood plan commands scope acts) ≡ actions.Send → (last : LastBegan plan commands scope acts) × (last.late < plan.every)
   sent_in_time acts runs rises is =
@@ -476,6 +517,7 @@ module _ (plan : Plan) (commands : List Task) (scope : Scope) (some : 0 < plan.e
         by_begun here (inl none) free = let nothing = none.1 in absurd (omega (arith, nothing, here))
         by_begun here (inr c) free = last_began acts (stood plan commands scope acts).progress refl c free
 
+  -- where the clock doesn't go back, a cycle that begins does so at its due moment, or `late` milliseconds behind it
   pub begins_due : (acts later : List Act) (m : Moment) → Runs plan commands (opening plan scope) (acts ++ Told m ∷ later) → Rises 0 (acts ++ Told m ∷ [])
       → action_at plan (stood plan commands scope acts) ≡ actions.Begin
       → (late : ℕ) × BeginsLate plan commands scope (acts ++ Told m ∷ []) (cycles_begun plan (stood plan commands scope acts).progress) m late

@@ -14,6 +14,8 @@ use Rattle.gc_station.specs.EachOnce.{Request, requests, of_task, all_cycles, se
 use Rattle.gc_station.specs.Marks.{commands_in, record_of, records_of}
 use Rattle.gc_station.specs.Records.{Record}
 
+-- the requests of a cycle's commands in two lists are those of the first list, and behind them those of the second at the
+-- places behind
 pub requests-append : (cycle place : ℕ) (xs ys : List Asked) → requests cycle place (xs ++ ys) ≡ requests cycle place xs ++ requests cycle (place + length xs) ys
 requests-append cycle place [] ys = ap (λ n. requests cycle n ys) (omega arith)
 requests-append cycle place (x ∷ xs) ys =
@@ -21,25 +23,29 @@ requests-append cycle place (x ∷ xs) ys =
     let at : (place + 1) + length xs ≡ place + length (x ∷ xs) = omega arith in
     ap (λ rs. one ∷ rs) (requests-append cycle (place + 1) xs ys ∙ ap (λ n. requests cycle (place + 1) xs ++ requests cycle n ys) at)
 
--- the requests with these marks, of what they ask
+-- the requests with these marks, where they ask this; a null procedure is none
 abbrev pub marked : List (Option Mark) → List Asked → List Request
 marked [] asks = []
 marked (m ∷ ms) [] = []
 marked (None ∷ ms) (a ∷ asks) = marked ms asks
 marked (Some mark ∷ ms) (a ∷ asks) = record { cycle = mark.cycle; place = mark.place; asked = a } ∷ marked ms asks
 
+-- the commands that wait are the requests with their marks
 waiting_marked : (ms : List (Option Mark)) (ws : List Pending) → still_waiting ms ws ≡ marked ms (map of_pending ws)
 waiting_marked [] ws = refl
 waiting_marked (m ∷ ms) [] = refl
 waiting_marked (None ∷ ms) (w ∷ ws) = waiting_marked ms ws
 waiting_marked (Some mark ∷ ms) (w ∷ ws) = ap (λ rs. of_waiting mark w ∷ rs) (waiting_marked ms ws)
 
+-- the records of settlements are of the requests with their marks
 records_marked : (reads : Call → List ℕ → Reading) (utc : ℕ) (ms : List (Option Mark)) (ss : List Settlement) → map of_record (records_of reads utc ms ss) ≡ marked ms (map of_settled ss)
 records_marked reads utc [] ss = refl
 records_marked reads utc (m ∷ ms) [] = refl
 records_marked reads utc (None ∷ ms) (s ∷ ss) = records_marked reads utc ms ss
 records_marked reads utc (Some mark ∷ ms) (s ∷ ss) = ap (λ rs. of_record (record_of reads utc mark s) ∷ rs) (records_marked reads utc ms ss)
 
+-- the requests of two lists with their marks are those of the first list, and behind them those of the second with the marks
+-- behind
 marked_append : (ms : List (Option Mark)) (xs ys : List Asked) → marked ms (xs ++ ys) ≡ marked ms xs ++ marked (drop (length xs) ms) ys
 marked_append [] [] ys = refl
 marked_append [] (x ∷ xs) ys = refl
@@ -47,7 +53,7 @@ marked_append (m ∷ ms) [] ys = refl
 marked_append (None ∷ ms) (x ∷ xs) ys = marked_append ms xs ys
 marked_append (Some mark ∷ ms) (x ∷ xs) ys = ap (λ rs. record { cycle = mark.cycle; place = mark.place; asked = x } ∷ rs) (marked_append ms xs ys)
 
--- one more, with its mark
+-- the requests with their marks and one more behind them are those requests, and behind them the one with its mark
 marked_more : (ms : List (Option Mark)) (asks : List Asked) (m : Option Mark) (a : Asked) → length ms ≡ length asks
     → marked (ms ++ m ∷ []) (asks ++ a ∷ []) ≡ marked ms asks ++ marked (m ∷ []) (a ∷ [])
 marked_more [] [] m a e = refl
@@ -56,32 +62,33 @@ marked_more (n ∷ ms) [] m a e = absurd (omega (arith, e))
 marked_more (None ∷ ms) (x ∷ xs) m a e = marked_more ms xs m a (omega (arith, e))
 marked_more (Some mark ∷ ms) (x ∷ xs) m a e = ap (λ rs. record { cycle = mark.cycle; place = mark.place; asked = x } ∷ rs) (marked_more ms xs m a (omega (arith, e)))
 
--- where no command waits
+-- where no mark is of a command, there is no request of a command
 marked_none : (ms : List (Option Mark)) (asks : List Asked) → commands_in ms ≡ 0 → marked ms asks ≡ []
 marked_none [] asks e = refl
 marked_none (m ∷ ms) [] e = refl
 marked_none (None ∷ ms) (a ∷ asks) e = marked_none ms asks e
 marked_none (Some mark ∷ ms) (a ∷ asks) e = absurd (omega (arith, e))
 
--- the records, and behind them the commands that wait
+-- the records, and behind them the commands that wait, are what was sent
 abbrev pub EachIs : List (Option Mark) → List Pending → List Record → List Request → Type 0
 EachIs ms ws rs sent = map of_record rs ++ still_waiting ms ws ≡ sent
 
--- a moment keeps it
+-- a moment that gives requests up keeps `EachIs`
 pub each_moment : (ms : List (Option Mark)) (ws : List Pending) (rs : List Record) (sent : List Request) (m : ℕ) → EachIs ms ws rs sent → EachIs ms (map (expired m) ws) rs sent
 each_moment ms ws rs sent m h =
     ap (λ xs. map of_record rs ++ xs) (waiting_marked ms (map (expired m) ws) ∙ ap (marked ms) (expired_parts m ws) ∙ sym (waiting_marked ms ws)) ∙ h
 
--- where no command waits, the records are what was sent
+-- where no command waits, the records alone are what was sent
 pub each_settled : (ms : List (Option Mark)) (ws : List Pending) (rs : List Record) (sent : List Request) → commands_in ms ≡ 0 → EachIs ms ws rs sent → map of_record rs ≡ sent
 each_settled ms ws rs sent none h =
     sym (append-nil (map of_record rs)) ∙ sym (ap (λ xs. map of_record rs ++ xs) (waiting_marked ms ws ∙ marked_none ms (map of_pending ws) none)) ∙ h
 
+-- where no command waits, and the records are what was sent, `EachIs` holds
 pub each_nothing : (ms : List (Option Mark)) (ws : List Pending) (rs : List Record) (sent : List Request) → commands_in ms ≡ 0 → map of_record rs ≡ sent → EachIs ms ws rs sent
 each_nothing ms ws rs sent none h =
     ap (λ xs. map of_record rs ++ xs) (waiting_marked ms ws ∙ marked_none ms (map of_pending ws) none) ∙ append-nil (map of_record rs) ∙ h
 
--- where nothing waits, whatever the marks
+-- where nothing waits, the records alone are what was sent, whatever the marks
 pub each_empty : (ms : List (Option Mark)) (ws : List Pending) (rs : List Record) (sent : List Request) → ws ≡ [] → EachIs ms ws rs sent → map of_record rs ≡ sent
 each_empty ms ws rs sent none h =
     sym (append-nil (map of_record rs)) ∙ sym (ap (λ xs. map of_record rs ++ xs) (ap (still_waiting ms) none ∙ nothing ms)) ∙ h where
@@ -89,7 +96,7 @@ each_empty ms ws rs sent none h =
       nothing [] = refl
       nothing (m ∷ ms) = refl
 
--- some are settled
+-- settlements of the oldest requests keep `EachIs`: their records take the place of the requests
 pub each_settles : (reads : Call → List ℕ → Reading) (utc : ℕ) (ms : List (Option Mark)) (ws left : List Pending) (ss : List Settlement) (rs : List Record)
     (sent : List Request) → map of_settled ss ++ map of_pending left ≡ map of_pending ws
     → EachIs ms ws rs sent → EachIs (drop (length ss) ms) left (rs ++ records_of reads utc ms ss) sent
@@ -105,7 +112,8 @@ each_settles reads utc ms ws left ss rs sent parts h =
     ∙ ap (λ xs. front ++ xs) (sym (marked_append ms ended waits) ∙ ap (marked ms) parts ∙ sym (waiting_marked ms ws))
     ∙ h
 
--- one more waits
+-- where one more request waits behind the others, the commands that wait are those before, and behind them its command, if it
+-- has one
 more_waiting : (ms : List (Option Mark)) (ws : List Pending) (m : Option Mark) (p : Pending) → length ms ≡ length ws
     → still_waiting (ms ++ m ∷ []) (ws ++ p ∷ []) ≡ still_waiting ms ws ++ marked (m ∷ []) (of_pending p ∷ [])
 more_waiting ms ws m p paired =
@@ -114,12 +122,12 @@ more_waiting ms ws m p paired =
     waiting_marked (ms ++ m ∷ []) (ws ++ p ∷ []) ∙ ap (marked (ms ++ m ∷ [])) (map-append of_pending ws (p ∷ []))
     ∙ marked_more ms asked m (of_pending p) count ∙ ap (λ xs. xs ++ marked (m ∷ []) (of_pending p ∷ [])) (sym (waiting_marked ms ws))
 
--- a null procedure is sent
+-- a null procedure that is sent keeps `EachIs`
 pub each_null : (ms : List (Option Mark)) (ws : List Pending) (p : Pending) (rs : List Record) (sent : List Request) → length ms ≡ length ws
     → EachIs ms ws rs sent → EachIs (ms ++ None ∷ []) (ws ++ p ∷ []) rs sent
 each_null ms ws p rs sent paired h = ap (λ xs. map of_record rs ++ xs) (more_waiting ms ws None p paired ∙ append-nil (still_waiting ms ws)) ∙ h
 
--- the commands before one place and the one at it
+-- the commands before the place behind this one are those before this place, and the command at it
 take_next : (commands : List Task) (place : ℕ) (task : Task) (others : List Task) → drop place commands ≡ task ∷ others → take (place + 1) commands ≡ take place commands ++ task ∷ []
 take_next [] zero task others e = cc
 take_next [] (suc n) task others e = cc
@@ -128,13 +136,13 @@ take_next (c ∷ cs) zero task others e = ap (λ x. x ∷ []) (head_is e) where
   head_is e = cc
 take_next (c ∷ cs) (suc n) task others e = let at : suc n + 1 ≡ suc (n + 1) = omega arith in rw at (ap (λ x. c ∷ x) (take_next cs n task others e))
 
--- how many stand before a place that is taken
+-- as many commands are before a place as the place says
 take_place : (commands : List Task) (place : ℕ) (task : Task) (others : List Task) → drop place commands ≡ task ∷ others → length (take place commands) ≡ place
 take_place commands zero task others e = refl
 take_place [] (suc n) task others e = cc
 take_place (c ∷ cs) (suc n) task others e = ap suc (take_place cs n task others e)
 
--- one command more was sent
+-- the commands that had their turn, with the next one behind them, are those that had their turn one place later
 pub sent_next : (commands : List Task) (begun place : ℕ) (task : Task) (others : List Task) → drop place commands ≡ task ∷ others → 0 < begun
     → sent_by commands begun place ++ requests begun place (of_task task ∷ []) ≡ sent_by commands begun (place + 1)
 sent_next commands zero place task others at some = absurd (omega (arith, some))
@@ -149,7 +157,7 @@ sent_next commands (suc n) place task others at some =
     ∙ ap (λ xs. cycles ++ xs) (sym (requests-append (suc n) 0 taken one))
     ∙ ap (λ xs. cycles ++ requests (suc n) 0 xs) (sym (map-append of_task (take place commands) (task ∷ [])) ∙ ap (map of_task) (sym (take_next commands place task others at)))
 
--- a command is sent
+-- a command that is sent keeps `EachIs`
 pub each_sent : (commands : List Task) (begun place utc : ℕ) (near : Option Near) (ms : List (Option Mark)) (ws : List Pending) (p : Pending) (rs : List Record) (task : Task) (others : List Task)
     → length ms ≡ length ws → drop place commands ≡ task ∷ others → of_pending p ≡ of_task task → 0 < begun
     → EachIs ms ws rs (sent_by commands begun place) → EachIs (ms ++ Some (record { cycle = begun; place = place; sent = utc; near = near }) ∷ []) (ws ++ p ∷ []) rs (sent_by commands begun (place + 1))
@@ -161,7 +169,7 @@ each_sent commands begun place utc near ms ws p rs task others paired at is some
     ∙ ap (λ xs. xs ++ requests begun place (of_task task ∷ [])) h
     ∙ sent_next commands begun place task others at some
 
--- a command isn't sent, and its record stands behind those of all that were, of which none waits
+-- a command that isn't sent keeps `EachIs`: its record is behind those of all others, of which none waits
 pub each_skipped : (commands : List Task) (begun place : ℕ) (ms : List (Option Mark)) (ws : List Pending) (rs : List Record) (r : Record) (task : Task) (others : List Task)
     → commands_in ms ≡ 0 → drop place commands ≡ task ∷ others → of_record r ∷ [] ≡ requests begun place (of_task task ∷ []) → 0 < begun
     → EachIs ms ws rs (sent_by commands begun place) → EachIs ms ws (rs ++ r ∷ []) (sent_by commands begun (place + 1))
@@ -171,7 +179,7 @@ each_skipped commands begun place ms ws rs r task others none at is some h =
     ∙ ap (λ xs. xs ++ requests begun place (of_task task ∷ [])) (each_settled ms ws rs (sent_by commands begun place) none h)
     ∙ sent_next commands begun place task others at some)
 
--- a whole cycle was sent
+-- at the end of a cycle, all commands of the cycles so far had their turn
 pub sent_whole : (commands : List Task) (begun place : ℕ) → place ≡ length commands → sent_by commands begun place ≡ all_cycles commands begun
 sent_whole commands zero place e = refl
 sent_whole commands (suc n) place e = ap (λ xs. all_cycles commands n ++ requests (suc n) 0 (map of_task xs)) (ap (λ m. take m commands) e ∙ whole commands) where
@@ -179,12 +187,12 @@ sent_whole commands (suc n) place e = ap (λ xs. all_cycles commands n ++ reques
   whole [] = refl
   whole (x ∷ xs) = ap (λ ys. x ∷ ys) (whole xs)
 
--- a cycle begins
+-- at the beginning of a cycle, all commands of the cycles before it had their turn
 pub sent_none : (commands : List Task) (begun next place : ℕ) → next ≡ suc begun → place ≡ 0 → sent_by commands next place ≡ all_cycles commands begun
 sent_none commands begun next place is none =
     ap (λ n. sent_by commands n place) is ∙ ap (λ m. all_cycles commands begun ++ requests (suc begun) 0 (map of_task (take m commands))) none ∙ append-nil (all_cycles commands begun)
 
--- behind a whole cycle, each task of which is settled, the next one begins
+-- the beginning of a cycle keeps `EachIs`, behind a whole one, whose commands are settled
 pub each_begun : (commands : List Task) (begun next place place' : ℕ) (ms : List (Option Mark)) (ws : List Pending) (rs : List Record)
     → commands_in ms ≡ 0 → place ≡ length commands → next ≡ suc begun → place' ≡ 0 → EachIs ms ws rs (sent_by commands begun place) → EachIs ms ws rs (sent_by commands next place')
 each_begun commands begun next place place' ms ws rs settled whole is none h =

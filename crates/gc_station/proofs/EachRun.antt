@@ -31,15 +31,15 @@ use Rattle.gc_station.proofs.Invariant.{Invariant, is_bare, says_done}
 use Rattle.gc_station.proofs.Midway.{Placed, Mid, mid_of, clash, sound_null, sound_sent, sound_skipped, sound_begun, fine_ended}
 use Rattle.gc_station.specs.Scopes.{Scope}
 
--- nothing more is written down
+-- no records behind the others keep the weaker record
 mid_nothing : (plan : Plan) (commands : List Task) (s : Model) → Mid plan commands s → Mid plan commands (with_records [] s)
 mid_nothing plan commands s mid = subst (λ (rs : List Record). Mid plan commands (record s { records = rs })) (sym (append-nil s.records)) mid
 
--- while requests go out
+-- in the phase `Ready` the marks and the kept bytes are in their places
 going_placed : (phase : Phase) (left unsent : ℕ) (rest : List ℕ) (marks : List (Option Mark)) → phase ≡ Ready → Placed phase left unsent rest marks
 going_placed phase left unsent rest marks is = record { empty = λ e. absurd (clash (is_bare phase) e (ap is_bare is)); finished = λ e. absurd (clash (says_done phase) e (ap says_done is)) }
 
--- the clock was read, and a cycle begins
+-- the beginning of a cycle keeps the weaker record
 mid_begun : (plan : Plan) (commands : List Task) (s : Model) (m : Moment) → s.progress.phase ≡ Ready → s.progress.unsent ≡ 0 → commands_in s.marks ≡ 0 → 0 < s.progress.left → Mid plan commands s
     → Mid plan commands (with_progress (begun plan (length commands) m) s)
 mid_begun plan commands s m is none settled some mid =
@@ -48,14 +48,14 @@ mid_begun plan commands s m is none settled some mid =
       going_placed p.phase (p.left - 1) (length commands) s.rest s.marks is,
     )
 
--- the line feed went out
+-- a line feed that went out keeps the weaker record
 mid_cleared : (plan : Plan) (commands : List Task) (s : Model) → s.progress.phase ≡ Clearing → Mid plan commands s → Mid plan commands (with_progress cleared s)
 mid_cleared plan commands s is mid = (mid.0, by_word (has_begun s.progress)) where
   by_word : (begun : Bool) → Placed (if begun then Draining else Ready) s.progress.left s.progress.unsent s.rest s.marks
   by_word true = record { empty = λ e. mid.1.empty (ap is_bare is); finished = λ e. cc }
   by_word false = record { empty = λ e. cc; finished = λ e. cc }
 
--- a null procedure is sent behind those that are given up
+-- a null procedure that is sent behind commands keeps the weaker record
 mid_flushed : (plan : Plan) (commands : List Task) (s : Model) → s.progress.phase ≡ Ready → length s.client.waiting < 7 → Mid plan commands s
     → Mid plan commands (with_progress asking (asks_null plan s))
 mid_flushed plan commands s is room mid =
@@ -64,7 +64,7 @@ mid_flushed plan commands s is room mid =
       going_placed p.phase p.left p.unsent s.rest (asks_null plan s).marks is,
     )
 
--- the next command is sent
+-- the first of these commands, where it is sent as the next one, keeps the weaker record
 mid_first : (plan : Plan) (commands : List Task) (next_is_chained : Bool) (s : Model) (left : List Task) → drop (place_next commands s.progress) commands ≡ left
     → s.progress.phase ≡ Ready → 0 < s.progress.unsent → length s.client.waiting < 7 → Mid plan commands s
     → Mid plan commands (with_progress (sent next_is_chained) (asks_first (mark_next plan commands s.progress) left s))
@@ -79,11 +79,12 @@ mid_first plan commands next_is_chained s (task ∷ others) at is some room mid 
       going_placed p.phase p.left (p.unsent - 1) s.rest t.marks is,
     )
 
+-- the next command, where it is sent, keeps the weaker record
 mid_sent : (plan : Plan) (commands : List Task) (next_is_chained : Bool) (s : Model) → s.progress.phase ≡ Ready → 0 < s.progress.unsent
     → length s.client.waiting < 7 → Mid plan commands s → Mid plan commands (with_progress (sent next_is_chained) (asks_next plan commands s))
 mid_sent plan commands next_is_chained s is some room mid = mid_first plan commands next_is_chained s (drop (place_next commands s.progress) commands) refl is some room mid
 
--- the next command isn't sent
+-- the first of these commands, where it is passed over as the next one, keeps the weaker record
 mid_skips : (plan : Plan) (commands : List Task) (next_is_chained : Bool) (s : Model) (m : Moment) (left : List Task) → drop (place_next commands s.progress) commands ≡ left
     → s.progress.phase ≡ Ready → 0 < s.progress.unsent → commands_in s.marks ≡ 0 → Mid plan commands s
     → Mid plan commands (with_progress (λ p. reckoned_early plan (commands_in s.marks) (skipped next_is_chained m p))
@@ -98,6 +99,7 @@ mid_skips plan commands next_is_chained s m (task ∷ others) at is some none mi
       going_placed p.phase p.left (p.unsent - 1) s.rest s.marks is,
     )
 
+-- the next command, where it isn't sent, keeps the weaker record
 mid_skip : (plan : Plan) (commands : List Task) (next_is_chained : Bool) (s : Model) (act : Act) → s.progress.phase ≡ Ready → 0 < s.progress.unsent → commands_in s.marks ≡ 0 → Mid plan commands s
     → Mid plan commands (after_clock (λ m p. reckoned_early plan (commands_in s.marks) (skipped next_is_chained m p)) (with_records (skips plan commands s.progress act) s) act)
 mid_skip plan commands next_is_chained s (Told m) is some none mid =
@@ -105,14 +107,14 @@ mid_skip plan commands next_is_chained s (Told m) is some none mid =
     (mid_skips plan commands next_is_chained s m (drop (place_next commands s.progress) commands) refl is some none mid)
 mid_skip plan commands next_is_chained s act is some none mid = mid_fail plan commands (with_records [] s) cause.Clock refl (mid_nothing plan commands s mid)
 
--- a close for being done
+-- where a connection is closed for being done, no cycle and no command is left
 close_done : (plan : Plan) (commands : List Task) (s : Model) (w : Waiting) (why : Cause) → Invariant plan commands s
     → IsFor plan s.progress w (action.Close why) → why ≡ cause.Done → (s.progress.left ≡ 0) × (s.progress.unsent ≡ 0)
 close_done plan commands s w cause.Done fine (up, inl phase) is = let it = fine.finished (ap says_done phase) in (it.0, it.1)
 close_done plan commands s w cause.Done fine (up, inr end) is = (end.0, end.1)
 close_done plan commands s w why fine for_it is = cc
 
--- what an act of an action leaves
+-- each act keeps the weaker record, before what is lost by it
 pub mid_moved : (plan : Plan) (commands : List Task) (s : Model) (action : Action) (act : Act) → Invariant plan commands s → IsFor plan s.progress (waiting_of s) action
     → Mid plan commands (moved plan commands action (with_progress turned s) act)
 mid_moved plan commands s action.ReadClock act fine is =
@@ -143,14 +145,17 @@ mid_moved plan commands s (action.Read until) act fine is = mid_read plan comman
 mid_moved plan commands s (action.Close why) act fine is = mid_close plan commands (with_progress turned s) why (close_done plan commands s (waiting_of s) why fine is) (mid_of plan commands s fine)
 mid_moved plan commands s (action.Stop why) act fine is = mid_of plan commands s fine
 
+-- each act keeps what every run keeps
 pub fine_after : (plan : Plan) (commands : List Task) (s : Model) (act : Act) → Invariant plan commands s → Invariant plan commands (after plan commands s act)
 fine_after plan commands s act fine =
     fine_ended plan commands (moved plan commands (action_at plan s) (with_progress turned s) act) (mid_moved plan commands s (action_at plan s) act fine (action_for plan s.progress (waiting_of s)))
 
+-- acts keep what every run keeps
 fine_all : (plan : Plan) (commands : List Task) (s : Model) (acts : List Act) → Invariant plan commands s → Invariant plan commands (after_all plan commands s acts)
 fine_all plan commands s [] fine = fine
 fine_all plan commands s (act ∷ acts) fine = fine_all plan commands (after plan commands s act) acts (fine_after plan commands s act fine)
 
+-- a station that has done nothing has what every run keeps
 pub fine_opening : (plan : Plan) (commands : List Task) (scope : Scope) → Invariant plan commands (opening plan scope)
 fine_opening plan commands scope =
     let none : plan.cycles - plan.cycles ≡ 0 = omega arith in
@@ -168,11 +173,11 @@ fine_opening plan commands scope =
       each = sym (ap (λ n. sent_by commands n (length commands - 0)) none);
     }
 
--- whatever the link tells
+-- what every run keeps holds behind all acts
 pub fine_stood : (plan : Plan) (commands : List Task) (scope : Scope) (acts : List Act) → Invariant plan commands (stood plan commands scope acts)
 fine_stood plan commands scope acts = fine_all plan commands (opening plan scope) acts (fine_opening plan commands scope)
 
--- where a run stopped no act follows
+-- where a run stops no act follows
 pub stop_over : (plan : Plan) (p : Progress) (w : Waiting) (why : Cause) → IsFor plan p w (action.Stop why) → is_over p ≡ true
 stop_over plan p w why (down, inl over) = ap (λ (phase : Phase). is_over_in phase || (not (is_up phase) && nat_eq p.turns 0)) over
 stop_over plan p w why (down, inr turns) = either_way (is_over_in p.phase) (is_up p.phase) (nat_eq p.turns 0) down (ap (λ (n : ℕ). nat_eq n 0) turns.1) where
@@ -182,6 +187,7 @@ stop_over plan p w why (down, inr turns) = either_way (is_over_in p.phase) (is_u
   either_way false false false d n = cc
   either_way false true none d n = cc
 
+-- where a run stops nothing waits, and the records are what was sent
 pub stopped : (plan : Plan) (commands : List Task) (s : Model) (why : Cause) → Invariant plan commands s → action_at plan s ≡ action.Stop why
     → (s.client.waiting ≡ []) × (map of_record s.records ≡ sent_by commands (plan.cycles - s.progress.left) (place_next commands s.progress))
     × (why ≡ cause.Done → (s.progress.left ≡ 0) × (s.progress.unsent ≡ 0))
@@ -198,7 +204,7 @@ stopped plan commands s why fine stop =
       by_reason (inl over) e = let it = fine.finished (ap says_done (over ∙ ap Over e)) in (it.0, it.1)
       by_reason (inr turns) e = let other : cause.Turns ≡ cause.Done = sym turns.0 ∙ e in cc
 
--- each command once
+-- the records and the commands that wait are the commands that had their turn, behind any acts
 pub each_once : (plan : Plan) (commands : List Task) (scope : Scope) (acts : List Act) → EachOnce plan commands scope acts
 each_once plan commands scope acts =
     let s = stood plan commands scope acts in

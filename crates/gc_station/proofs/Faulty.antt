@@ -20,6 +20,7 @@ module _ (plan : Plan) (commands : List Task) (scope : Scope) (text : Record →
   abbrev With : RunFault → Type 0
   With why = Ran plan commands scope text told told' taken taken' (Err why)
 
+  -- a run that stopped for a cause with this fault is one that failed with the fault
   pub faulty : (cause : Cause) (why : RunFault) → fault_of cause ≡ Some why → To cause → With why
   faulty Done why e ran = absurd (cc)
   faulty Dead why e ran = let same : fault.Mute ≡ why = cc in subst With same (Dead, tally, ran, refl)

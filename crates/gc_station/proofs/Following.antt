@@ -23,7 +23,8 @@ use Rattle.gc_station.proofs.Invariant.{Invariant}
 use Rattle.gc_station.proofs.Parting.{Leads, leads, keeps_action}
 use Rattle.gc_station.proofs.Readings.{moved_reads, ended_reads}
 
--- parts of a run, from a client on: behind each but the last it restarts
+-- what is written down of parts of a run, from this client, these marks and these records on: behind each part but the last the client
+-- restarts
 abbrev pub BooksInParts : (Call → List ℕ → Reading) → List Task → ById → List (Option Mark) → List Record → List Part → Model → Type 0
 BooksInParts reads commands c ms rs [] end = ⊥
 BooksInParts reads commands c ms rs (p ∷ []) end = Books reads commands c ms rs p end.client end.marks (sent_of end.records)
@@ -36,13 +37,13 @@ joined_assoc p q r =
     ∙ ap (λ (steps : List Step). record { turns = p.turns ++ (q.turns ++ r.turns); steps = steps; marks = (p.marks ++ q.marks) ++ r.marks }) (append_assoc p.steps q.steps r.steps)
     ∙ ap (λ (marks : List (Option Mark)). record { turns = p.turns ++ (q.turns ++ r.turns); steps = p.steps ++ (q.steps ++ r.steps); marks = marks }) (append_assoc p.marks q.marks r.marks)
 
--- a part ends
+-- `BooksInParts` with a part in front that ends: behind it the client restarts
 follows_cut : (reads : Call → List ℕ → Reading) (commands : List Task) (c : ById) (ms : List (Option Mark)) (rs mid : List Record) (p : Part) (ps : List Part) (end : Model)
     → Books reads commands c ms rs (joined p restarting) fresh [] mid → BooksInParts reads commands fresh [] mid ps end → BooksInParts reads commands c ms rs (p ∷ ps) end
 follows_cut reads commands c ms rs mid p [] end h g = absurd g
 follows_cut reads commands c ms rs mid p (q ∷ ps) end h g = (mid, h, g)
 
--- a part that goes on behind another books what both book
+-- `BooksInParts` with a part in front that goes on in the first of them
 follows_on : (reads : Call → List ℕ → Reading) (commands : List Task) (c c1 : ById) (ms ms1 : List (Option Mark)) (rs rs1 : List Record) (p : Part) (ps : List Part) (end : Model)
     → Books reads commands c ms rs p c1 ms1 rs1 → BooksInParts reads commands c1 ms1 rs1 ps end → BooksInParts reads commands c ms rs (in_front p false ps) end
 follows_on reads commands c c1 ms ms1 rs rs1 p [] end h g = absurd g
@@ -53,7 +54,7 @@ follows_on reads commands c c1 ms ms1 rs rs1 p (q ∷ next ∷ ps) end h g =
 
 -- Behind an act.
 
--- what waits is lost
+-- where all that wait are lost, the client restarts
 leads_lost : (commands : List Task) (t : Model) (b : Bool) → b ≡ true → length t.marks ≡ length t.client.waiting → Leads commands t restarting (losing b t)
 leads_lost commands t true is paired =
     subst (λ (rs : List Record). Books t.reads commands t.client t.marks (sent_of t.records) restarting fresh
@@ -69,7 +70,7 @@ kept_same : (t : Model) (b : Bool) → b ≡ false → losing b t ≡ t
 kept_same t true is = cc
 kept_same t false is = refl
 
--- where nothing waits, nothing is lost
+-- where the client is new, a loss writes nothing down
 leads_idle : (reads : Call → List ℕ → Reading) (commands : List Task) (c : ById) (ms : List (Option Mark)) (rs : List Record) (utc : ℕ) → c ≡ fresh
     → Books reads commands c ms (sent_of rs) nothing fresh (drop (length (map lost c.waiting)) ms) (sent_of (rs ++ records_of reads utc ms (map lost c.waiting)))
 leads_idle reads commands c ms rs utc is =
@@ -77,6 +78,7 @@ leads_idle reads commands c ms rs utc is =
     (subst (λ (l : List Record). Books reads commands fresh ms (sent_of rs) nothing fresh ms (sent_of l))
     (sym (ap (λ l. rs ++ l) (records_none reads utc ms) ∙ append-nil rs)) (books_nothing reads commands fresh ms (sent_of rs)))
 
+-- where the client is new, nothing happens at a loss
 idle_lost : (commands : List Task) (t : Model) (b : Bool) → t.client ≡ fresh → Leads commands t nothing (losing b t)
 idle_lost commands t true is = leads_idle t.reads commands t.client t.marks t.records t.progress.moment.utc is
 idle_lost commands t false is = books_nothing t.reads commands t.client t.marks (sent_of t.records)
@@ -87,7 +89,7 @@ joined_nothing p =
     ∙ ap (λ (steps : List Step). record { turns = p.turns; steps = steps; marks = p.marks ++ [] }) (append-nil p.steps)
     ∙ ap (λ (marks : List (Option Mark)). record { turns = p.turns; steps = p.steps; marks = marks }) (append-nil p.marks)
 
--- from one model to another, where replies say this
+-- `Leads` from one model to another, with these readings of replies
 abbrev LeadsBy : (Call → List ℕ → Reading) → List Task → Model → Part → Model → Type 0
 LeadsBy reads commands s p t = Books reads commands s.client s.marks (sent_of s.records) p t.client t.marks (sent_of t.records)
 
@@ -95,7 +97,7 @@ leads_by : (reads : Call → List ℕ → Reading) (commands : List Task) (s : M
 leads_by reads commands s p t is h = subst (λ (r : Call → List ℕ → Reading). LeadsBy r commands s p t) is h
 
 module _ (plan : Plan) (commands : List Task) (reads : Call → List ℕ → Reading) where
-  -- while it begins nothing waits, so that nothing is lost
+  -- where the client is new, as while the station begins, a loss changes nothing of `LeadsBy`
   leads_idly : (s : Model) (p : Part) (t : Model) → t.reads ≡ reads → t.client ≡ fresh → LeadsBy reads commands s p t → LeadsBy reads commands s p (losing (loses_all t.progress) t)
   leads_idly s p t same is h =
       let u = losing (loses_all t.progress) t in
@@ -103,7 +105,7 @@ module _ (plan : Plan) (commands : List Task) (reads : Call → List ℕ → Rea
       (books_both reads commands s.client t.client u.client s.marks t.marks u.marks (sent_of s.records) (sent_of t.records) (sent_of u.records) p nothing h
       (leads_by reads commands t nothing u same (idle_lost commands t (loses_all t.progress) is)))
 
-  -- an act in front of the others
+  -- `BooksInParts` with one more act in front
   one_more : (s : Model) (p : Part) (t : Model) (ps : List Part) (end : Model) (begun lost_all : Bool) → t.reads ≡ reads → has_begun s.progress ≡ begun → loses_all t.progress ≡ lost_all
       → Invariant plan commands s → Invariant plan commands (losing (loses_all t.progress) t) → length t.marks ≡ length t.client.waiting
       → LeadsBy reads commands s p t → (has_begun s.progress ≡ false → LeadsBy reads commands s p (losing (loses_all t.progress) t))
@@ -128,6 +130,7 @@ module _ (plan : Plan) (commands : List Task) (reads : Call → List ℕ → Rea
       (subst (λ (ms : List (Option Mark)). BooksInParts reads commands fresh ms (sent_of u.records) ps end) none
       (subst (λ (c : ById). BooksInParts reads commands c u.marks (sent_of u.records) ps end) new others))
 
+  -- the records of a run are those that its parts write down
   pub follows : (s : Model) (acts : List Act) → s.reads ≡ reads → Invariant plan commands s → Runs plan commands s acts
       → BooksInParts reads commands s.client s.marks (sent_of s.records) (parts_of plan commands s acts) (after_all plan commands s acts)
   follows s [] is_so fine runs = books_nothing reads commands s.client s.marks (sent_of s.records)

@@ -19,14 +19,15 @@ use Rattle.gc_station.proofs.Facts.{action_for}
 use Rattle.gc_station.proofs.Invariant.{Invariant}
 use Rattle.gc_station.specs.Scopes.{Scope}
 
--- no fewer cycles began, and in the same one no fewer commands were sent
+-- no fewer cycles began by q than by p, and in the same cycle no fewer commands had their turn
 abbrev NotBack : Progress → Progress → Type 0
 NotBack p q = (q.left < p.left) ⊎ ((q.left ≡ p.left) × (q.unsent ≤ p.unsent))
 
+-- where the counts are kept, the progress doesn't go back
 kept_there : (p t q : Progress) → t.left ≡ p.left → t.unsent ≡ p.unsent → Kept t q → NotBack p q
 kept_there p t q left unsent k = inr (k.left ∙ left, omega (arith, k.unsent, unsent))
 
--- what an act does to the counts, of which its turn was taken first
+-- what an act does to the counts doesn't go back, where its turn was taken first
 counts_on : (plan : Plan) (count : ℕ) (w : Waiting) (o : Action) (p t q : Progress) → t.left ≡ p.left → t.unsent ≡ p.unsent → IsFor plan p w o → Counts count o t q → NotBack p q
 counts_on plan count w action.Begin p t q left unsent needs (inl k) = kept_there p t q left unsent k
 counts_on plan count w action.Begin p t q left unsent needs (inr k) = inl (omega (arith, k.left, left, needs.4))
@@ -35,6 +36,7 @@ counts_on plan count w action.Skip p t q left unsent needs (inl k) = kept_there 
 counts_on plan count w action.Skip p t q left unsent needs (inr k) = inr (k.left ∙ left, omega (arith, k.unsent, unsent))
 counts_on plan count w o p t q left unsent needs k = kept_there p t q left unsent k
 
+-- no act goes back
 after_on : (plan : Plan) (commands : List Task) (s : Model) (act : Act) → NotBack s.progress (after plan commands s act).progress
 after_on plan commands s act =
     let done = moved plan commands (action_at plan s) (with_progress turned s) act in
@@ -48,18 +50,20 @@ on_again p q r (inl a) (inr b) = inl (omega (arith, a, b.0))
 on_again p q r (inr a) (inl b) = inl (omega (arith, a.0, b))
 on_again p q r (inr a) (inr b) = inr (b.0 ∙ a.0, omega (arith, a.1, b.1))
 
+-- no acts go back
 all_on : (plan : Plan) (commands : List Task) (s : Model) (acts : List Act) → NotBack s.progress (after_all plan commands s acts).progress
 all_on plan commands s [] = inr (refl, omega arith)
 all_on plan commands s (act ∷ acts) = on_again s.progress (after plan commands s act).progress (after_all plan commands s (act ∷ acts)).progress
     (after_on plan commands s act) (all_on plan commands (after plan commands s act) acts)
 
--- behind a send
+-- behind an act that sends, and further acts, a station is further than before it
 further : (plan : Plan) (commands : List Task) (s t : Model) (q : Progress) → Invariant plan commands s → Invariant plan commands t → 0 < s.progress.unsent
     → q.left ≡ s.progress.left → q.unsent ≡ s.progress.unsent - 1 → NotBack q t.progress → IsFurther plan commands s t
 further plan commands s t q fine there some left unsent (inl less) = inl (omega (arith, less, left, fine.left, there.left))
 further plan commands s t q fine there some left unsent (inr same) =
     inr (ap (λ (n : ℕ). plan.cycles - n) (sym (same.0 ∙ left)), omega (arith, same.1, unsent, some, fine.unsent, there.unsent))
 
+-- behind a send, and further acts, a station is further than before it
 pub send_goes_on : (plan : Plan) (commands : List Task) (scope : Scope) (earlier later : List Act) (act : Act) → action_at plan (stood plan commands scope earlier) ≡ action.Send
     → IsFurther plan commands (stood plan commands scope earlier) (stood plan commands scope (earlier ++ act ∷ later))
 send_goes_on plan commands scope earlier later act is =

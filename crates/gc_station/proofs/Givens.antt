@@ -14,22 +14,23 @@ use Rattle.gc_station.specs.Model.{Model, opening, action_at, with_progress, wit
 use Rattle.gc_station.proofs.Walk.{lines_along, walk}
 use Rattle.gc_station.specs.Scopes.{Scope}
 
--- what an act leaves of it
+-- the bytes of a line that are kept behind an act, by whether bytes are heard
 abbrev pub rest_with : Bool → Act → List ℕ → List ℕ
 rest_with heard (Gave piece m) rest = if heard then rest_behind rest piece else rest
 rest_with heard Closed rest = []
 rest_with heard act rest = rest
 
--- what a piece that came leaves of it
+-- the bytes of a line that are kept behind a piece
 came_rest : (heard : Bool) (word piece : List ℕ) (s : Model) → (came heard word piece s).rest ≡ (if heard then rest_behind s.rest piece else s.rest)
 came_rest true [] piece s = lines_along (λ (t : Model). t.rest ≡ rest_behind s.rest piece) (λ t line e. e) (with_rest (rest_behind s.rest piece) s) (lines_behind s.rest piece) refl
 came_rest true (asked ∷ others) piece s = refl
 came_rest false word piece s = refl
 
--- an act leaves it so
+-- an act leaves the bytes of a line as `rest_with` says
 abbrev LeavesSo : Model → Act → Model → Type 0
 LeavesSo s act t = t.rest ≡ rest_with (is_heard s.progress.phase) act s.rest
 
+-- an act of each action leaves the bytes of a line as `rest_with` says
 moved_rest : (plan : Plan) (commands : List Task) (next : Action) (s : Model) (act : Act) → Performs commands s next act → LeavesSo s act (moved plan commands next (with_progress turned s) act)
 moved_rest plan commands (actions.Read until) s act o =
     walk plan commands (LeavesSo s) (actions.Read until) (with_progress turned s) act o
@@ -42,11 +43,13 @@ losing_rest : (all : Bool) (s : Model) → (losing all s).rest ≡ s.rest
 losing_rest true s = refl
 losing_rest false s = refl
 
+-- an act of a run leaves the bytes of a line as `rest_with` says
 pub after_rest : (plan : Plan) (commands : List Task) (s : Model) (act : Act) → Performs commands s (action_at plan s) act
     → (after plan commands s act).rest ≡ rest_with (is_heard s.progress.phase) act s.rest
 after_rest plan commands s act o = let t = moved plan commands (action_at plan s) (with_progress turned s) act in
     losing_rest (loses_all t.progress) t ∙ moved_rest plan commands (action_at plan s) s act o
 
+-- the rest of all bytes that came, behind an act, is what the act makes of the rest before
 joined : (heard : Bool) (act : Act) (bytes : List ℕ) → rest_with heard act (rest_of bytes) ≡ rest_of (given_with heard act bytes)
 joined true (Gave piece m) bytes = sym (rest-append [] bytes piece)
 joined false (Gave piece m) bytes = refl
@@ -61,6 +64,7 @@ along_given plan commands s bytes (act ∷ acts) same runs =
     along_given plan commands (after plan commands s act) (given_with heard act bytes) acts
     (after_rest plan commands s act runs.0 ∙ ap (λ r. rest_with heard act r) same ∙ joined heard act bytes) runs.1
 
+-- the bytes of a line that a station keeps are the rest of what came on its connection
 pub rest_given : (plan : Plan) (commands : List Task) (scope : Scope) (acts : List Act) → Runs plan commands (opening plan scope) acts
     → (stood plan commands scope acts).rest ≡ rest_of (given plan commands scope acts)
 rest_given plan commands scope acts runs = along_given plan commands (opening plan scope) [] acts refl runs

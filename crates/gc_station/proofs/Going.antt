@@ -29,22 +29,22 @@ use Rattle.gc_station.specs.Scopes.{Scope, AreReadings}
 
 -- One turn.
 
--- an action is performed by the same acts, whatever the turn
+-- an act performs an action at a model whether a turn was taken first or not
 pub turn_obeys : (commands : List Task) (action : Action) (s : Model) (act : Act) → Performs commands (with_progress turned s) action act → Performs commands s action act
 turn_obeys commands (Stop cause) s act o = o
 turn_obeys commands action s act o = o
 
--- a claim on each action but the last holds of one that isn't the last
+-- a claim on all actions but `Stop` holds of one that isn't `Stop`
 pub on_call : (action : Action) (claim : Type 0) → ((cause : Cause) → action ≡ Stop cause → ⊥) → OnCall action claim → claim
 on_call (Stop cause) claim never on = absurd (never cause refl)
 on_call action claim never on = on
 
--- what follows of a claim on each action but the last
+-- from a claim on all actions but `Stop` to another that follows from it
 pub on_then : (action : Action) (claim other : Type 0) → (claim → other) → OnCall action claim → OnCall action other
 on_then (Stop cause) claim other step on = tt
 on_then action claim other step on = step on
 
--- a turn was made
+-- a station that took a turn is as the model that took one
 pub stands_turned : (station : Station) (p : Progress) (s : Model) → p ≡ turned station.progress → Refines station s → Refines (record station { progress = p }) (with_progress turned s)
 stands_turned station p s e stands = record {
   progress = e ∙ ap turned stands.progress;
@@ -57,7 +57,8 @@ stands_turned station p s e stands = record {
   well = stands.well;
 }
 
--- an action was performed, and all that wait were lost or not; or the book failed at what was lost
+-- an act was made, and the requests that waited were lost or not: so a whole turn was made; or the book failed at the records of the
+-- lost ones
 pub makes_step : {X E : Type 0} (plan : Plan) (commands : List Task) (action : Action) (text : Record → List ℕ) (told told' : Option (List Act))
     (taken taken' taken'' : Option (List ℕ)) (station mid new : Station) (p : Progress) (result : Result X E)
     → p ≡ turned station.progress → Makes commands action (moved plan commands action) (seen told text taken (record station { progress = p })) (seen told' text taken' mid)
@@ -84,7 +85,7 @@ makes_step plan commands action text told told' taken taken' taken'' station mid
       );
 }
 
--- the book failed at what the act writes down
+-- the book failed at a record of an act: so it did at one of the whole turn
 pub breaks_step : (plan : Plan) (commands : List Task) (action : Action) (text : Record → List ℕ) (told told' : Option (List Act)) (taken taken' : Option (List ℕ)) (station : Station) (p : Progress)
     → p ≡ turned station.progress → Breaks commands action (moved plan commands action) (seen told text taken (record station { progress = p })) told' taken'
     → Breaks commands action (stepped plan commands action) (seen told text taken station) told' taken'
@@ -101,14 +102,16 @@ breaks_step plan commands action text told told' taken taken' station p e breaks
       );
 }
 
-stepped_reads : (plan : Plan) (commands : List Task) (action : Action) (s : Model) (act : Act) → (stepped plan commands action s act).reads ≡ s.reads
+-- no act changes what replies say
+pub stepped_reads : (plan : Plan) (commands : List Task) (action : Action) (s : Model) (act : Act) → (stepped plan commands action s act).reads ≡ s.reads
 stepped_reads plan commands action s act =
     let mid : Model = moved plan commands action (with_progress turned s) act in
     ended_reads (loses_all mid.progress) mid ∙ moved_reads plan commands action (with_progress turned s) act
 
 -- Many.
 
--- what was done so far
+-- what was done so far: the acts of a run that the link told, the records that the book took, and a station that is as the model behind
+-- these acts
 pub record Went (plan : Plan) (commands : List Task) (scope : Scope) (text : Record → List ℕ) (told told' : Option (List Act)) (taken taken' : Option (List ℕ)) (station : Station) : Type 0 where
   pub acts : List Act
   pub tells : Tells told told' acts
@@ -116,12 +119,13 @@ pub record Went (plan : Plan) (commands : List Task) (scope : Scope) (text : Rec
   pub stands : Refines station (stood plan commands scope acts)
   pub took : Appends taken taken' (texts_of text (stood plan commands scope acts).records)
 
-tells_none : (a : Option (List Act)) → Tells a a []
+-- a link that told nothing more told no acts
+pub tells_none : (a : Option (List Act)) → Tells a a []
 tells_none None = tt
 tells_none (Some a) = sym (append-nil a)
 
--- nothing was done
-pub went_nothing : (plan : Plan) (commands : List Task) (scope : Scope) (text : Record → List ℕ) (told : Option (List Act)) (taken : Option (List ℕ)) (station : Station)
+-- `Went` holds where nothing was done
+abbrev pub went_nothing : (plan : Plan) (commands : List Task) (scope : Scope) (text : Record → List ℕ) (told : Option (List Act)) (taken : Option (List ℕ)) (station : Station)
     → Refines station (opening plan scope) → Went plan commands scope text told told taken taken station
 went_nothing plan commands scope text told taken station stands = record {
   acts = [];
@@ -131,8 +135,8 @@ went_nothing plan commands scope text told taken station stands = record {
   took = Appends-nil taken;
 }
 
--- a book that took nothing more, as far as that is known
-pub went_kept : (plan : Plan) (commands : List Task) (scope : Scope) (text : Record → List ℕ) (told told' : Option (List Act))
+-- `Went` lasts where a book took nothing more, as far as that is known
+abbrev pub went_kept : (plan : Plan) (commands : List Task) (scope : Scope) (text : Record → List ℕ) (told told' : Option (List Act))
     (taken taken' taken'' : Option (List ℕ)) (station : Station) → Keeps taken' taken''
     → Went plan commands scope text told told' taken taken' station → Went plan commands scope text told told' taken taken'' station
 went_kept plan commands scope text told told' taken taken' taken'' station keeps w = record {
@@ -143,14 +147,14 @@ went_kept plan commands scope text told told' taken taken' taken'' station keeps
   took = Appends-kept taken taken' taken'' (texts_of text (stood plan commands scope w.acts).records) w.took keeps;
 }
 
--- a book that took nothing more
-pub went_same : (plan : Plan) (commands : List Task) (scope : Scope) (text : Record → List ℕ) (told told' : Option (List Act))
+-- `Went` lasts where a book took nothing more
+abbrev pub went_same : (plan : Plan) (commands : List Task) (scope : Scope) (text : Record → List ℕ) (told told' : Option (List Act))
     (taken taken' taken'' : Option (List ℕ)) (station : Station) → taken'' ≡ taken'
     → Went plan commands scope text told told' taken taken' station → Went plan commands scope text told told' taken taken'' station
 went_same plan commands scope text told told' taken taken' taken'' station same w =
     went_kept plan commands scope text told told' taken taken' taken'' station (subst (λ (t : Option (List ℕ)). Keeps taken' t) (sym same) (Keeps-refl taken')) w
 
--- a book whose records couldn't be made to last, and the connection was closed
+-- where the records couldn't be made to last, and the connection was closed, the run is `LeftAt`
 pub went_left : (plan : Plan) (commands : List Task) (scope : Scope) (text : Record → List ℕ) (told told' told'' : Option (List Act)) (taken taken' : Option (List ℕ)) (station : Station)
     → Went plan commands scope text told told' taken taken' station → Tells told' told'' (Closed ∷ []) → LeftAt plan commands scope text told told'' taken taken'
 went_left plan commands scope text told told' told'' taken taken' station w closed = record {
@@ -160,20 +164,23 @@ went_left plan commands scope text told told' told'' taken taken' station w clos
   took = w.took;
 }
 
+-- the model behind two lists of acts is the one behind the second, from the one behind the first on
 pub after_all-append : (plan : Plan) (commands : List Task) (s : Model) (xs ys : List Act) → after_all plan commands s (xs ++ ys) ≡ after_all plan commands (after_all plan commands s xs) ys
 after_all-append plan commands s [] ys = refl
 after_all-append plan commands s (x ∷ xs) ys = after_all-append plan commands (after plan commands s x) xs ys
 
+-- the acts behind the first of a run are a run from there on
 pub runs_behind : (plan : Plan) (commands : List Task) (s : Model) (xs ys : List Act) → Runs plan commands s (xs ++ ys) → Runs plan commands (after_all plan commands s xs) ys
 runs_behind plan commands s [] ys runs = runs
 runs_behind plan commands s (x ∷ xs) ys runs = runs_behind plan commands (after plan commands s x) xs ys runs.1
 
+-- acts that are a run, and others that are a run behind them, are a run together
 pub runs-append : (plan : Plan) (commands : List Task) (s : Model) (xs ys : List Act) → Runs plan commands s xs → Runs plan commands (after_all plan commands s xs) ys → Runs plan commands s (xs ++ ys)
 runs-append plan commands s [] ys p q = q
 runs-append plan commands s (x ∷ xs) ys p q = (p.0, runs-append plan commands (after plan commands s x) xs ys p.1 q)
 
--- one act more
-pub went_on : (plan : Plan) (commands : List Task) (scope : Scope) (text : Record → List ℕ) (told told' told'' : Option (List Act))
+-- `Went` lasts over one act more
+abbrev pub went_on : (plan : Plan) (commands : List Task) (scope : Scope) (text : Record → List ℕ) (told told' told'' : Option (List Act))
     (taken taken' taken'' : Option (List ℕ)) (station new : Station) (action : Action)
     → (w : Went plan commands scope text told told' taken taken' station)
     → action ≡ action_at plan (stood plan commands scope w.acts)
@@ -194,7 +201,7 @@ went_on plan commands scope text told told' told'' taken taken' taken'' station 
       took = rw (whole, ← is) took;
     }
 
--- an act whose records the book refused, and the connection was closed
+-- where the book failed at a record of the last act, and the connection was closed, the run is `BrokeAt`
 pub went_wrong : (plan : Plan) (commands : List Task) (scope : Scope) (text : Record → List ℕ) (told told' told'' told''' : Option (List Act))
     (taken taken' taken'' : Option (List ℕ)) (station : Station) (action : Action)
     → (w : Went plan commands scope text told told' taken taken' station)
@@ -217,21 +224,23 @@ went_wrong plan commands scope text told told' told'' told''' taken taken' taken
       took = rw (whole, ← is) took;
     }
 
--- what an act leaves: no more to be sent than there are commands, and less to be done
+-- an act leaves no more commands unsent than there are, and less to be done than before
 pub record IsNearer (commands : List Task) (from to : Progress) : Type 0 where
   pub within : to.unsent ≤ length commands
   pub less : left_to_do to < left_to_do from
 
--- a station that stands somewhere, whatever replies say
+-- a station is as some model says, whatever replies say
 abbrev pub Somewhere : Station → Type 0
 Somewhere station = (s : Model) × Refines station s
 
+-- a turn leads a station that is as some model says to another one
 pub somewhere_on : (plan : Plan) (commands : List Task) (text : Record → List ℕ) (told told' : Option (List Act)) (taken taken' : Option (List ℕ)) (station new : Station) (action : Action)
     → Makes commands action (stepped plan commands action) (seen told text taken station) (seen told' text taken' new) → Somewhere station → Somewhere new
 somewhere_on plan commands text told told' taken taken' station new action makes some =
     let one = makes.goes some.0 None some.1 (λ are. tt) in
     (stepped plan commands action some.0 makes.act, one.1)
 
+-- a turn leaves a station nearer to the end
 pub went_nearer : (plan : Plan) (commands : List Task) (text : Record → List ℕ) (told told' : Option (List Act)) (taken taken' : Option (List ℕ)) (station new : Station) (action : Action)
     → action ≡ action_of plan station.progress (waiting_in station) → Somewhere station
     → Makes commands action (stepped plan commands action) (seen told text taken station) (seen told' text taken' new)

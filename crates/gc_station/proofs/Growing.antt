@@ -13,7 +13,7 @@ use Rattle.gc_station.specs.Model.{Model, is_heard, with_progress, with_moment, 
 use Rattle.gc_station.proofs.Records.{Grew, grew_none}
 use Rattle.gc_station.proofs.Walk.{moved_changed}
 
--- lines add records
+-- lines that are heard only add records
 pub lines_records : (s : Model) (lines : List (List ℕ)) → Grew s.records (lines_came s lines).records
 lines_records s [] = grew_none s.records
 lines_records s (line ∷ others) =
@@ -21,16 +21,18 @@ lines_records s (line ∷ others) =
     let added = records_of s.reads s.progress.moment.utc s.marks (hears s.client line (heard line)).settlements in
     (added ++ more.0, more.1 ∙ append_assoc s.records added more.0)
 
--- what is lost is written down behind the records
+-- a loss only adds records
 pub losing_records : (b : Bool) (s : Model) → Grew s.records (losing b s).records
 losing_records true s = (records_of s.reads s.progress.moment.utc s.marks (map lost s.client.waiting), refl)
 losing_records false s = grew_none s.records
 
+-- a piece only adds records
 came_grew : (heard : Bool) (word piece : List ℕ) (s : Model) → Grew s.records (came heard word piece s).records
 came_grew true [] piece s = lines_records (with_rest (rest_behind s.rest piece) s) (lines_behind s.rest piece)
 came_grew true (asked ∷ others) piece s = grew_none s.records
 came_grew false word piece s = grew_none s.records
 
+-- an act only adds records
 pub moved_grew : (plan : Plan) (commands : List Task) (action : Action) (s : Model) (act : Act) → Grew s.records (moved plan commands action s act).records
 moved_grew plan commands actions.Skip s (Told m) = (skips plan commands s.progress (Told m), refl)
 moved_grew plan commands actions.Skip s act = ([], refl)

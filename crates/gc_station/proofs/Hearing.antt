@@ -39,30 +39,31 @@ use Rattle.gc_station.proofs.Growing.{lines_records}
 use Rattle.gc_station.proofs.Readings.{lines_reads, are_same}
 use Rattle.gc_station.proofs.Records.{Grew, grew_then, part_grew, part_grows, tallied-append, last-append}
 
--- the lines of a frame, and those behind it
+-- the lines of a frame and of the frames behind it: first its line, if it has one
 pub lines_split : (frame : Frame) (later : List Frame) → filter_map line_in (completed frame ++ later) ≡ option_to_list (line_in frame) ++ filter_map line_in later
 lines_split More later = refl
 lines_split (Line line) later = refl
 lines_split Cleared later = refl
 lines_split Overlong later = refl
 
--- what is lent and is no line
+-- a frame that is lent and is no line has none
 pub no_line : (frame : Lent) → ((line : _) → frame ≡ lent.Line line → ⊥) → line_in (lent_seen frame) ≡ None
 no_line (lent.Line line) never = absurd (never line refl)
 no_line lent.Cleared never = refl
 no_line lent.Overlong never = refl
 no_line lent.More never = refl
 
+-- the model behind two lists of lines is the one behind the second, from the one behind the first on
 pub lines_came-append : (s : Model) (xs ys : List (List ℕ)) → lines_came s (xs ++ ys) ≡ lines_came (lines_came s xs) ys
 lines_came-append s [] ys = refl
 lines_came-append s (x ∷ xs) ys = lines_came-append (line_came s x) xs ys
 
--- lines leave the bytes since the last line feed
+-- hearing lines leaves the bytes since the last line feed
 pub lines_rest : (s : Model) (rest : List ℕ) (lines : List (List ℕ)) → lines_came (with_rest rest s) lines ≡ with_rest rest (lines_came s lines)
 lines_rest s rest [] = refl
 lines_rest s rest (line ∷ others) = lines_rest (line_came s line) rest others
 
--- after some of a piece: hearing what is left of it comes to what hearing the whole piece comes to
+-- once some of a piece was heard: hearing what is left of it comes to what hearing the whole piece comes to
 pub record Hearing (text : Record → List ℕ) (start taken : Option (List ℕ)) (station : Station) (s : Model) (piece left : List ℕ) : Type 0 where
   pub now : Model
   pub stands : Refines station now
@@ -70,7 +71,7 @@ pub record Hearing (text : Record → List ℕ) (start taken : Option (List ℕ)
   pub grown : Grew s.records now.records
   pub goes : piece_came left now ≡ piece_came piece s
 
--- a frame's line first, and then what is left
+-- hearing what is left of a piece is hearing its first frame's line, and then the rest
 pub frame_first : (s : Model) (left later rest : List ℕ) (frame : Frame)
     → frames_behind s.rest left ≡ completed frame ++ frames_behind rest later → rest_behind s.rest left ≡ rest_behind rest later
     → piece_came left s ≡ piece_came later (lines_came (with_rest rest s) (option_to_list (line_in frame)))
@@ -86,7 +87,7 @@ frame_first s left later rest frame seen rests =
       rest_kept : (rest : List ℕ) (line : List (List ℕ)) → (lines_came (with_rest rest s) line).rest ≡ rest
       rest_kept rest line = ap (λ (x : Model). x.rest) (lines_rest s rest line)
 
--- one more frame
+-- `Hearing` lasts over one frame more
 pub hearing_on : (text : Record → List ℕ) (start taken taken' : Option (List ℕ)) (station station' : Station) (s : Model) (piece left : List ℕ) (used : ℕ) (frame : Frame) (kept : Kept)
     → (h : Hearing text start taken station s piece left) → (t : Takes h.now.rest left used frame kept)
     → (Refines station' (lines_came (with_rest t.now h.now) (option_to_list (line_in frame))) × Took text start taken' (lines_came (with_rest t.now h.now) (option_to_list (line_in frame))))
@@ -99,7 +100,7 @@ hearing_on text start taken taken' station station' s piece left used frame kept
   goes = sym (frame_first h.now left (drop used left) t.now frame t.seen t.rests) ∙ h.goes;
 }
 
--- the book failed at a frame's line
+-- where the book failed at a frame's line, it failed at a record of the whole piece
 pub hearing_part : (text : Record → List ℕ) (start taken taken' : Option (List ℕ)) (station : Station) (s : Model) (piece left : List ℕ) (used : ℕ) (frame : Frame) (kept : Kept)
     → (h : Hearing text start taken station s piece left) → (t : Takes h.now.rest left used frame kept)
     → TookPart text h.now.records start taken' (lines_came (with_rest t.now h.now) (option_to_list (line_in frame)))
@@ -114,7 +115,7 @@ hearing_part text start taken taken' station s piece left used frame kept h t pa
     part_grew text s.records h.now.records (piece_came piece s).records start taken' h.grown
     (subst (λ (x : Model). WritesPart text h.now.records x.records start taken') whole all)
 
--- nothing is left of the piece
+-- where nothing is left of the piece, the station is as the model behind the whole piece
 pub hearing_end : (text : Record → List ℕ) (start taken : Option (List ℕ)) (station : Station) (s : Model) (piece : List ℕ)
     → Hearing text start taken station s piece []
     → Refines station (piece_came piece s) × Took text start taken (piece_came piece s)
@@ -123,7 +124,7 @@ hearing_end text start taken station s piece h = (
   subst (λ (x : Model). Took text start taken x) h.goes h.wrote,
 )
 
--- the bytes since the last line feed are others
+-- a station with another assembler is as the model with the bytes that this one keeps
 pub with_kept : (station : Station) (kept : Kept) (rest : List ℕ) (s : Model) → Refines station s → StandsFor kept rest → Refines (record station { assembler = kept }) (with_rest rest s)
 with_kept station kept rest s stands is = record {
   progress = stands.progress;
@@ -138,15 +139,17 @@ with_kept station kept rest s stands is = record {
 
 -- How many are settled, and how many marks go: as many.
 
+-- settling up to place k leaves k + 1 requests fewer
 settle_less : (k : ℕ) (line : List ℕ) (ps : List Pending) → length ps - length (settle k line ps) ≡ length ps - (k + 1)
 settle_less k line [] = omega arith
 settle_less zero line (p ∷ ps) = omega arith
 settle_less (suc k) line (p ∷ ps) = let more = settle_less k line ps in omega (arith, more)
 
--- each request that waits has a mark, once more
+-- each request that waits behind this has a mark, once as many marks were taken out as were settled
 abbrev pub StayPaired : List (Option Mark) → Settled ById → Type 0
 StayPaired marks x = length (drop (length x.settlements) marks) ≡ length x.client.waiting
 
+-- `StayPaired` is so behind a reply
 settled_paired : (marks : List (Option Mark)) (c : ById) (line : List ℕ) (k : ℕ) (b : Bool) → length marks ≡ length c.waiting → StayPaired marks (id_settled c line k b)
 settled_paired marks c line k true is =
     let less = settle_less k line c.waiting in
@@ -155,17 +158,19 @@ settled_paired marks c line k true is =
     omega (arith, is, less, left, right)
 settled_paired marks c line k false is = is
 
+-- `StayPaired` is so behind a line
 pub hears_paired : (marks : List (Option Mark)) (c : ById) (line : List ℕ) (id : Option ℕ) → length marks ≡ length c.waiting → StayPaired marks (hears c line id)
 hears_paired marks c line None is = is
 hears_paired marks c line (Some id) is = settled_paired marks c line (place_in c id) _ is
 
+-- `StayPaired` is so behind a restart
 pub restarts_paired : (marks : List (Option Mark)) (c : ById) → length marks ≡ length c.waiting → StayPaired marks (restarts c)
 restarts_paired marks c is =
     let many = length-map c.waiting lost in
     let left = length-drop (length (map lost c.waiting)) marks in
     omega (arith, is, many, left)
 
--- a station's fields, between what settles and its records
+-- a station whose client has settled requests, and which has written none of their records yet: all else is as before
 pub record Between (old mid : Station) (ids : ById) : Type 0 where
   pub ids_are : mid.client.ids ≡ ids
   pub width : mid.client.width ≡ old.client.width
@@ -175,7 +180,7 @@ pub record Between (old mid : Station) (ids : ById) : Type 0 where
   pub tally : mid.tally ≡ old.tally
   pub well : mid.well ≡ old.well
 
--- what is written down there
+-- the records that a station between the two writes are those of the model
 records_same : (old mid : Station) (s : Model) (ids : ById) (xs ys : List Settlement) → Refines old s → Between old mid ids → xs ≡ ys
     → records_of s.reads mid.progress.moment.utc mid.marks.items xs ≡ records_of s.reads s.progress.moment.utc s.marks ys
 records_same old mid s ids xs ys stands between e =
@@ -183,14 +188,15 @@ records_same old mid s ids xs ys stands between e =
     ∙ ap (λ (ms : List (Option Mark)). records_of s.reads s.progress.moment.utc ms xs) (ap (λ ms. ms.items) between.marks ∙ stands.marks)
     ∙ ap (records_of s.reads s.progress.moment.utc s.marks) e
 
--- how a station counts these settlements, and how the last of their commands ended
+-- how a station's tally counts these settlements
 abbrev pub Counts : Station → Station → List Settlement → Type 0
 Counts mid new xs = (reads : Call → List ℕ → Reading) → AreReadings reads → new.tally ≡ tallied mid.tally (records_of reads mid.progress.moment.utc mid.marks.items xs)
 
+-- how a station minds whether the last of these settlements' commands was answered well
 abbrev pub Minds : Station → Station → List Settlement → Type 0
 Minds mid new xs = (reads : Call → List ℕ → Reading) → AreReadings reads → new.well ≡ last_well reads mid.well (records_of reads mid.progress.moment.utc mid.marks.items xs)
 
--- settlements were written down, and the station went on with these ids
+-- where the records of settlements were written, the station is as the model behind them
 pub settles_ok : (text : Record → List ℕ) (old mid new : Station) (s : Model) (x : Settled ById) (xs : List Settlement) (n : ℕ) (start taken' : Option (List ℕ))
     → Refines old s → Between old mid x.client → xs ≡ x.settlements → n ≡ length x.settlements → StayPaired s.marks x
     → (AreReadings s.reads → Appends start taken' (texts_of text (s.records ++ records_of s.reads mid.progress.moment.utc mid.marks.items xs)))
@@ -215,7 +221,7 @@ settles_ok text old mid new s x xs n start taken' stands between e many paired w
       λ are. subst (λ (rs : List Record). Appends start taken' (texts_of text (s.records ++ rs))) records (wrote are),
     )
 
--- the book failed at them
+-- where the book failed at the records of settlements, it took a part of the model's records
 pub settles_part : (text : Record → List ℕ) (old mid : Station) (s : Model) (x : Settled ById) (xs : List Settlement) (start taken' : Option (List ℕ))
     → Refines old s → Between old mid x.client → xs ≡ x.settlements
     → (AreReadings s.reads → WritesPart text s.records (s.records ++ records_of s.reads mid.progress.moment.utc mid.marks.items xs) start taken')
@@ -223,7 +229,7 @@ pub settles_part : (text : Record → List ℕ) (old mid : Station) (s : Model) 
 settles_part text old mid s x xs start taken' stands between e wrote are =
     subst (λ (rs : List Record). WritesPart text s.records (s.records ++ rs) start taken') (records_same old mid s x.client xs x.settlements stands between e) (wrote are)
 
--- they were written down, or the book failed
+-- the records of settlements were written, or the book failed at them
 pub settles_either : {X E : Type 0} (text : Record → List ℕ) (old mid new : Station) (s : Model) (x : Settled ById) (xs : List Settlement) (n : ℕ)
     (start taken' : Option (List ℕ)) (result : Result X E)
     → Refines old s → Between old mid x.client → xs ≡ x.settlements → n ≡ length x.settlements → StayPaired s.marks x
@@ -235,14 +241,14 @@ settles_either text old mid new s x xs n start taken' (Ok r) stands between e ma
     settles_ok text old mid new s x xs n start taken' stands between e many paired wrote is counts minds
 settles_either text old mid new s x xs n start taken' (Err r) stands between e many paired wrote is counts minds = settles_part text old mid s x xs start taken' stands between e wrote
 
--- acts, and then more
+-- a link told acts, and then others: so it told all of them
 pub tells_more : (a b c : Option (List Act)) (xs ys : List Act) → Tells a b xs → Tells b c ys → Tells a c (xs ++ ys)
 tells_more None b c xs ys p q = tt
 tells_more (Some a) None c xs ys p q = absurd p
 tells_more (Some a) (Some b) None xs ys p q = absurd q
 tells_more (Some a) (Some b) (Some c) xs ys p q = q ∙ ap (λ zs. zs ++ ys) p ∙ append_assoc a xs ys
 
--- a line was noted
+-- a station that noted a line is as the model that noted it
 pub with_noted : (mid : Station) (p : Progress) (b b' : Bool) (s : Model) → Refines mid s → b ≡ b' → p ≡ noted b mid.progress → Refines (record mid { progress = p }) (with_progress (noted b') s)
 with_noted mid p b b' s stands e is = record {
   progress = is ∙ ap (λ t. noted t mid.progress) e ∙ ap (noted b') stands.progress;
@@ -255,7 +261,7 @@ with_noted mid p b b' s stands e is = record {
   well = stands.well;
 }
 
--- requests were given up at a moment
+-- a station that gave up requests at a moment is as the model at that moment
 pub stands_expired : (station : Station) (p q : Progress) (client : Windowed) (m : Moment) (s : Model) → Refines station s → p ≡ q
     → client ≡ record station.client { ids = expires station.client.ids m.elapsed }
     → Refines (record station { progress = p; client = client }) (with_moment m (with_progress (λ x. q) s))
@@ -270,14 +276,15 @@ stands_expired station p q client m s stands e is = record {
   well = stands.well;
 }
 
--- that many wait, whatever replies say
+-- as many requests of a station wait as of its model
 pub all_same : (station : Station) (s : Model) → Refines station s → (waiting_in station).all ≡ (waiting_of s).all
 all_same station s stands = ap (λ (c : ById). length c.waiting) stands.ids
 
+-- as many commands of a station wait as of its model
 pub commands_same : (station : Station) (s : Model) → Refines station s → (waiting_in station).commands ≡ (waiting_of s).commands
 commands_same station s stands = ap commands_in stands.marks
 
--- how far a station is once it heard a piece
+-- equal progresses, where as many requests wait, are equal once a piece was counted
 pub reckoned_same : (plan : Plan) (until : Until) (b b' : ℕ) (w w' : Waiting) (p p' : Progress) → b ≡ b' → w.all ≡ w'.all → w.commands ≡ w'.commands → p ≡ p'
     → reckoned_early plan w.commands (gave plan until b w p) ≡ reckoned_early plan w'.commands (gave plan until b' w' p')
 reckoned_same plan until b b' w w' p p' eb ea ec ep =
@@ -285,7 +292,7 @@ reckoned_same plan until b b' w w' p p' eb ea ec ep =
       early : ℕ → ℕ → ℕ → Progress → Progress
       early before all commands p = reckoned_early plan commands (gave plan until before (record { all = all; current = 0; commands = commands; well = false }) p)
 
--- a close of two equal progresses, where as many commands wait, leads to the same
+-- equal progresses, where as many commands wait, are equal behind a close
 pub closed_same : (plan : Plan) (w w' : Waiting) (why : Cause) (p p' : Progress) → w.commands ≡ w'.commands → p ≡ p' → closed plan w why p ≡ closed plan w' why p'
 closed_same plan w w' why p p' ec ep = kept why ∙ ap (closed plan w' why) ep where
   kept : (why : Cause) → closed plan w why p ≡ closed plan w' why p
@@ -296,17 +303,19 @@ closed_same plan w w' why p p' ec ep = kept why ∙ ap (closed plan w' why) ep w
 
 -- While it begins.
 
+-- the progress behind two lists of lines is the one behind the second, from the one behind the first on
 pub lines_asked-append : (p : Progress) (xs ys : List (List ℕ)) → lines_asked p (xs ++ ys) ≡ lines_asked (lines_asked p xs) ys
 lines_asked-append p [] ys = refl
 lines_asked-append p (x ∷ xs) ys = lines_asked-append (line_asked p x) xs ys
 
--- once some of a piece was heard: hearing what is left of it comes to what hearing the whole piece comes to
+-- once some of a piece was heard while the station begins: hearing what is left of it comes to what hearing the whole piece
+-- comes to
 pub record Asking (station : Station) (s : Model) (piece left : List ℕ) : Type 0 where
   pub now : Model
   pub stands : Refines station now
   pub goes : piece_asked left now ≡ piece_asked piece s
 
--- a frame's line first, and then what is left
+-- hearing what is left of a piece while the station begins is hearing its first frame's line, and then the rest
 pub asked_first : (s : Model) (left later rest : List ℕ) (frame : Frame)
     → frames_behind s.rest left ≡ completed frame ++ frames_behind rest later → rest_behind s.rest left ≡ rest_behind rest later
     → piece_asked left s ≡ piece_asked later (with_progress (λ p. lines_asked p (option_to_list (line_in frame))) (with_rest rest s))
@@ -319,7 +328,7 @@ asked_first s left later rest frame seen rests =
       shown : List ℕ → Progress → Model
       shown r p = record s { rest = r; progress = p }
 
--- one more frame
+-- `Asking` lasts over one frame more
 pub asking_on : (station station' : Station) (s : Model) (piece left : List ℕ) (used : ℕ) (frame : Frame) (kept : Kept)
     → (h : Asking station s piece left) → (t : Takes h.now.rest left used frame kept)
     → station' ≡ record station { assembler = kept; progress = lines_asked station.progress (option_to_list (line_in frame)) }
@@ -344,11 +353,12 @@ asking_on station station' s piece left used frame kept h t is =
       goes = sym (asked_first h.now left (drop used left) t.now frame t.seen t.rests) ∙ h.goes;
     }
 
--- a piece comes while it begins, or once it has begun
+-- where ids of the beginning are left, a piece that is heard is heard by the beginning
 pub came_asked : (word piece : List ℕ) (s : Model) → is_none_left word ≡ false → came true word piece s ≡ piece_asked piece s
 came_asked [] piece s e = cc
 came_asked (asked ∷ others) piece s e = refl
 
+-- where no ids of the beginning are left, a piece that is heard is heard by the client
 pub came_begun : (word piece : List ℕ) (s : Model) → is_none_left word ≡ true → came true word piece s ≡ piece_came piece s
 came_begun [] piece s e = refl
 came_begun (asked ∷ others) piece s e = cc

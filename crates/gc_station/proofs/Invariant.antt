@@ -13,7 +13,7 @@ use Rattle.gc_station.specs.Progressing.{is_over}
 use Rattle.gc_station.specs.EachOnce.{IsEachOnce}
 use Rattle.gc_station.specs.Model.{Model}
 
--- a phase without a connection, or before requests go out: no byte of a line is kept there
+-- whether a phase is without a connection, or before requests go out: no byte of a line is kept in it
 abbrev pub is_bare : Phase → Bool
 is_bare Down = true
 is_bare Pausing = true
@@ -23,11 +23,12 @@ is_bare Ready = false
 is_bare (Closing why) = false
 is_bare (Over why) = false
 
+-- whether a cause is that all is done
 abbrev pub is_done : Cause → Bool
 is_done cause.Done = true
 is_done _ = false
 
--- the run is done there
+-- whether a phase says that the run is done
 abbrev pub says_done : Phase → Bool
 says_done (Closing why) = is_done why
 says_done (Over why) = is_done why

@@ -10,6 +10,7 @@ mod Counts
 pub mod Each
 pub mod EachRun
 pub mod Facts
+mod Fieldless
 mod Faulty
 pub mod Invariant
 pub mod Following
@@ -25,6 +26,7 @@ pub mod Meant
 pub mod Meets
 pub mod Midway
 mod Mute
+mod Noting
 mod Opens
 pub mod Parting
 mod Pieces
@@ -39,6 +41,7 @@ mod Used
 mod Waiting
 mod Walk
 pub mod Words
+pub mod Ended
 pub mod Asked
 pub mod SentAt
 pub mod Linking

@@ -34,12 +34,14 @@ use Rattle.gc_station.proofs.SentAt.{some_is, none_is_not, get_behind, fronts, r
 
 -- The parts of a front of acts.
 
+-- these parts are the first of those, where the last one may go on in others
 abbrev IsFront : List Part → List Part → Type 0
 IsFront [] qs = ⊥
 IsFront (p ∷ ps) [] = ⊥
 IsFront (p ∷ []) (q ∷ qs) = length p.marks ≤ length q.marks
 IsFront (p ∷ next ∷ ps) (q ∷ qs) = IsFront (next ∷ ps) qs
 
+-- the parts behind one act more are still a front, if they were before it
 front_more : (p : Part) (b : Bool) (ps qs : List Part) → IsFront ps qs → IsFront (in_front p b ps) (in_front p b qs)
 front_more p b [] qs h = absurd h
 front_more p true (x ∷ ps) [] h = absurd h
@@ -51,11 +53,13 @@ front_more p false (x ∷ []) (y ∷ qs) h =
     omega (arith, a, b, h)
 front_more p false (x ∷ next ∷ ps) (y ∷ qs) h = h
 
+-- the part in which nothing happens is a front of any parts
 front_none : (p : Part) (b : Bool) (ps : List Part) → IsFront (nothing ∷ []) (in_front p b ps)
 front_none p true ps = omega arith
 front_none p false [] = omega arith
 front_none p false (q ∷ ps) = omega arith
 
+-- the parts of the first acts are a front of the parts of all
 front_parts : (plan : Plan) (commands : List Task) (s : Model) (xs ys : List Act) → IsFront (parts_of plan commands s xs) (parts_of plan commands s (xs ++ ys))
 front_parts plan commands s [] [] = omega arith
 front_parts plan commands s [] (act ∷ ys) = front_none (acting plan commands s (action_at plan s) act) (ends_part plan commands s act) (parts_of plan commands (after plan commands s act) ys)
@@ -64,7 +68,7 @@ front_parts plan commands s (act ∷ xs) ys =
     (parts_of plan commands (after plan commands s act) (xs ++ ys))
     (front_parts plan commands (after plan commands s act) xs ys)
 
--- the last of them isn't further on
+-- the last part of a front is an earlier part of the whole, or the same with fewer requests or as many
 front_last : (ps qs : List Part) (j i : ℕ) (p q : Part) → IsFront ps qs → length ps ≡ suc j → length qs ≡ suc i → slice_get ps j ≡ Some p
     → slice_get qs i ≡ Some q → (j < i) ⊎ ((j ≡ i) × (length p.marks ≤ length q.marks))
 front_last [] qs j i p q h a b e f = absurd h
@@ -87,6 +91,7 @@ front_last (x ∷ next ∷ ps) (y ∷ z ∷ qs) (suc j) (suc i) p q h a b e f =
 
 -- The commands go on.
 
+-- what comes before something else doesn't come behind it
 apart : (i j m n : ℕ) → IsBefore i m j n → (j < i) ⊎ ((j ≡ i) × (n ≤ m)) → ⊥
 apart i j m n (inl l) (inl k) = omega (arith, l, k)
 apart i j m n (inl l) (inr k) = let same : j ≡ i = k.0 in omega (arith, l, same)
@@ -94,13 +99,14 @@ apart i j m n (inr l) (inl k) = let same : i ≡ j = l.0 in omega (arith, same, 
 apart i j m n (inr l) (inr k) = let less : m < n = l.1 in let le : n ≤ m = k.1 in omega (arith, less, le)
 
 module _ (plan : Plan) (commands : List Task) (scope : Scope) where
+  -- behind a send, and further acts, the station is further than before it
   further_on : (xs ys more : List Act) → action_at plan (stood plan commands scope xs) ≡ Send → ys ≡ xs ++ more → (more ≡ [] → ⊥)
       → IsFurther plan commands (stood plan commands scope xs) (stood plan commands scope ys)
   further_on xs ys [] sends e some = absurd (some refl)
   further_on xs ys (act ∷ more) sends e some =
       subst (λ l. IsFurther plan commands (stood plan commands scope xs) (stood plan commands scope l)) (sym e) (send_goes_on plan commands scope xs more act sends)
 
-  -- what went out earlier is of an earlier place or cycle
+  -- of two commands that went out, the one that went out first, in the order of parts and requests, is of an earlier place or cycle
   further_than : (acts : List Act) (i j m n : ℕ) (a b : Mark) → IsBefore i m j n → (x : SentAt plan commands (opening plan scope) acts i m a)
       → (y : SentAt plan commands (opening plan scope) acts j n b)
       → IsFurther plan commands (stood plan commands scope x.before) (stood plan commands scope y.before)
@@ -137,10 +143,12 @@ marks_go_on plan commands scope acts runs i j m n p q a b e f g h l =
 
 -- While it doesn't begin anew all of it is of one part.
 
+-- the first acts of a run are a run
 runs_front : (plan : Plan) (commands : List Task) (s : Model) (xs ys : List Act) → Runs plan commands s (xs ++ ys) → Runs plan commands s xs
 runs_front plan commands s [] ys h = tt
 runs_front plan commands s (act ∷ xs) ys h = (h.0, runs_front plan commands (after plan commands s act) xs ys h.1)
 
+-- where acts go on, the run isn't over before them
 goes_on : (plan : Plan) (commands : List Task) (u : Model) (acts : List Act) (b : Bool) → is_over u.progress ≡ b → Runs plan commands u acts
     → is_over (after_all plan commands u acts).progress ≡ false → is_over u.progress ≡ false
 goes_on plan commands u acts false e runs end = e
@@ -152,6 +160,7 @@ neither true true over a o = o
 neither true false over a o = cc
 neither false later over a o = refl
 
+-- acts behind each of which the station has begun are one part, if the run isn't over
 single : (plan : Plan) (commands : List Task) (s : Model) (acts : List Act) → Runs plan commands s acts → StaysBegun plan commands s acts
     → is_over (after_all plan commands s acts).progress ≡ false → length (parts_of plan commands s acts) ≡ 1
 single plan commands s [] runs keeps end = refl
@@ -169,6 +178,7 @@ front_length p false [] (y ∷ qs) e = absurd (omega (arith, e))
 front_length p false (x ∷ ps) [] e = absurd (omega (arith, e))
 front_length p false (x ∷ ps) (y ∷ qs) e = e
 
+-- acts that are one part go on in the last part of the acts before
 parts_more : (plan : Plan) (commands : List Task) (s : Model) (xs ys : List Act) → length (parts_of plan commands (after_all plan commands s xs) ys) ≡ 1
     → length (parts_of plan commands s (xs ++ ys)) ≡ length (parts_of plan commands s xs)
 parts_more plan commands s [] ys one = one
@@ -180,14 +190,16 @@ parts_more plan commands s (act ∷ xs) ys one =
 over_ready : (p : Progress) → p.phase ≡ phase.Ready → is_over p ≡ false
 over_ready p is = ap (λ at. is_over_in at || (not (is_up at) && nat_eq p.turns 0)) is
 
--- what has to hold where a command is next
+-- where a command is next, the conditions of `Send` hold
 needs_send : (plan : Plan) (s : Model) → action_at plan s ≡ Send → IsFor plan s.progress (waiting_of s) Send
 needs_send plan s is = subst (λ (o : Action). IsFor plan s.progress (waiting_of s) o) is (action_for plan s.progress (waiting_of s))
 
+-- an act that sends puts the line of the next command
 puts_text : (commands : List Task) (plan : Plan) (s : Model) (act : Act) → action_at plan s ≡ Send → Performs commands s (action_at plan s) act
     → Puts (first_text s.client (drop (place_next commands s.progress) commands)) act
 puts_text commands plan s act is obeys = subst (λ (o : Action). Performs commands s o act) is obeys
 
+-- a request and the acts behind it, in which the station doesn't begin anew, are of one part
 same_part : (plan : Plan) (commands : List Task) (scope : Scope) (before between : List Act) (request : Act)
     → Runs plan commands (opening plan scope) (before ++ request ∷ between) → action_at plan (stood plan commands scope before) ≡ Send
     → StaysBegun plan commands (stood plan commands scope before) (request ∷ between)
@@ -202,10 +214,12 @@ same_part plan commands scope before between request runs sends keeps next =
 
 -- The mark of a request.
 
+-- the first of these commands goes out with its mark
 asked_mark : (now : ℕ) (mark : Mark) (left : List Task) → 0 < length left → slice_get (asking_first now mark left).marks 0 ≡ Some (Some mark)
 asked_mark now mark [] some = absurd (omega (arith, some))
 asked_mark now mark (task ∷ others) some = refl
 
+-- an act that puts bytes where a command is next has the mark of that command in its part
 put_asks : (plan : Plan) (commands : List Task) (s : Model) (act : Act) (bytes : List ℕ) → Puts bytes act → has_begun s.progress ≡ true → 0 < length (drop (place_next commands s.progress) commands)
     → slice_get (acting plan commands s Send act).marks 0 ≡ Some (Some (mark_next plan commands s.progress))
 put_asks plan commands s act bytes puts begun some = subst (λ (b : Bool). slice_get
@@ -216,6 +230,7 @@ put_asks plan commands s act bytes puts begun some = subst (λ (b : Bool). slice
       by_act (Cut out count) puts = asked_mark s.progress.moment.elapsed (mark_next plan commands s.progress) (drop (place_next commands s.progress) commands) some
       by_act a puts = absurd puts
 
+-- part i of these has a request with this mark
 abbrev Has : List Part → ℕ → Mark → Type 0
 Has ps i mark = (part : Part) × (slice_get ps i ≡ Some part) × (m : ℕ) × (slice_get part.marks m ≡ Some (Some mark))
 
@@ -224,11 +239,13 @@ in_more [] ys i x e = absurd (none_is_not x e)
 in_more (y ∷ xs) ys zero x e = e
 in_more (y ∷ xs) ys (suc i) x e = in_more xs ys i x e
 
+-- where a part has a mark first, the first of the parts with it in front has the mark
 first_has : (p : Part) (b : Bool) (ps : List Part) (mark : Mark) → slice_get p.marks 0 ≡ Some (Some mark) → Has (in_front p b ps) 0 mark
 first_has p true ps mark e = (p, refl, 0, e)
 first_has p false [] mark e = (p, refl, 0, e)
 first_has p false (q ∷ ps) mark e = (joined p q, refl, 0, in_more p.marks q.marks 0 (Some mark) e)
 
+-- part i of these has the mark also where a part is joined to the first of them
 on_has : (p : Part) (qs : List Part) (i : ℕ) (mark : Mark) → Has qs i mark → Has (in_front p false qs) i mark
 on_has p [] i mark h = absurd (none_is_not h.0 h.1)
 on_has p (y ∷ qs) zero mark h =
@@ -236,6 +253,7 @@ on_has p (y ∷ qs) zero mark h =
     (joined p y, refl, length p.marks + h.2, get_behind p.marks y.marks h.2 (length p.marks + h.2) (Some mark) refl (subst (λ (x : Part). slice_get x.marks h.2 ≡ Some (Some mark)) same h.3))
 on_has p (y ∷ qs) (suc i) mark h = h
 
+-- where the last part has a mark, it has it with one part more in front
 step_has : (p : Part) (b : Bool) (ps qs : List Part) (i k : ℕ) (mark : Mark) → length ps ≡ suc k → length (in_front p b ps) ≡ suc i
     → ((j : ℕ) → length ps ≡ suc j → Has qs j mark) → Has (in_front p b qs) i mark
 step_has p true ps qs zero k mark some size has = absurd (omega (arith, some, size))
@@ -243,15 +261,18 @@ step_has p true ps qs (suc i) k mark some size has = has i (omega (arith, size))
 step_has p false [] qs i k mark some size has = absurd (omega (arith, some))
 step_has p false (x ∷ ps) qs i k mark some size has = on_has p qs i mark (has i size)
 
+-- parts with one more in front are some
 front_some : (p : Part) (b : Bool) (ps : List Part) → (k : ℕ) × (length (in_front p b ps) ≡ suc k)
 front_some p true ps = (length ps, refl)
 front_some p false [] = (0, refl)
 front_some p false (q ∷ ps) = (length ps, refl)
 
+-- the parts of acts are some
 parts_some : (plan : Plan) (commands : List Task) (s : Model) (acts : List Act) → (k : ℕ) × (length (parts_of plan commands s acts) ≡ suc k)
 parts_some plan commands s [] = (0, refl)
 parts_some plan commands s (act ∷ acts) = front_some (acting plan commands s (action_at plan s) act) (ends_part plan commands s act) (parts_of plan commands (after plan commands s act) acts)
 
+-- the mark of an act that sends stands in the last part of the acts, behind those of the acts before it
 mark_there : (plan : Plan) (commands : List Task) (s : Model) (start : List Act) (act : Act) (rest : List Act) (i : ℕ) → length (parts_of plan commands s start) ≡ suc i
     → slice_get (acting plan commands (after_all plan commands s start) (action_at plan (after_all plan commands s start)) act).marks 0 ≡ Some
     (Some (mark_next plan commands (after_all plan commands s start).progress))
@@ -273,10 +294,11 @@ not_further c p d q (inl l) e f = omega (arith, l, e)
 not_further c p d q (inr l) e f = let less : p < q = l.1 in omega (arith, less, f)
 
 module _ (plan : Plan) (commands : List Task) (scope : Scope) where
+  -- the model behind these acts
   abbrev at : List Act → Model
   at acts = stood plan commands scope acts
 
-  -- one command goes out once
+  -- a command goes out once: acts that end before the same send are the same acts
   same_send : (acts xs us ys vs : List Act) → acts ≡ xs ++ us → acts ≡ ys ++ vs → action_at plan (at xs) ≡ Send → action_at plan (at ys) ≡ Send
       → cycles_begun plan (at xs).progress ≡ cycles_begun plan (at ys).progress → place_next commands (at xs).progress ≡ place_next commands (at ys).progress → xs ≡ ys
   same_send acts xs us ys vs e f go_x go_y cycle place =
@@ -297,6 +319,7 @@ module _ (plan : Plan) (commands : List Task) (scope : Scope) where
           absurd (not_further (cycles_begun plan (at zs).progress) (place_next commands (at zs).progress) (cycles_begun plan (at ws).progress) (place_next commands (at ws).progress)
           (subst (λ l. IsFurther plan commands (at zs) (at l)) (sym is) (send_goes_on plan commands scope zs more act go)) c p)
 
+  -- the command at place a of this cycle went out among these acts, and was answered
   record Back (before : List Act) (cycle a : ℕ) : Type 0 where
     k : ℕ
     answer : Record
@@ -319,7 +342,7 @@ module _ (plan : Plan) (commands : List Task) (scope : Scope) where
   get_last [] x = refl
   get_last (y ∷ xs) x = get_last xs x
 
-  -- the one before
+  -- the command before a chained one went out in the same part
   same_link : (acts : List Act) → Runs plan commands (opening plan scope) acts → action_at plan (at acts) ≡ Send → (l : IsLinked plan commands scope acts)
       → StaysBegun plan commands (at l.before) (l.request ∷ l.between) → length (parts plan commands scope acts) ≡ length (parts plan commands scope l.before)
   same_link acts runs next l keeps =
@@ -327,6 +350,7 @@ module _ (plan : Plan) (commands : List Task) (scope : Scope) where
       (same_part plan commands scope l.before l.between l.request (subst
       (λ xs. Runs plan commands (opening plan scope) xs) l.order runs) l.sends keeps (subst (λ xs. action_at plan (at xs) ≡ Send) l.order next))
 
+  -- the command before a chained one is `Back`
   one_back : (acts : List Act) (a : ℕ) → Runs plan commands (opening plan scope) acts → action_at plan (at acts) ≡ Send
       → place_next commands (at acts).progress ≡ a + 1 → (l : IsLinked plan commands scope acts)
       → StaysBegun plan commands (at l.before) (l.request ∷ l.between) → Back acts (cycles_begun plan (at acts).progress) a
@@ -359,7 +383,7 @@ module _ (plan : Plan) (commands : List Task) (scope : Scope) where
         same = same_link acts runs next l keeps;
       }
 
-  -- and each before that
+  -- a command that is `Back` before the request of a link still is behind the request and the acts that follow it
   more_back : (acts : List Act) (a : ℕ) → Runs plan commands (opening plan scope) acts → action_at plan (at acts) ≡ Send
       → (l : IsLinked plan commands scope acts) → StaysBegun plan commands (at l.before) (l.request ∷ l.between)
       → Back l.before (cycles_begun plan (at l.before).progress) a → Back acts (cycles_begun plan (at acts).progress) a
@@ -384,6 +408,7 @@ module _ (plan : Plan) (commands : List Task) (scope : Scope) where
         same = same_link acts runs next l keeps ∙ h.same;
       }
 
+  -- each command from which the next one is chained is `Back`
   back_to : (d a : ℕ) (acts : List Act) → Runs plan commands (opening plan scope) acts → action_at plan (at acts) ≡ Send
       → place_next commands (at acts).progress ≡ a + suc d → AreChained commands a (place_next commands (at acts).progress)
       → Back acts (cycles_begun plan (at acts).progress) a
@@ -399,7 +424,7 @@ module _ (plan : Plan) (commands : List Task) (scope : Scope) where
       (subst (λ xs. Runs plan commands (opening plan scope) xs) l.order runs)) l.sends (omega (arith, on, place))
       (λ p above upto. chained p above (omega (arith, on, upto))))
 
-  -- its request is one of the last part
+  -- the request of a command that is `Back` is one of the last part
   in_part : (acts : List Act) (i cycle a : ℕ) (first : Part) → Runs plan commands (opening plan scope) acts
       → slice_get (parts plan commands scope acts) i ≡ Some first → length (parts plan commands scope acts) ≡ suc i → Back acts cycle a
       → IsAnsweredBack plan commands scope acts first cycle a

@@ -2,40 +2,43 @@
 use Rattle.std.proofs.Common.{◌≡◌, ℕ, zero, suc, ◌+◌, ◌<◌, ◌≤◌, List, [], ◌∷◌, ◌++◌, length, drop, map, refl, sym, ap, ◌∙◌, subst, arith, append_assoc}
 use Rattle.std.specs.List.{AllByRecursion}
 
+-- what holds of the elements of two lists holds of those of both, one behind the other
 pub all_append : {A : Type 0} (P : A → Type 0) (xs ys : List A) → AllByRecursion P xs → AllByRecursion P ys → AllByRecursion P (xs ++ ys)
 all_append P [] ys p q = q
 all_append P (x ∷ xs) ys p q = (p.0, all_append P xs ys p.1 q)
 
+-- what follows for each element from a fact of it holds of all, if the fact does
 pub all_on : {A : Type 0} (P Q : A → Type 0) (xs : List A) → ((x : A) → P x → Q x) → AllByRecursion P xs → AllByRecursion Q xs
 all_on P Q [] step p = tt
 all_on P Q (x ∷ xs) step p = (step x p.0, all_on P Q xs step p.1)
 
--- with where each stands
+-- what holds of each of a list, with what stands before and behind it, follows from another fact of each
 pub all_split : {A : Type 0} (P Q : A → Type 0) (front xs all : List A) → front ++ xs ≡ all
     → ((earlier : List A) (x : A) (later : List A) → earlier ++ x ∷ later ≡ all → P x → Q x) → AllByRecursion P xs → AllByRecursion Q xs
 all_split P Q front [] all e step p = tt
 all_split P Q front (x ∷ xs) all e step p = (step front x xs e p.0, all_split P Q (front ++ x ∷ []) xs all (append_assoc front (x ∷ []) xs ∙ e) step p.1)
 
--- all of a list, each beside one of another list where there is one, with their places, the first of which is this
+-- each element of a list, with its place (the first one's is this) and the element beside it in another list, if there is one, has the
+-- property
 abbrev pub AllAt : {A B : Type 0} → (ℕ → A → B → Type 0) → ℕ → List A → List B → Type 0
 AllAt P k [] ys = Unit {0}
 AllAt P k (x ∷ xs) [] = Unit {0}
 AllAt P k (x ∷ xs) (y ∷ ys) = P k x y × AllAt P (suc k) xs ys
 
--- all of a list, each beside one of another list, with their places, the first of which is this; and each with a number, which is at least
--- this, and higher than those before it
+-- each element of a list, with its place (the first one's is this) and the element beside it in another list, has the property for some
+-- number. The numbers are at least this, and each is higher than those before it
 abbrev pub Rows : {A B : Type 0} → (ℕ → ℕ → A → B → Type 0) → ℕ → ℕ → List A → List B → Type 0
 Rows P low k [] ys = Unit {0}
 Rows P low k (x ∷ xs) [] = ⊥
 Rows P low k (x ∷ xs) (y ∷ ys) = (n : ℕ) × (low ≤ n) × P n k x y × Rows P (suc n) (suc k) xs ys
 
--- the numbers may be higher
+-- the lowest number may be said to be lower
 pub rows_from : {A B : Type 0} (P : ℕ → ℕ → A → B → Type 0) (low high k : ℕ) (xs : List A) (ys : List B) → low ≤ high → Rows P high k xs ys → Rows P low k xs ys
 rows_from P low high k [] ys le p = tt
 rows_from P low high k (x ∷ xs) [] le p = absurd p
 rows_from P low high k (x ∷ xs) (y ∷ ys) le p = let from : low ≤ p.0 = omega (arith, le, p.1) in (p.0, from, p.2, p.3)
 
--- where what is said changes
+-- `Rows` of one property gives `Rows` of another that follows from it
 pub rows_same : {A B : Type 0} (P Q : ℕ → ℕ → A → B → Type 0) (low k : ℕ) (xs : List A) (ys : List B) → ((n j : ℕ) (x : A) (y : B) → P n j x y → Q n j x y) → Rows P low k xs ys → Rows Q low k xs ys
 rows_same P Q low k [] ys step p = tt
 rows_same P Q low k (x ∷ xs) [] step p = absurd p
@@ -50,6 +53,7 @@ rows_on P Q d low k (x ∷ xs) (y ∷ ys) step p =
     let next : suc (d + k) ≡ d + suc k = omega arith in
     (p.0, p.1, step p.0 k x y (omega arith) p.2, rows_on P Q d (suc p.0) (suc k) xs ys (λ n j a b below. step n j a b (omega (arith, below))) (subst (λ (i : ℕ). Rows P (suc p.0) i xs ys) next p.3))
 
+-- `Rows` of one property gives `Rows` of another over a list whose elements are mapped
 pub rows_map : {A B C : Type 0} (P : ℕ → ℕ → A → C → Type 0) (Q : ℕ → ℕ → B → C → Type 0) (f : A → B) (low k : ℕ) (xs : List A) (ys : List C)
     → ((n j : ℕ) (x : A) (y : C) → j < k + length xs → P n j x y → Q n j (f x) y)
     → Rows P low k xs ys → Rows Q low k (map f xs) ys
@@ -57,6 +61,7 @@ rows_map P Q f low k [] ys step p = tt
 rows_map P Q f low k (x ∷ xs) [] step p = absurd p
 rows_map P Q f low k (x ∷ xs) (y ∷ ys) step p = (p.0, p.1, step p.0 k x y (omega arith) p.2, rows_map P Q f (suc p.0) (suc k) xs ys (λ n j a b below. step n j a b (omega (arith, below))) p.3)
 
+-- `Rows` holds without the first elements of both lists
 pub rows_drop : {A B : Type 0} (P : ℕ → ℕ → A → B → Type 0) (d low k : ℕ) (xs : List A) (ys : List B) → Rows P low k xs ys → Rows P low (d + k) (drop d xs) (drop d ys)
 rows_drop P zero low k xs ys p = let here : 0 + k ≡ k = omega arith in subst (λ (i : ℕ). Rows P low i xs ys) (sym here) p
 rows_drop P (suc d) low k [] ys p = tt
@@ -79,7 +84,7 @@ rows_more P Q low k last place (a ∷ xs) (b ∷ ys) x y is same from step p one
     let above : suc p.0 ≤ last = omega (arith, here.0) in
     (p.0, p.1, here.1, rows_more P Q (suc p.0) (suc k) last place xs ys x y next fewer above (λ n j c d below. step n j c d (omega (arith, below))) p.3 one)
 
--- the one at a place
+-- the element at a place, the one beside it, and its number
 pub record RowAt {A B : Type 0} (P : ℕ → ℕ → A → B → Type 0) (low place : ℕ) : Type 0 where
   pub number : ℕ
   pub least : low ≤ number
@@ -87,6 +92,7 @@ pub record RowAt {A B : Type 0} (P : ℕ → ℕ → A → B → Type 0) (low pl
   pub beside : B
   pub holds : P number place one beside
 
+-- `Rows` has a `RowAt` for each place
 pub row_at : {A B : Type 0} (P : ℕ → ℕ → A → B → Type 0) (low k j place : ℕ) (xs : List A) (ys : List B) → place ≡ k + j → j < length xs → Rows P low k xs ys → RowAt P low place
 row_at P low k j place [] ys is below p = absurd (omega (arith, below))
 row_at P low k j place (x ∷ xs) [] is below p = absurd p
@@ -99,7 +105,7 @@ row_at P low k (suc j) place (x ∷ xs) (y ∷ ys) is below p =
     let from : low ≤ found.number = omega (arith, p.1, found.least) in
     record { number = found.number; least = from; one = found.one; beside = found.beside; holds = found.holds }
 
--- all of a list, and each beside it without a number
+-- `Rows` gives `AllAt` of a property that follows, over a list whose elements are mapped
 pub rows_all : {A B C : Type 0} (P : ℕ → ℕ → A → B → Type 0) (Q : ℕ → C → B → Type 0) (f : A → C) (low k : ℕ) (xs : List A) (ys : List B)
     → ((n j : ℕ) (x : A) (y : B) → P n j x y → Q j (f x) y) → Rows P low k xs ys → AllAt Q k (map f xs) ys
 rows_all P Q f low k [] ys step p = tt
@@ -108,12 +114,13 @@ rows_all P Q f low k (x ∷ xs) (y ∷ ys) step p = (step p.0 k x y p.2, rows_al
 
 -- Lists cut at an element.
 
--- two cuts of a list, of which the longer front goes on behind the element of the shorter one
+-- of two cuts of a list, the longer front goes on behind the element of the shorter one
 pub record CutsOn {A : Type 0} (front behind longer : List A) (x y : A) (tail : List A) : Type 0 where
   pub between : List A
   pub goes_on : longer ≡ front ++ x ∷ between
   pub splits : behind ≡ between ++ y ∷ tail
 
+-- two cuts of one list, of which the first has the shorter front, are `CutsOn`
 pub cuts_on : {A : Type 0} (front longer behind tail : List A) (x y : A) → front ++ x ∷ behind ≡ longer ++ y ∷ tail → length front < length longer → CutsOn front behind longer x y tail
 cuts_on [] [] behind tail x y e low = absurd (omega (arith, low))
 cuts_on [] (b ∷ longer) behind tail x y e low = let head : x ≡ b = cc in let others : behind ≡ longer ++ y ∷ tail = cc in
@@ -126,11 +133,12 @@ cuts_on (a ∷ front) (b ∷ longer) behind tail x y e low =
     let on = cuts_on front longer behind tail x y others fewer in
     record { between = on.between; goes_on = ap (λ z. z ∷ longer) (sym head) ∙ ap (λ zs. a ∷ zs) on.goes_on; splits = on.splits }
 
--- a list with one more at its end, cut at an element: at that one, or before it
+-- a list with one more element at its end is cut at that one, or before it
 pub data Cut {A : Type 0} (xs : List A) (last : A) (front behind : List A) (x : A) : Type 0 where
   AtEnd : (same : xs ≡ front) → Cut xs last front behind x
   Before : (between : List A) → (at : xs ≡ front ++ x ∷ between) → (tail : behind ≡ between ++ last ∷ []) → Cut xs last front behind x
 
+-- a cut of a list with a last element is at that element, or before it
 pub cut_at : {A : Type 0} (xs front behind : List A) (last x : A) → xs ++ last ∷ [] ≡ front ++ x ∷ behind → Cut xs last front behind x
 cut_at [] [] behind last x e = AtEnd refl
 cut_at [] (b ∷ []) behind last x e = cc

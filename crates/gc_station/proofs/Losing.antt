@@ -42,14 +42,14 @@ use Rattle.gc_station.proofs.Walk.{is_sent, moved_changed}
 use Rattle.gc_station.proofs.Words.{renews_only, renews_needs}
 use Rattle.gc_station.specs.Scopes.{Scope}
 
--- no record is written of those with these marks
+-- none of these marks is a command's, so that no record is written
 abbrev Unwritten : List (Option Mark) → Type 0
 Unwritten marks = (reads : Call → List ℕ → Reading) (utc : ℕ) (settlements : List Settlement) → records_of reads utc marks settlements ≡ []
 
 unwritten_none : (marks : List (Option Mark)) → marks ≡ [] → Unwritten marks
 unwritten_none marks is reads utc settlements = ap (λ (ms : List (Option Mark)). records_of reads utc ms settlements) is
 
--- where no act follows, the run stops
+-- where no act follows, the run stops for some cause
 over_stops : (plan : Plan) (p : Progress) (w : Waiting) → is_over p ≡ true → (why : Cause) × (action_of plan p w ≡ actions.Stop why)
 over_stops plan p w over = by_phase p.phase refl over where
   no_turn : (phase : Phase) (other : Action) → p.phase ≡ phase → is_up phase ≡ false → nat_eq p.turns 0 ≡ true
@@ -62,11 +62,12 @@ over_stops plan p w over = by_phase p.phase refl over where
   by_phase (Over why) is e = (why, refl)
   by_phase phase is e = cc
 
+-- where the negation of a holds, or nothing, a is false
 only_first : (a : Bool) → (not a || false) ≡ true → a ≡ false
 only_first true e = cc
 only_first false e = refl
 
--- where all that wait are lost, and a record is written of one
+-- where all that wait are lost at an act, and one of them is a command, the station begins anew or no act follows
 loses_why : (plan : Plan) (commands : List Task) (scope : Scope) (acts : List Act) (act : Act) → Invariant plan commands (stood plan commands scope acts)
     → Performs commands (stood plan commands scope acts) (action_at plan (stood plan commands scope acts)) act
     → loses_all (moved plan commands (action_at plan (stood plan commands scope acts)) (with_progress turned (stood plan commands scope acts)) act).progress ≡ true
@@ -103,13 +104,15 @@ loses_why plan commands scope acts act fine obeys loses = by_test (is_over t.pro
       inr (inr (record { none = refl; why = stops.0; stops = ap (λ (x : Model). action_at plan x) next ∙ stops.1 }))
   by_test false on e = renews (has_begun s.progress) refl (only_first (has_begun t.progress) e)
 
--- nothing is lost where a command goes out
+-- where requests go out, the run isn't over
 going_on : (p : Progress) → p.phase ≡ Ready → is_over p ≡ false
 going_on p is = ap (λ (phase : Phase). is_over_in phase || (not (is_up phase) && nat_eq p.turns 0)) is
 
+-- where requests go out, the run isn't over behind a failure
 failing_goes : (why : Cause) (p : Progress) → p.phase ≡ Ready → is_over (failing why p) ≡ false
 failing_goes why p is = ap (λ (phase : Phase). is_over_in (if is_up phase then Closing why else Over why) || (not (is_up (if is_up phase then Closing why else Over why)) && nat_eq p.turns 0)) is
 
+-- where requests go out, the run isn't over behind a write
 put_goes : (requests : ℕ) (f : Model → Model) (s : Model) (act : Act) → (f s).progress.phase ≡ Ready → is_over (after_put requests f s act).progress ≡ false
 put_goes requests f s (Cut bytes n) is = failing_goes (cause.Write requests n) (f s).progress is
 put_goes requests f s act is = going_on (f s).progress is
@@ -118,6 +121,7 @@ neither : (a b : Bool) → a ≡ true → b ≡ false → (not a || b) ≡ false
 neither true b x y = y
 neither false b x y = cc
 
+-- nothing is lost where a command goes out
 send_loses_none : (plan : Plan) (commands : List Task) (s : Model) (act : Act) → Invariant plan commands s → IsFor plan s.progress (waiting_of s) actions.Send
     → loses_all (moved plan commands actions.Send (with_progress turned s) act).progress ≡ false
 send_loses_none plan commands s act fine needs =
@@ -128,7 +132,7 @@ send_loses_none plan commands s act fine needs =
 
 -- The records of those that are lost.
 
--- a settlement is that of a request that is lost
+-- a settlement is that of a request that is lost at this act, with this mark
 pub record LostOf (plan : Plan) (commands : List Task) (scope : Scope) (acts : List Act) (x : Settlement) (mark : Option Mark) : Type 0 where
   pub number : ℕ
   pub at : ℕ
@@ -137,10 +141,12 @@ pub record LostOf (plan : Plan) (commands : List Task) (scope : Scope) (acts : L
   pub is : x ≡ lost pending
   pub asked : Asked plan commands scope acts Stayed number at id pending mark
 
+-- if the record is of a lost command, it is lost for a cause
 abbrev IsLostRecord : Plan → List Task → Scope → List Act → Record → Type 0
 IsLostRecord plan commands scope acts r = (mark : Mark) × (y : Settlement) × (r.cycle ≡ mark.cycle) × (r.place ≡ mark.place) × (r.sent ≡ Some mark.sent)
     × IsRecordOf r y × LostOf plan commands scope acts y (Some mark)
 
+-- the record of a settlement that is `LostOf` a request is lost for a cause
 lost_true : (plan : Plan) (commands : List Task) (scope : Scope) (acts : List Act) (act : Act) (r : Record) (news earlier later : List Record)
     → Invariant plan commands (stood plan commands scope acts)
     → loses_all (moved plan commands (action_at plan (stood plan commands scope acts)) (with_progress turned (stood plan commands scope acts)) act).progress ≡ true
@@ -201,7 +207,7 @@ lost_true plan commands scope acts act r news earlier later fine loses why ends 
         shown = inr (subst (λ (xs : List Act). BeginsAnew plan commands scope xs act ⊎ IsLast plan commands scope xs act []) at why);
       }
 
--- what every run keeps, also where all that wait are lost
+-- what every run keeps is kept where all that wait are lost
 pub losing_honest : (plan : Plan) (commands : List Task) (scope : Scope) (acts : List Act) (act : Act) → Invariant plan commands (stood plan commands scope acts)
     → Performs commands (stood plan commands scope acts) (action_at plan (stood plan commands scope acts)) act
     → IsHonest plan commands scope (acts ++ act ∷ []) (acts ++ act ∷ [])

@@ -28,7 +28,7 @@ use Rattle.gc_station.specs.Stations.{Refines, Took, Makes, Made, ComesTo, cut_p
 use Rattle.gc_station.specs.Tallies.{none_yet, tallied}
 use Rattle.gc_station.proofs.Records.{tallied-append, last-append}
 
--- how far it is changes, and nothing else
+-- a station whose progress changes is as the model whose progress changes so
 pub stands_with : (station : Station) (p : Progress) (f : Progress → Progress) (s : Model) → Refines station s → p ≡ f station.progress → Refines (record station { progress = p }) (with_progress f s)
 stands_with station p f s stands is = record {
   progress = is ∙ ap f stands.progress;
@@ -43,10 +43,12 @@ stands_with station p f s stands is = record {
 
 -- Bytes are put.
 
+-- a link that told a write of these bytes told an act that puts them
 pub put_puts : (put : Result (Unit {0}) ℕ) (bytes want : List ℕ) → bytes ≡ want → IsPart put bytes → Puts want (put_as put bytes)
 put_puts (Ok r) bytes want is part = is
 put_puts (Err n) bytes want is part = (is, subst (λ (xs : List ℕ). n < length xs) is part)
 
+-- behind a write, whole or cut, the station is as the model behind it
 pub put_stands : (put : Result (Unit {0}) ℕ) (bytes : List ℕ) (requests wanted : ℕ) (f : Model → Model) (s : Model) (mid new : Station) → Refines mid (f s)
     → new ≡ record mid { progress = cut_progress put requests mid.progress } → requests ≡ wanted → Refines new (after_put wanted f s (put_as put bytes))
 put_stands (Ok r) bytes requests wanted f s mid new stands is same = subst (λ (x : Station). Refines x (f s)) (sym is) stands
@@ -55,6 +57,7 @@ put_stands (Err n) bytes requests wanted f s mid new stands is same =
     subst (λ (x : Station). Refines x (with_progress (failing (cause.Write wanted n)) (f s))) (sym is)
     (stands_with mid (cut_progress (Err n) requests mid.progress) (failing (cause.Write wanted n)) (f s) stands why)
 
+-- a write adds no records
 pub put_took : (text : Record → List ℕ) (start taken : Option (List ℕ)) (put : Result (Unit {0}) ℕ) (bytes : List ℕ) (requests : ℕ) (f : Model → Model)
     (s : Model) → Took text start taken (f s) → Took text start taken (after_put requests f s (put_as put bytes))
 put_took text start taken (Ok r) bytes requests f s so = so
@@ -65,10 +68,12 @@ put_took text start taken (Err n) bytes requests f s so = so
 abbrev sent_to : ℕ → ById → Command → ℕ → ℕ → ById
 sent_to width ids command now wait = client_sent ids (sends width ids command.target command.call (later now wait))
 
+-- one request more waits behind a send
 sent_count : (c : ById) (target : ℕ) (call : Call) (deadline : ℕ) (b : Bool) → b ≡ false → length (client_sent c (id_send c target call deadline b)).waiting ≡ length c.waiting + 1
 sent_count c target call deadline true e = cc
 sent_count c target call deadline false e = length-append c.waiting _
 
+-- a station that sent a request is as the model that sent it
 pub asks_stands : (old new : Station) (s : Model) (wait : ℕ) (command other : Command) (mark : Option Mark) → Refines old s → length old.client.ids.waiting < WINDOW → command ≡ other
     → new ≡ record old {
       client = record old.client { ids = client_sent old.client.ids (sends old.client.width old.client.ids command.target command.call (later old.progress.moment.elapsed wait)) };
@@ -96,30 +101,32 @@ asks_stands old new s wait command other mark stands room e is =
       well = λ are. ap (λ (n : Station). n.well) is ∙ stands.well are;
     }
 
--- the first of those behind a place is the one at it
+-- the elements behind the first i begin with the one at place i
 pub drop_here : {A : Type 0} (xs : List A) (i : ℕ) (x : A) → i < length xs → x ≡ get_or xs i x → (others : List A) × (drop i xs ≡ x ∷ others)
 drop_here [] i x below e = absurd (omega (arith, below))
 drop_here (y ∷ ys) zero x below e = (ys, ap (λ z. z ∷ ys) (sym e))
 drop_here (y ∷ ys) (suc i) x below e = drop_here ys i x (omega (arith, below)) e
 
--- there is one
+-- there are elements behind the first i, where i is below the length
 pub drop_some : {A : Type 0} (xs : List A) (i : ℕ) → i < length xs → (x : A) × (others : List A) × (drop i xs ≡ x ∷ others)
 drop_some [] i below = absurd (omega (arith, below))
 drop_some (y ∷ ys) zero below = (y, ys, refl)
 drop_some (y ∷ ys) (suc i) below = drop_some ys i (omega (arith, below))
 
+-- a station that sent the first of these commands is as the model that sent it
 pub first_stands : (new : Station) (s : Model) (mark mark' : Mark) (list : List Task) (task : Task) (others : List Task) → list ≡ task ∷ others → mark ≡ mark'
     → Refines new (asks task.deadline task.command.target task.command.call (Some mark) s) → Refines new (asks_first mark' list s)
 first_stands new s mark mark' list task others is e stands =
     subst (λ (ts : List Task). Refines new (asks_first mark' ts s)) (sym is) (subst (λ (m : Mark). Refines new (asks task.deadline task.command.target task.command.call (Some m) s)) e stands)
 
+-- a send adds no records
 pub first_took : (text : Record → List ℕ) (start taken : Option (List ℕ)) (s : Model) (mark : Mark) (list : List Task) → Took text start taken s → Took text start taken (asks_first mark list s)
 first_took text start taken s mark [] so = so
 first_took text start taken s mark (task ∷ others) so = so
 
 -- A command is skipped.
 
--- its record
+-- the record that is written of the first of these commands, which isn't sent, is the one that the model has
 pub skips_as : (p : Progress) (m : Moment) (mark mark' : Mark) (utc : ℕ) (end : End) (list : List Task) (task : Task) (others : List Task)
     → list ≡ task ∷ others → mark ≡ mark' → utc ≡ skipped_at m p → end ≡ (if p.missed then Missed else Skipped)
     → record { sent = None; utc = utc; cycle = mark.cycle; place = mark.place; command = task.command; end = end } ∷ [] ≡ skips_first p m mark' list
@@ -133,11 +140,12 @@ unwell_end : (reads : Call → List ℕ → Reading) (call : Call) (b : Bool) �
 unwell_end reads call true = refl
 unwell_end reads call false = refl
 
--- a command that isn't sent wasn't answered well
+-- behind the record of a command that isn't sent, the last command wasn't answered well
 pub skips_unwell : (reads : Call → List ℕ → Reading) (b : Bool) (p : Progress) (m : Moment) (mark : Mark) (list : List Task) (task : Task)
     (others : List Task) → list ≡ task ∷ others → last_well reads b (skips_first p m mark list) ≡ false
 skips_unwell reads b p m mark list task others is = ap (λ ts. last_well reads b (skips_first p m mark ts)) is ∙ unwell_end reads task.command.call p.missed
 
+-- a station that counted the record of a command that isn't sent is as the model with that record
 pub skipped_stands : (old new : Station) (s : Model) (rs : List Record) → Refines old s → ((reads : Call → List ℕ → Reading) (b : Bool) → last_well reads b rs ≡ false)
     → new ≡ record old { tally = tallied old.tally rs; well = false } → Refines new (with_records rs s)
 skipped_stands old new s rs stands unwell is = record {
@@ -151,12 +159,13 @@ skipped_stands old new s rs stands unwell is = record {
   well = λ are. ap (λ (n : Station). n.well) is ∙ sym (last-append s.reads false s.records rs ∙ unwell s.reads (last_well s.reads false s.records));
 }
 
--- or not
+-- no records behind a model's leave it as it is
 pub none_skipped : (s : Model) → with_records [] s ≡ s
 none_skipped s = ap (λ (rs : List Record). record s { records = rs }) (append-nil s.records)
 
 -- A read.
 
+-- a station that made a read is as the model behind the read
 pub makes_read : (plan : Plan) (commands : List Task) (until : Until) (text : Record → List ℕ) (told told' : Option (List Act))
     (taken taken' : Option (List ℕ)) (station new : Station) (act : Act) → Tells told told' (act ∷ []) → IsReading act
     → ((s : Model) (start : Option (List ℕ)) → Refines station s → Took text start taken s → Refines new (after_read plan until s act) × Took text start taken' (after_read plan until s act))
@@ -164,6 +173,7 @@ pub makes_read : (plan : Plan) (commands : List Task) (until : Until) (text : Re
 makes_read plan commands until text told told' taken taken' station new act tells reads goes =
     record { act = act; tells = tells; goes = λ s start stands so. let g = goes s start stands so in (reads, g.0, g.1) }
 
+-- a read was made, and its records are in the book, or the book failed at one of them
 pub made_read : {X E : Type 0} (plan : Plan) (commands : List Task) (until : Until) (text : Record → List ℕ) (told told' : Option (List Act))
     (taken taken' : Option (List ℕ)) (station new : Station) (act : Act) (result : Result X E) → Tells told told' (act ∷ []) → IsReading act
     → ((s : Model) (start : Option (List ℕ)) → Refines station s → Took text start taken s → ComesTo text s.records new start taken' (after_read plan until s act) result)

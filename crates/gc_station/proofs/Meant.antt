@@ -18,7 +18,7 @@ use Rattle.gc_station.proofs.Invariant.{Invariant}
 use Rattle.gc_station.proofs.Midway.{clash}
 use Rattle.gc_station.proofs.Givens.{rest_with, after_rest}
 
--- a request goes out, and this is its line
+-- a request goes out by this part: the bytes are its line
 pub record IsSent (s : Model) (bytes : List ℕ) (p : Part) : Type 0 where
   pub target : ℕ
   pub call : Call
@@ -28,34 +28,36 @@ pub record IsSent (s : Model) (bytes : List ℕ) (p : Part) : Type 0 where
   pub text : bytes ≡ request_text s.client call
   pub room : length s.client.waiting < 7
 
--- these bytes are a line feed, or a request's line
+-- these bytes are a line feed, which is no part; or the line of a request that goes out by this part
 abbrev pub IsPut : Model → List ℕ → Part → Type 0
 IsPut s bytes p = ((bytes ≡ 10 ∷ []) × (p ≡ nothing)) ⊎ IsSent s bytes p
 
--- the bytes that an act puts
+-- the bytes that an act puts, whole or in part; none by any other act
 abbrev pub put_by : Act → Option (List ℕ)
 put_by (Put bytes) = Some bytes
 put_by (Cut bytes count) = Some bytes
 put_by _ = None
 
--- what is left of a line
+-- the bytes of a line that are kept behind an act, by whether bytes are heard
 abbrev pub left_of : Bool → List ℕ → Act → List ℕ
 left_of true rest (Gave piece m) = rest_behind rest piece
 left_of heard rest Closed = []
 left_of heard rest _ = rest
 
 module _ (plan : Plan) (commands : List Task) where
+  -- the bytes that an act puts are those that it is to put
   puts_same : (want bytes : List ℕ) (act : Act) → put_by act ≡ Some bytes → Puts want act → bytes ≡ want
   puts_same want bytes (Put out) e puts = cc
   puts_same want bytes (Cut out count) e puts = let same = puts.0 in cc
   puts_same want bytes act e puts = absurd puts
 
-  -- only an action that puts bytes is performed by putting some
+  -- an act that reads the clock, connects, reads or closes puts no bytes
   never_puts : (act : Act) (bytes : List ℕ) → put_by act ≡ Some bytes → (ReadsClock act ⊎ (IsOpening act ⊎ (IsReading act ⊎ (act ≡ Closed)))) → ⊥
   never_puts (Put out) bytes e h = elim h [ inl a ↦ a | inr b ↦ elim b [ inl c ↦ c | inr d ↦ elim d [ inl f ↦ f | inr g ↦ cc ] ] ]
   never_puts (Cut out count) bytes e h = elim h [ inl a ↦ a | inr b ↦ elim b [ inl c ↦ c | inr d ↦ elim d [ inl f ↦ f | inr g ↦ cc ] ] ]
   never_puts act bytes e h = cc
 
+  -- the next command goes out by the part of its request
   first_put : (s : Model) (left : List Task) (bytes : List ℕ) → 0 < length left → length s.client.waiting < 7 → bytes ≡ first_text s.client left
       → IsSent s bytes (asking_first s.progress.moment.elapsed (mark_next plan commands s.progress) left)
   first_put s [] bytes some room e = absurd (omega (arith, some))
@@ -69,10 +71,12 @@ module _ (plan : Plan) (commands : List Task) where
     room = room;
   }
 
+  -- a null procedure behind commands goes out by the part of its request
   null_put : (s : Model) (bytes : List ℕ) → length s.client.waiting < 7 → bytes ≡ request_text s.client NullProc
       → IsSent s bytes (asking 0 NullProc (later s.progress.moment.elapsed plan.deadline) None)
   null_put s bytes room e = record { target = 0; call = NullProc; deadline = later s.progress.moment.elapsed plan.deadline; mark = None; part = refl; text = e; room = room }
 
+  -- once the station has begun, bytes that an act of this action puts go out by its part
   put_order : (s : Model) (o : Action) (act : Act) (bytes : List ℕ) → Invariant plan commands s → IsFor plan s.progress (waiting_of s) o
       → Performs commands s o act → put_by act ≡ Some bytes → has_begun s.progress ≡ true → IsPut s bytes (putting plan commands s o)
   put_order s action.Clear act bytes fine is obeys e begun = inl (puts_same (10 ∷ []) bytes act e obeys, refl)
@@ -91,20 +95,22 @@ module _ (plan : Plan) (commands : List Task) where
   put_order s (action.Close why) act bytes fine is obeys e begun = absurd (never_puts act bytes e (inr (inr (inr obeys))))
   put_order s (action.Stop why) act bytes fine is obeys e begun = absurd obeys
 
-  -- of an act of a run, once it has begun
+  -- once the station has begun, bytes that an act of a run puts go out by its part
   pub put_is : (s : Model) (act : Act) (bytes : List ℕ) → Invariant plan commands s → Performs commands s (action_at plan s) act → put_by act ≡ Some bytes
       → has_begun s.progress ≡ true → IsPut s bytes (putting plan commands s (action_at plan s))
   put_is s act bytes fine obeys e begun = put_order s (action_at plan s) act bytes fine (action_for plan s.progress (waiting_of s)) obeys e begun
 
-  -- and while it begins: a line feed, or the null procedure that is asked for
+  -- while the station begins: these bytes are a line feed, which is no turn; or the null procedure of the first id that isn't answered
   abbrev pub IsAsked : Model → List ℕ → Part → Type 0
   IsAsked s bytes p = ((bytes ≡ 10 ∷ []) × (p ≡ nothing)) ⊎ ((bytes ≡ null_text s.progress.word) × (p ≡ only_turns (Asks ∷ [])))
 
+  -- an act that puts bytes as `Ask` is the turn that asks
   asked_turn : (s : Model) (act : Act) (bytes : List ℕ) → put_by act ≡ Some bytes → beginning s action.Ask act ≡ only_turns (Asks ∷ [])
   asked_turn s (Put out) bytes e = refl
   asked_turn s (Cut out count) bytes e = refl
   asked_turn s act bytes e = cc
 
+  -- while the station begins, bytes that an act of this action puts are a line feed or the null procedure of the first id that isn't answered
   asked_order : (s : Model) (o : Action) (act : Act) (bytes : List ℕ) → IsFor plan s.progress (waiting_of s) o → Performs commands s o act
       → put_by act ≡ Some bytes → has_begun s.progress ≡ false → IsAsked s bytes (beginning s o act)
   asked_order s action.Clear act bytes is obeys e begins = inl (puts_same (10 ∷ []) bytes act e obeys, refl)
@@ -120,6 +126,7 @@ module _ (plan : Plan) (commands : List Task) where
   asked_order s (action.Close why) act bytes is obeys e begins = absurd (never_puts act bytes e (inr (inr (inr obeys))))
   asked_order s (action.Stop why) act bytes is obeys e begins = absurd obeys
 
+  -- while the station begins, bytes that an act of a run puts are a line feed or the null procedure of the first id that isn't answered
   pub asked_is : (s : Model) (act : Act) (bytes : List ℕ) → Performs commands s (action_at plan s) act → put_by act ≡ Some bytes
       → has_begun s.progress ≡ false → IsAsked s bytes (beginning s (action_at plan s) act)
   asked_is s act bytes obeys e begins = asked_order s (action_at plan s) act bytes (action_for plan s.progress (waiting_of s)) obeys e begins
@@ -132,5 +139,6 @@ module _ (plan : Plan) (commands : List Task) where
   left_same true act rest = refl
   left_same false act rest = refl
 
+  -- an act of a run leaves the bytes of a line as `left_of` says
   pub rest_is : (s : Model) (act : Act) → Performs commands s (action_at plan s) act → (after plan commands s act).rest ≡ left_of (is_heard s.progress.phase) s.rest act
   rest_is s act obeys = after_rest plan commands s act obeys ∙ left_same (is_heard s.progress.phase) act s.rest

@@ -27,7 +27,7 @@ use Rattle.gc_station.specs.Model.{Model, client_sent, losing, ended}
 use Rattle.gc_station.proofs.Each.{EachIs, each_moment, each_settles, each_null, each_sent, each_skipped, each_begun}
 use Rattle.gc_station.proofs.Invariant.{Invariant, is_bare, says_done}
 
--- the counts, the client and the records
+-- the records and the commands that wait are what was sent, by these counts; and the client's ids and window are right
 pub record Sound (plan : Plan) (commands : List Task) (left unsent : ℕ) (client : ById) (marks : List (Option Mark)) (records : List Record) : Type 0 where
   pub unsents : unsent ≤ length commands
   pub lefts : left ≤ plan.cycles
@@ -37,22 +37,24 @@ pub record Sound (plan : Plan) (commands : List Task) (left unsent : ℕ) (clien
   pub digit : client.next < 8
   pub each : EachIs marks client.waiting records (sent_by commands (plan.cycles - left) (length commands - unsent))
 
--- what the phase says of the others
+-- what a phase says of the counts, the bytes that are kept and the marks
 pub record Placed (phase : Phase) (left unsent : ℕ) (rest : List ℕ) (marks : List (Option Mark)) : Type 0 where
   pub empty : is_bare phase ≡ true → rest ≡ []
   pub finished : says_done phase ≡ true → (left ≡ 0) × (unsent ≡ 0) × ((is_over_in phase ≡ true) ⊎ (commands_in marks ≡ 0))
 
+-- `Sound` by the counts of this progress
 abbrev pub SoundAt : Plan → List Task → Progress → ById → List (Option Mark) → List Record → Type 0
 SoundAt plan commands p client marks records = Sound plan commands p.left p.unsent client marks records
 
+-- `Placed` by the phase and the counts of this progress
 abbrev pub PlacedAt : Progress → List ℕ → List (Option Mark) → Type 0
 PlacedAt p rest marks = Placed p.phase p.left p.unsent rest marks
 
--- both, of a model
+-- the weaker record: both of a model
 abbrev pub Mid : Plan → List Task → Model → Type 0
 Mid plan commands s = SoundAt plan commands s.progress s.client s.marks s.records × PlacedAt s.progress s.rest s.marks
 
--- what every run keeps is the stronger of the two
+-- what every run keeps gives the weaker record
 pub mid_of : (plan : Plan) (commands : List Task) (s : Model) → Invariant plan commands s → Mid plan commands s
 mid_of plan commands s fine = (
   record {
@@ -75,7 +77,7 @@ clash b e g = cc
 
 -- What holds of the counts and the records.
 
--- a moment
+-- a moment that gives requests up keeps `Sound`
 pub sound_moment : (plan : Plan) (commands : List Task) (left unsent : ℕ) (client : ById) (marks : List (Option Mark)) (records : List Record) (m : ℕ)
     → Sound plan commands left unsent client marks records
     → Sound plan commands left unsent (expires client m) marks records
@@ -91,7 +93,7 @@ sound_moment plan commands left unsent client marks records m sound =
       each = each_moment marks client.waiting records (sent_by commands (plan.cycles - left) (length commands - unsent)) m sound.each;
     }
 
--- some are settled
+-- settlements of the oldest requests keep `Sound`
 pub sound_settles : (reads : Call → List ℕ → Reading) (plan : Plan) (commands : List Task) (left unsent : ℕ) (client next : ById) (marks : List (Option Mark))
     (records : List Record) (utc : ℕ) (ss : List Settlement)
     → map of_settled ss ++ map of_pending next.waiting ≡ map of_pending client.waiting → next.next < 8 → Sound plan commands left unsent client marks records
@@ -113,7 +115,7 @@ sound_settles reads plan commands left unsent client next marks records utc ss p
       each = each_settles reads utc marks client.waiting next.waiting ss records (sent_by commands (plan.cycles - left) (length commands - unsent)) parts sound.each;
     }
 
--- a send goes where there is room
+-- where there is room, the client behind a send has the next id, and one request more that waits
 pub client_behind : (client : ById) (target : ℕ) (call : Call) (deadline : ℕ) → length client.waiting < 7
     → client_sent client (sends WINDOW client target call deadline) ≡ record { next = (client.next + 1) % IDS; waiting = client.waiting ++ pending_of target call deadline ∷ [] }
 client_behind client target call deadline room =
@@ -121,10 +123,11 @@ client_behind client target call deadline room =
       room_left : (n : ℕ) → n < 7 → nat_eq n 7 ≡ false
       room_left n room = grind (arith, nat_tests, room)
 
+-- with one request and one mark more there are still as many
 one_more : (marks : List (Option Mark)) (ws : List Pending) (m : Option Mark) (p : Pending) → length marks ≡ length ws → length (marks ++ m ∷ []) ≡ length (ws ++ p ∷ [])
 one_more marks ws m p paired = length-append marks (m ∷ []) ∙ ap (λ n. n + 1) paired ∙ sym (length-append ws (p ∷ []))
 
--- a null procedure is sent
+-- a null procedure that is sent keeps `Sound`
 pub sound_null : (plan : Plan) (commands : List Task) (left unsent : ℕ) (client : ById) (marks : List (Option Mark)) (records : List Record) (target : ℕ) (call : Call) (deadline : ℕ)
     → length client.waiting < 7 → Sound plan commands left unsent client marks records
     → Sound plan commands left unsent (client_sent client (sends WINDOW client target call deadline)) (marks ++ None ∷ []) records
@@ -141,7 +144,7 @@ sound_null plan commands left unsent client marks records target call deadline r
       each = each_null marks client.waiting p records (sent_by commands (plan.cycles - left) (length commands - unsent)) sound.paired sound.each;
     })
 
--- a command is sent
+-- a command that is sent keeps `Sound`, with one less unsent
 pub sound_sent : (plan : Plan) (commands : List Task) (left unsent : ℕ) (client : ById) (marks : List (Option Mark)) (records : List Record) (utc deadline : ℕ) (near : Option Near) (task : Task) (others : List Task)
     → length client.waiting < 7 → 0 < unsent → drop (length commands - unsent) commands ≡ task ∷ others → Sound plan commands left unsent client marks records
     → Sound plan commands left (unsent - 1) (client_sent client (sends WINDOW client task.command.target task.command.call deadline))
@@ -166,7 +169,7 @@ sound_sent plan commands left unsent client marks records utc deadline near task
       each = subst (λ (n : ℕ). EachIs (marks ++ Some mark ∷ []) (client.waiting ++ p ∷ []) records (sent_by commands begun n)) (sym place_is) each;
     })
 
--- a command isn't sent
+-- a command that isn't sent keeps `Sound`, with one less unsent
 pub sound_skipped : (plan : Plan) (commands : List Task) (left unsent : ℕ) (client : ById) (marks : List (Option Mark)) (records : List Record) (utc : ℕ) (end : End) (task : Task) (others : List Task)
     → commands_in marks ≡ 0 → 0 < unsent → drop (length commands - unsent) commands ≡ task ∷ others → Sound plan commands left unsent client marks records
     → Sound plan commands left (unsent - 1) client marks (records ++ record
@@ -189,7 +192,7 @@ sound_skipped plan commands left unsent client marks records utc end task others
           (each_skipped commands begun place marks client.waiting records r task others none at refl many sound.each);
     }
 
--- a cycle begins
+-- the beginning of a cycle keeps `Sound`
 pub sound_begun : (plan : Plan) (commands : List Task) (left unsent : ℕ) (client : ById) (marks : List (Option Mark)) (records : List Record)
     → unsent ≡ 0 → commands_in marks ≡ 0 → 0 < left → Sound plan commands left unsent client marks records → Sound plan commands (left - 1) (length commands) client marks records
 sound_begun plan commands left unsent client marks records none settled some sound =
@@ -207,15 +210,18 @@ sound_begun plan commands left unsent client marks records none settled some sou
 
 -- The end of what waits.
 
+-- where nothing is lost, the station has begun and an act follows
 kept_for : (a o : Bool) → (not a || o) ≡ false → (a ≡ true) × (o ≡ false)
 kept_for true o e = (refl, e)
 kept_for false o e = cc
 
+-- where what the phase says of a run that is done holds, and the run isn't over, no command waits
 still_finished : (p : Progress) (marks : List (Option Mark)) → is_over p ≡ false
     → (p.left ≡ 0) × (p.unsent ≡ 0) × ((is_over_in p.phase ≡ true) ⊎ (commands_in marks ≡ 0)) → (p.left ≡ 0) × (p.unsent ≡ 0) × (commands_in marks ≡ 0)
 still_finished p marks not_over (left, unsent, inl over) = absurd (clash (is_over p) (ap (λ b. b || (not (is_up p.phase) && nat_eq p.turns 0)) over) not_over)
 still_finished p marks not_over (left, unsent, inr none) = (left, unsent, none)
 
+-- the weaker record gives what every run keeps, once what waits is lost where it is to be
 fine_losing : (plan : Plan) (commands : List Task) (s : Model) (b : Bool) → loses_all s.progress ≡ b → Mid plan commands s → Invariant plan commands (losing b s)
 fine_losing plan commands s true is (sound, placed) =
     let p = s.progress in
@@ -255,5 +261,6 @@ fine_losing plan commands s false is (sound, placed) =
       each = sound.each;
     }
 
+-- the weaker record gives what every run keeps behind the whole act
 pub fine_ended : (plan : Plan) (commands : List Task) (s : Model) → Mid plan commands s → Invariant plan commands (ended s)
 fine_ended plan commands s mid = fine_losing plan commands s (loses_all s.progress) refl mid

@@ -45,9 +45,12 @@ use Rattle.gc_station.specs.Scopes.{Scope}
 lines_moment : (s : Model) (lines : List (List ℕ)) → (lines_came s lines).progress.moment ≡ s.progress.moment
 lines_moment s lines = lines_along (λ (t : Model). t.progress.moment ≡ s.progress.moment) (λ t line e. e) s lines refl
 
+-- none of these lines is a reply, and `alive` and `asked` are as in the model; or the line was alive at the moment told last, and no
+-- request went out since
 abbrev Alive : Model → List (List ℕ) → Progress → Type 0
 Alive s lines p = (AllByRecursion IsNoReply lines × (p.alive ≡ s.progress.alive) × (p.asked ≡ s.progress.asked)) ⊎ ((p.alive ≡ s.progress.moment.elapsed) × (p.asked ≡ false))
 
+-- `Alive` holds behind lines that the client hears
 lines_alive : (s : Model) (lines : List (List ℕ)) → Alive s lines (lines_came s lines).progress
 lines_alive s [] = inl (tt, refl, refl)
 lines_alive s (line ∷ others) = on (is_reply line) refl (lines_alive (line_came s line) others) where
@@ -62,26 +65,29 @@ lines_alive s (line ∷ others) = on (is_reply line) refl (lines_alive (line_cam
   on true e (inl none) = inr (none.1 ∙ here true e, none.2 ∙ asks true e)
   on false e (inl none) = inl ((e, none.0), none.1 ∙ here false e, none.2 ∙ asks false e)
 
--- a line that doesn't read as a reply has no id, and answers nothing
+-- a line that doesn't read as a reply has no id
 no_reply : (line : List ℕ) → is_reply line ≡ false → heard line ≡ None
 no_reply line e = by_reply (reply_at line) e where
   by_reply : (r : Result ReplyFields LineFault) → is_ok r ≡ false → id_in r ≡ None
   by_reply (Ok fields) e = cc
   by_reply (Err fault) e = refl
 
+-- a line without an id answers no null procedure
 left_same : (word : List ℕ) (id : Option ℕ) → id ≡ None → left_by word id ≡ word
 left_same [] id e = refl
 left_same (asked ∷ others) id e = ap (λ (i : Option ℕ). left_by (asked ∷ others) i) e
 
+-- a line without an id doesn't change when a null procedure goes out again
 again_same : (word : List ℕ) (id : Option ℕ) (again : ℕ) → id ≡ None → (if is_answered word id then 0 else again) ≡ again
 again_same [] id again e = refl
 again_same (asked ∷ others) id again e = ap (λ (i : Option ℕ). if is_answered (asked ∷ others) i then 0 else again) e
 
--- the same while it begins
+-- as `Alive`, while the station begins: lines of which none is a reply leave what is left of the beginning, too
 abbrev AliveAsked : Progress → List (List ℕ) → Progress → Type 0
 AliveAsked p lines q =
     (AllByRecursion IsNoReply lines × (q.alive ≡ p.alive) × (q.asked ≡ p.asked) × (q.word ≡ p.word) × (q.again ≡ p.again)) ⊎ ((q.alive ≡ p.moment.elapsed) × (q.asked ≡ false))
 
+-- `AliveAsked` holds behind lines that the beginning hears
 asked_alive : (p : Progress) (lines : List (List ℕ)) → AliveAsked p lines (lines_asked p lines)
 asked_alive p [] = inl (tt, refl, refl, refl, refl)
 asked_alive p (line ∷ others) = on (is_reply line) refl (asked_alive (line_asked p line) others) where
@@ -101,7 +107,8 @@ asked_alive p (line ∷ others) = on (is_reply line) refl (asked_alive (line_ask
       let silent = no_reply line e in
       inl ((e, none.0), none.1 ∙ here false e, none.2 ∙ asks false e, none.3 ∙ left_same p.word (heard line) silent, none.4 ∙ again_same p.word (heard line) p.again silent)
 
--- where a reply line may come on the connection: it has begun, or a null procedure went out on it
+-- whether a reply line is waited for on the connection: the station has begun, or a null procedure went out on it, or a request behind
+-- the last reply line
 abbrev is_sought : List ℕ → ℕ → Bool → Bool
 is_sought word again asked = is_none_left word || (nat_lt 0 again || asked)
 
@@ -114,47 +121,53 @@ sought_again word again asked e = ap (λ b. is_none_left word || (b || asked)) e
 sought_asked : (word : List ℕ) (again : ℕ) (asked : Bool) → asked ≡ true → is_sought word again asked ≡ true
 sought_asked word again asked e = ap (λ b. is_none_left word || (nat_lt 0 again || b)) e ∙ ap (λ b. is_none_left word || b) (or_true (nat_lt 0 again)) ∙ or_true (is_none_left word)
 
--- since when no reply line came: where no request went out since the last one, none behind that moment; else one went out at once, or the
--- clock went back then
+-- which requests went out behind the moment since when no reply line came: none, where no request is waited for; else one at once, or
+-- the clock went back then
 abbrev Asks : Bool → ℕ → List Act → List Act → Type 0
 Asks false from before behind = AllByRecursion IsListening behind
 Asks true from before behind = ((text : List ℕ) × (others : List Act) × (behind ≡ Put text ∷ others)) ⊎ WentBack from before
 
+-- where a request went out at once, `Asks` lasts over whatever follows
 asks_still : (from : ℕ) (before behind : List Act) (act : Act) → Asks true from before behind → Asks true from before (behind ++ act ∷ [])
 asks_still from before behind act (inl put) = inl (put.0, put.1 ++ act ∷ [], ap (λ xs. xs ++ act ∷ []) put.2)
 asks_still from before behind act (inr back) = inr back
 
+-- an act that puts no bytes keeps `Asks`
 asks_on : (asked : Bool) (from : ℕ) (before behind : List Act) (act : Act) → IsListening act → Asks asked from before behind → Asks asked from before (behind ++ act ∷ [])
 asks_on false from before behind act listens asks = all_append IsListening behind (act ∷ []) asks (listens, tt)
 asks_on true from before behind act listens asks = asks_still from before behind act asks
 
+-- whether a request is waited for or not, `Asks` gives what `IsMuteFor` says of requests
 asks_any : (asked : Bool) (from : ℕ) (before behind : List Act) → Asks asked from before behind
     → AllByRecursion IsListening behind ⊎ (((text : List ℕ) × (others : List Act) × (behind ≡ Put text ∷ others)) ⊎ WentBack from before)
 asks_any false from before behind asks = inl asks
 asks_any true from before behind asks = inr asks
 
 module _ (plan : Plan) (commands : List Task) (scope : Scope) where
-  -- behind an act that told a moment no reply line came on the same connection; this moment was told last
+  -- behind an act that told a moment no reply line came on the same connection; and `now` is the moment told last
   abbrev Mutes : Bool → ℕ → ℕ → List Act → Act → List Act → Type 0
   Mutes asked alive now before start behind =
       TellsMoment alive start × AllByRecursion StaysConnected behind × IsMute plan commands (stood plan commands scope (before ++ start ∷ [])) behind
       × Asks asked alive before behind × (latest alive behind ≡ now) × (alive ≤ now)
 
+  -- there is an act among these of which `Mutes` holds
   abbrev IsMuted : Bool → ℕ → ℕ → List Act → Type 0
   IsMuted asked alive now acts = Since (Mutes asked alive now) acts
 
+  -- acts that bring no reply, and one more that brings none, are mute together
   mute_more : (s : Model) (xs : List Act) (act : Act) → IsMute plan commands s xs → BringsNoReply (after_all plan commands s xs).rest act → IsMute plan commands s (xs ++ act ∷ [])
   mute_more s [] act mute here = (here, tt)
   mute_more s (x ∷ xs) act mute here = (mute.0, mute_more (after plan commands s x) xs act mute.1 here)
 
-  -- it begins
+  -- a silence begins with an act that tells a moment, if `Asks` holds there
   muted_from : (asked : Bool) (now : ℕ) (acts : List Act) (act : Act) → TellsMoment now act → Asks asked now acts [] → IsMuted asked now now (acts ++ act ∷ [])
   muted_from asked now acts act tells asks = let least : now ≤ now = omega arith in since_now (Mutes asked now now) acts act (tells, tt, tt, asks, refl, least)
 
+  -- a silence begins with an act that tells a moment, where no request is waited for
   muted_now : (now : ℕ) (acts : List Act) (act : Act) → TellsMoment now act → IsMuted false now now (acts ++ act ∷ [])
   muted_now now acts act tells = muted_from false now acts act tells tt
 
-  -- it goes on
+  -- a silence goes on behind an act that brings no reply
   muted_on : (asked : Bool) (alive now : ℕ) (acts : List Act) (act : Act) → StaysConnected act → BringsNoReply (stood plan commands scope acts).rest act
       → ((before behind : List Act) → Asks asked alive before behind → Asks asked alive before (behind ++ act ∷ [])) → alive ≤ latest now (act ∷ []) → IsMuted asked alive now acts
       → IsMuted asked alive (latest now (act ∷ [])) (acts ++ act ∷ [])
@@ -171,7 +184,7 @@ module _ (plan : Plan) (commands : List Task) (scope : Scope) where
         least,
       )) q
 
-  -- or begins at the last moment, where a request goes out
+  -- a silence begins at the last moment, where a request goes out behind it
   muted_asking : (now : ℕ) (acts : List Act) (out : List ℕ) → LastTells now acts → IsMuted true now now (acts ++ Put out ∷ [])
   muted_asking now acts out (front, last, action, tells) =
       let least : now ≤ now = omega arith in
@@ -183,7 +196,7 @@ module _ (plan : Plan) (commands : List Task) (scope : Scope) where
         holds = (tells, (tt, tt), (tt, tt), inl (out, [], refl), refl, least);
       }
 
-  -- or anew, where the clock went back
+  -- where the clock goes back to a moment before a silence began, `Asks` holds of the silence that begins at that moment
   went_back : (asked : Bool) (alive now m : ℕ) (acts : List Act) → m < alive → IsMuted asked alive now acts → Asks asked m acts []
   went_back false alive now m acts less q = tt
   went_back true alive now m acts less q =
@@ -200,6 +213,7 @@ module _ (plan : Plan) (commands : List Task) (scope : Scope) where
         later = later;
       })
 
+  -- a silence goes on behind an act that tells a moment, or begins anew there where the clock went back
   muted_clock : (asked : Bool) (alive now : ℕ) (m : Moment) (acts : List Act) (act : Act) (b : Bool) → nat_le alive m.elapsed ≡ b → TellsMoment m.elapsed act
       → latest now (act ∷ []) ≡ m.elapsed → StaysConnected act → IsListening act
       → BringsNoReply (stood plan commands scope acts).rest act → IsMuted asked alive now acts → IsMuted asked (min alive m.elapsed) m.elapsed (acts ++ act ∷ [])
@@ -216,20 +230,23 @@ module _ (plan : Plan) (commands : List Task) (scope : Scope) where
 
   -- By the phase.
 
+  -- in the phase `Ready`, if a reply line is waited for, there was a silence since `alive`
   abbrev Mute : Bool → Bool → ℕ → ℕ → Phase → List Act → Type 0
   Mute sought asked alive now phase.Ready acts = sought ≡ true → IsMuted asked alive now acts
   Mute sought asked alive now _ acts = Unit {0}
 
+  -- `Mute`, by the fields of a progress
   abbrev MuteAt : Progress → List Act → Type 0
   MuteAt p acts = Mute (is_sought p.word p.again p.asked) p.asked p.alive p.moment.elapsed p.phase acts
 
   -- What each act leaves.
 
+  -- where no connection is in use, `Mute` says nothing
   mute_none : (sought asked : Bool) (alive now : ℕ) (at : Phase) (acts : List Act) → is_in_use at ≡ false → Mute sought asked alive now at acts
   mute_none sought asked alive now phase.Ready acts none = cc
   mute_none sought asked alive now at acts none = tt
 
-  -- a moment is told, and no reply line came with it
+  -- `Mute` lasts over an act that tells a moment and brings no reply line
   mute_told : (sought sought' asked : Bool) (alive now : ℕ) (m : Moment) (at : Phase) (acts : List Act) (act : Act)
       → (at ≡ phase.Ready → sought' ≡ true → sought ≡ true) → TellsMoment m.elapsed act → latest now (act ∷ []) ≡ m.elapsed → StaysConnected act
       → IsListening act
@@ -238,7 +255,7 @@ module _ (plan : Plan) (commands : List Task) (scope : Scope) where
       λ so. muted_clock asked alive now m acts act (nat_le alive m.elapsed) refl tells is stays listens none (q (back refl so))
   mute_told sought sought' asked alive now m at acts act back tells is stays listens none q = tt
 
-  -- a piece was heard: with a reply line the line was alive at this moment
+  -- `Mute` lasts over a piece that is heard; with a reply line in it the line was alive at its moment
   heard_mute : (s : Model) (bytes : List ℕ) (m : Moment) (acts : List Act) (q : Progress) → (stood plan commands scope acts).rest ≡ s.rest → q.moment.elapsed ≡ m.elapsed
       → (AllByRecursion IsNoReply (lines_behind s.rest bytes) × (q.alive ≡ min s.progress.alive m.elapsed) × (q.asked ≡ s.progress.asked)
       × IsMuted s.progress.asked s.progress.alive s.progress.moment.elapsed acts)
@@ -259,12 +276,13 @@ module _ (plan : Plan) (commands : List Task) (scope : Scope) where
         (muted_clock s.progress.asked s.progress.alive s.progress.moment.elapsed m acts (Gave bytes m) (nat_le s.progress.alive m.elapsed) refl refl refl tt tt quiet none.3)
     by_alive (inr reply) = carried false m.elapsed reply.1 reply.0 (muted_now m.elapsed acts (Gave bytes m) refl)
 
+  -- a piece leaves the phase and the moment
   came_moment : (h : Bool) (word bytes : List ℕ) (s : Model) → ((came h word bytes s).progress.phase ≡ s.progress.phase) × ((came h word bytes s).progress.moment ≡ s.progress.moment)
   came_moment h word bytes s =
       came_along (λ (t : Model). (t.progress.phase ≡ s.progress.phase) × (t.progress.moment ≡ s.progress.moment)) (λ t line e. e) h word bytes s (refl, refl)
       (asked_along (λ (q : Progress). (q.phase ≡ s.progress.phase) × (q.moment ≡ s.progress.moment)) (λ q line e. e) s.progress (lines_behind s.rest bytes) (refl, refl)) (refl, refl)
 
-  -- while requests may go out
+  -- `Mute` lasts over a piece in the phase `Ready`
   ready_mute : (s : Model) (bytes : List ℕ) (m : Moment) (acts : List Act) (word : List ℕ) → s.progress.word ≡ word → (stood plan commands scope acts).rest ≡ s.rest
       → (is_sought s.progress.word s.progress.again s.progress.asked ≡ true → IsMuted s.progress.asked s.progress.alive s.progress.moment.elapsed acts)
       → (let q = (came true word bytes (with_moment m (with_progress (told m) s))).progress in is_sought q.word q.again q.asked ≡ true
@@ -303,6 +321,7 @@ module _ (plan : Plan) (commands : List Task) (scope : Scope) where
             inl (none.0, none.1, none.2, h (same ∙ so))
         by_lines (inr now) = inr now
 
+  -- `Mute` lasts over a piece in any phase
   gave_mute : (s : Model) (bytes : List ℕ) (m : Moment) (at : Phase) (acts : List Act) → s.progress.phase ≡ at → (stood plan commands scope acts).rest ≡ s.rest
       → Mute (is_sought s.progress.word s.progress.again s.progress.asked) s.progress.asked s.progress.alive s.progress.moment.elapsed at acts
       → MuteAt (came (is_heard at) s.progress.word bytes (with_moment m (with_progress (told m) s))).progress (acts ++ Gave bytes m ∷ [])
@@ -316,27 +335,30 @@ module _ (plan : Plan) (commands : List Task) (scope : Scope) where
       subst (λ (x : Phase). Mute (is_sought q.word q.again q.asked) q.asked q.alive q.moment.elapsed x (acts ++ Gave bytes m ∷ []))
       (sym ((came_moment (is_heard at) s.progress.word bytes (with_moment m (with_progress (told m) s))).0 ∙ is)) tt
 
-  -- a request goes out
+  -- behind a request a silence goes on, or begins with the moment told last
   muted_asks : (asked : Bool) (alive now : ℕ) (acts : List Act) (out : List ℕ) → LastTells now acts → (asked ≡ true → IsMuted true alive now acts)
       → IsMuted true (if asked then alive else now) now (acts ++ Put out ∷ [])
   muted_asks true alive now acts out tells q = let it = q refl in muted_on true alive now acts (Put out) tt tt (λ before behind asks. asks_still alive before behind (Put out) asks) it.holds.5 it
   muted_asks false alive now acts out tells q = muted_asking now acts out tells
 
-  -- where requests go out, the moment was told last
+  -- where this action sends, begins anew or closes a dead line, the progress's moment is the one told last
   abbrev Tells : Progress → List Act → Action → Type 0
   Tells p acts actions.Ask = LastTells p.moment.elapsed acts
   Tells p acts actions.Send = LastTells p.moment.elapsed acts
   Tells p acts actions.Flush = LastTells p.moment.elapsed acts
   Tells p acts _ = Unit {0}
 
+  -- `MuteAt` in the phase that it is
   in_phase : (p : Progress) (at : Phase) (acts : List Act) → p.phase ≡ at → MuteAt p acts → Mute (is_sought p.word p.again p.asked) p.asked p.alive p.moment.elapsed at acts
   in_phase p at acts is q = subst (λ (x : Phase). Mute (is_sought p.word p.again p.asked) p.asked p.alive p.moment.elapsed x acts) is q
 
+  -- `MuteAt` lasts over an act that tells a moment
   told_mute : (sought : Bool) (p : Progress) (m : Moment) (acts : List Act)
       → (p.phase ≡ phase.Ready → sought ≡ true → is_sought p.word p.again p.asked ≡ true) → MuteAt p acts
       → Mute sought p.asked (min p.alive m.elapsed) m.elapsed p.phase (acts ++ Told m ∷ [])
   told_mute sought p m acts back q = mute_told (is_sought p.word p.again p.asked) sought p.asked p.alive p.moment.elapsed m p.phase acts (Told m) back refl refl tt tt tt q
 
+  -- `MuteAt` lasts over a request
   asks_mute : (sought : Bool) (p : Progress) (acts : List Act) (out : List ℕ) → p.phase ≡ phase.Ready → LastTells p.moment.elapsed acts → MuteAt p acts
       → Mute sought true (if p.asked then p.alive else p.moment.elapsed) p.moment.elapsed p.phase (acts ++ Put out ∷ [])
   asks_mute sought p acts out is tells q =
@@ -344,13 +366,13 @@ module _ (plan : Plan) (commands : List Task) (scope : Scope) where
       (λ so. muted_asks p.asked p.alive p.moment.elapsed acts out tells
       (λ e. subst (λ b. IsMuted b p.alive p.moment.elapsed acts) e (in_phase p phase.Ready acts is q (sought_asked p.word p.again p.asked e))))
 
-  -- a beginning goes on without a drain: no null procedure went out on this connection
+  -- `Mute` holds of a connection that was cleared: where a beginning goes on with it, no null procedure went out on it yet
   cleared_mute : (begun : Bool) (p : Progress) (acts : List Act) → has_begun p ≡ begun
       → Mute (is_sought p.word 0 false) false p.alive p.moment.elapsed (if begun then phase.Draining else phase.Ready) acts
   cleared_mute true p acts e = tt
   cleared_mute false p acts e = λ so. absurd (clash (is_sought p.word 0 false) so (ap (λ b. b || false) e))
 
-  -- it begins anew: the time of a dead line goes on, or begins with the next request
+  -- `Mute` lasts where the station begins anew: the time after which the line is dead goes on, or begins with the next request
   mute_where : (asked on : Bool) (alive now : ℕ) (at : Phase) (acts : List Act) → Mute (is_sought the_word 0 asked) asked alive now at acts
       → Mute (is_sought the_word 0 (asked && on)) (asked && on) alive now at acts
   mute_where true true alive now at acts q = q
@@ -358,6 +380,7 @@ module _ (plan : Plan) (commands : List Task) (scope : Scope) where
   mute_where true false alive now at acts q = tt
   mute_where false on alive now at acts q = q
 
+  -- `MuteAt` lasts over an act of any action
   mute_line : (next : Action) (s : Model) (acts : List Act) → IsFor plan s.progress (waiting_of s) next → Tells s.progress acts next → (stood plan commands scope acts).rest ≡ s.rest
       → MuteAt s.progress acts → OnLine plan commands MuteAt next (with_progress turned s) acts
   mute_line actions.Open s acts needs tells rest q = λ m. tt
@@ -389,6 +412,7 @@ module _ (plan : Plan) (commands : List Task) (scope : Scope) where
   tells_in p acts actions.Flush awake last = last awake
   tells_in p acts next awake last = tt
 
+  -- `MuteAt` holds behind every run
   mute_stood : (acts : List Act) → Runs plan commands (opening plan scope) acts → MuteAt (stood plan commands scope acts).progress acts
   mute_stood acts runs = always_far plan commands (opening plan scope) MuteAt step tt acts runs where
     step : (done : List Act) (act : Act) → Runs plan commands (opening plan scope) done
@@ -402,7 +426,7 @@ module _ (plan : Plan) (commands : List Task) (scope : Scope) where
         on_line plan commands MuteAt (λ x acts none. mute_none (is_sought x.word x.again x.asked) x.asked x.alive x.moment.elapsed x.phase acts none)
         (action_at plan s) s act done o (mute_line (action_at plan s) s done (action_for plan p (waiting_of s)) tells refl q)
 
-  -- where something waits, or the null procedure that is asked for went out, a reply may come
+  -- where a request waits, or a null procedure went out on this connection, a reply line is waited for
   sought_dead : (s : Model) → Invariant plan commands s → (nat_lt 0 (length s.client.waiting) || nat_lt 0 s.progress.again) ≡ true → is_sought s.progress.word s.progress.again s.progress.asked ≡ true
   sought_dead s fine e = by_again (nat_lt 0 s.progress.again) refl where
     p : Progress
@@ -419,6 +443,7 @@ module _ (plan : Plan) (commands : List Task) (scope : Scope) where
     by_again true again = sought_again p.word p.again p.asked again
     by_again false again = by_begun (has_begun p) refl (either_true (nat_lt 0 (length s.client.waiting)) (nat_lt 0 p.again) e again)
 
+  -- a connection is closed for a dead line only behind a silence that was long enough
   pub mute_close : (acts : List Act) → Runs plan commands (opening plan scope) acts
       → action_at plan (stood plan commands scope acts) ≡ actions.Close cause.Dead → IsMuteFor (patience_of plan) plan commands scope acts
   mute_close acts runs is = record {

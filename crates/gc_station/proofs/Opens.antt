@@ -19,9 +19,11 @@ use Rattle.gc_station.proofs.Silences.{quieted_up}
 use Rattle.gc_station.proofs.Walk.{walk}
 use Rattle.gc_station.proofs.Turns.{up_count, again_down, closed_down}
 
+-- the connections that an act asks for, and the one before it, are as many as those that end or can't be made, and the one behind it
 abbrev pub Counted : Bool → Act → Bool → Type 0
 Counted before act behind = opens_in (act ∷ []) + up_count before ≡ ends_in (act ∷ []) + up_count behind
 
+-- `Counted`, by the phases of models
 abbrev Counts : Model → Act → Model → Type 0
 Counts s act t = Counted (is_up s.progress.phase) act (is_up t.progress.phase)
 
@@ -32,13 +34,14 @@ fails false why = refl
 calm : (before behind : Bool) → behind ≡ before → 0 + up_count before ≡ 0 + up_count behind
 calm before behind same = ap (λ b. 0 + up_count b) (sym same)
 
--- a call failed
+-- a failure leaves the connection, to be closed
 failed : (s : Model) (why : Cause) → 0 + up_count (is_up s.progress.phase) ≡ 0 + up_count (is_up (with_progress (failing why) s).progress.phase)
 failed s why = let up = is_up s.progress.phase in calm up (is_up (if up then phase.Closing why else phase.Over why)) (fails up why)
 
 close_counted : (before behind : Bool) → before ≡ true → behind ≡ false → Counted before Closed behind
 close_counted before behind up down = let a : up_count before ≡ 1 = ap up_count up in let b : up_count behind ≡ 0 = ap up_count down in omega (arith, a, b)
 
+-- an act of each action is `Counted`
 pub counted_moved : (plan : Plan) (commands : List Task) (next : Action) (s : Model) (act : Act) → Performs commands s next act → IsFor plan s.progress (waiting_of s) next
     → Counted (is_up s.progress.phase) act (is_up (moved plan commands next (with_progress turned s) act).progress.phase)
 counted_moved plan commands actions.Open s act o needs =

@@ -29,16 +29,16 @@ use Rattle.gc_station.proofs.Hearing.{hears_paired}
 use Rattle.gc_station.proofs.Midway.{clash}
 use Rattle.gc_station.proofs.Walk.{is_sent, walk}
 
--- from one model to another
+-- this part takes the client of one model, with its marks and records, to those of another
 abbrev pub Leads : List Task → Model → Part → Model → Type 0
 Leads commands s p t = Books s.reads commands s.client s.marks (sent_of s.records) p t.client t.marks (sent_of t.records)
 
--- each request that waits has a mark
+-- each request of a model that waits has a mark
 abbrev pub Paired : Model → Type 0
 Paired s = length s.marks ≡ length s.client.waiting
 
 module _ (plan : Plan) (commands : List Task) where
-  -- a line is heard
+  -- a line that is heard is the step that hears it
   heard_books : (s : Model) (line : List ℕ) → Paired s → Leads commands s (only (Hear line ∷ [])) (line_came s line)
   heard_books s line paired =
       let x = hears s.client line (heard line) in
@@ -46,7 +46,7 @@ module _ (plan : Plan) (commands : List Task) where
       subst (λ (rs : List Record). Books s.reads commands s.client s.marks (sent_of s.records) (only (Hear line ∷ [])) x.client (drop (length x.settlements) s.marks) rs) (sym written)
       (books_line s.reads commands s.client s.marks (sent_of s.records) s.progress.moment.utc line paired)
 
-  -- lines are heard in order
+  -- lines that are heard are the steps that hear them, in order
   leads_lines : (s : Model) (lines : List (List ℕ)) → Paired s → Leads commands s (only (map Hear lines)) (lines_came s lines)
   leads_lines s [] paired = books_nothing s.reads commands s.client s.marks (sent_of s.records)
   leads_lines s (line ∷ others) paired =
@@ -56,16 +56,17 @@ module _ (plan : Plan) (commands : List Task) where
       (heard_books s line paired)
       (leads_lines t others (hears_paired s.marks s.client line (heard line) paired))
 
-  -- a piece is heard or dropped
+  -- a piece is the steps that hear its lines, or none where it is dropped
   leads_came : (h : Bool) (word piece : List ℕ) (s : Model) → is_none_left word ≡ true → Paired s → Leads commands s (only (hearing h s.rest piece)) (came h word piece s)
   leads_came true (asked ∷ others) piece s begun paired = cc
   leads_came true [] piece s begun paired = leads_lines (with_rest (rest_behind s.rest piece) s) (lines_behind s.rest piece) paired
   leads_came false word piece s begun paired = books_nothing s.reads commands s.client s.marks (sent_of s.records)
 
+  -- a moment leaves as many marks as requests
   paired_told : (s : Model) (m : ℕ) → Paired s → length s.marks ≡ length (map (expired m) s.client.waiting)
   paired_told s m paired = paired ∙ sym (length-map s.client.waiting (expired m))
 
-  -- a read gave bytes
+  -- a read that gave bytes is its part, once the station has begun
   leads_gave : (s : Model) (until : Until) (bytes : List ℕ) (m : Moment) → has_begun s.progress ≡ true → Paired s
       → Leads commands s (doing plan commands s (action.Read until) (Gave bytes m)) (after_read plan until (with_progress turned s) (Gave bytes m))
   leads_gave s until bytes m begun paired =
@@ -76,7 +77,7 @@ module _ (plan : Plan) (commands : List Task) where
       (books_moment s.reads commands s.client s.marks (sent_of s.records) m.elapsed)
       (leads_came (is_heard s.progress.phase) s.progress.word bytes x begun (paired_told s m.elapsed paired))
 
-  -- the command at a place
+  -- the command at a place is the first of those behind the ones before it
   at_place : (n : ℕ) (xs : List Task) (command : Task) (others : List Task) → drop n xs ≡ command ∷ others → slice_get xs n ≡ Some command
   at_place zero [] command others e = cc
   at_place zero (x ∷ xs) command others e = same x command xs others e where
@@ -85,7 +86,7 @@ module _ (plan : Plan) (commands : List Task) where
   at_place (suc n) [] command others e = cc
   at_place (suc n) (x ∷ xs) command others e = at_place n xs command others e
 
-  -- the next command goes out
+  -- the next command, where it goes out, is the part of its request
   leads_first : (s : Model) (left : List Task) → drop (place_next commands s.progress) commands ≡ left → 0 < length left → length s.client.waiting < 7
       → Leads commands s (asking_first s.progress.moment.elapsed (mark_next plan commands s.progress) left) (asks_first (mark_next plan commands s.progress) left (with_progress turned s))
   leads_first s [] at some room = absurd (omega (arith, some))
@@ -94,10 +95,11 @@ module _ (plan : Plan) (commands : List Task) where
       (Some (mark_next plan commands s.progress)) room
       (task, at_place (place_next commands s.progress) commands task others at, refl)
 
+  -- a null procedure behind commands is the part of its request
   leads_null : (s : Model) → length s.client.waiting < 7 → Leads commands s (asking 0 NullProc (later s.progress.moment.elapsed plan.deadline) None) (asks_null plan s)
   leads_null s room = books_send s.reads commands s.client s.marks (sent_of s.records) 0 NullProc (later s.progress.moment.elapsed plan.deadline) None room refl
 
-  -- a command that isn't sent is no part of it
+  -- the record of a command that isn't sent is none of those that went out
   skips_first_unsent : (p : Progress) (m : Moment) (mark : Mark) (left : List Task) → sent_of (skips_first p m mark left) ≡ []
   skips_first_unsent p m mark [] = refl
   skips_first_unsent p m mark (task ∷ others) = by_case p.missed where
@@ -108,20 +110,23 @@ module _ (plan : Plan) (commands : List Task) where
   skips_unsent : (s : Model) (m : Moment) → sent_of (skips plan commands s.progress (Told m)) ≡ []
   skips_unsent s m = skips_first_unsent s.progress m (mark_next plan commands s.progress) (drop (place_next commands s.progress) commands)
 
+  -- records of commands that didn't go out add none to those that did
   none_sent : (rs more : List Record) → sent_of more ≡ [] → sent_of (rs ++ more) ≡ sent_of rs
   none_sent rs more none = sent_both rs more ∙ ap (λ xs. sent_of rs ++ xs) none ∙ append-nil (sent_of rs)
 
-  -- the part that an act of an action does
+  -- an act of this action leads from one model to another by the part that `doing` gives it
   abbrev LeadsSo : Action → Model → Act → Model → Type 0
   LeadsSo o s act t = Leads commands s (doing plan commands s o act) t
 
+  -- where nothing happens, nothing changes
   none_booked : (s : Model) → Leads commands s nothing s
   none_booked s = books_nothing s.reads commands s.client s.marks (sent_of s.records)
 
+  -- a moment is the step that tells it
   moment_booked : (s : Model) (m : Moment) → Leads commands s (only (Expire m.elapsed ∷ [])) (with_moment m s)
   moment_booked s m = books_moment s.reads commands s.client s.marks (sent_of s.records) m.elapsed
 
-  -- an act of each action, once it has begun
+  -- an act of each action is its part, once the station has begun
   leads_order : (s : Model) (o : Action) (act : Act) → Invariant plan commands s → IsFor plan s.progress (waiting_of s) o → Performs commands s o act → has_begun s.progress ≡ true
       → Leads commands s (doing plan commands s o act) (moved plan commands o (with_progress turned s) act)
   leads_order s action.Open act fine is obeys begun = walk plan commands (LeadsSo action.Open s) action.Open (with_progress turned s) act obeys (λ m. none_booked s, λ n. none_booked s)
@@ -154,16 +159,18 @@ module _ (plan : Plan) (commands : List Task) where
   abbrev Keeps : Model → Act → Model → Type 0
   Keeps s act t = (t.client ≡ fresh) × (t.marks ≡ s.marks) × (t.records ≡ s.records)
 
+  -- while the station begins, a piece leaves the client new, and the marks and the records as they are
   keeps_came : (h : Bool) (word piece : List ℕ) (s : Model) → is_none_left word ≡ false → s.client ≡ fresh
       → ((came h word piece s).client ≡ fresh) × ((came h word piece s).marks ≡ s.marks) × ((came h word piece s).records ≡ s.records)
   keeps_came true [] piece s begins new = cc
   keeps_came true (asked ∷ others) piece s begins new = (new, refl, refl)
   keeps_came false word piece s begins new = (new, refl, refl)
 
-  -- a moment gives nothing up
+  -- a moment gives nothing up of a new client
   new_told : (s : Model) (m : Moment) → s.client ≡ fresh → expires s.client m.elapsed ≡ fresh
   new_told s m new = ap (λ c. expires c m.elapsed) new
 
+  -- while the station begins, an act of each action leaves the client new, and the marks and the records as they are
   pub keeps_action : (s : Model) (o : Action) (act : Act) → IsFor plan s.progress (waiting_of s) o → Performs commands s o act → has_begun s.progress ≡ false
       → s.client ≡ fresh → Keeps s act (moved plan commands o (with_progress turned s) act)
   keeps_action s action.Renew act is obeys begins new = absurd (clash (has_begun s.progress) is.1 begins)
@@ -185,6 +192,7 @@ module _ (plan : Plan) (commands : List Task) where
   keeps_action s (action.Stop why) act is obeys begins new = absurd obeys
   keeps_action s o act is obeys begins new = walk plan commands (Keeps s) o (with_progress turned s) act obeys (λ m. (new, refl, refl), λ n. (new, refl, refl))
 
+  -- the part of an act while the station begins has only turns
   only_of : (s : Model) (o : Action) (act : Act) → beginning s o act ≡ only_turns (beginning s o act).turns
   only_of s action.Ask (Put bytes) = refl
   only_of s action.Ask (Cut bytes count) = refl
@@ -193,6 +201,7 @@ module _ (plan : Plan) (commands : List Task) where
   only_of s (action.Read until) act = refl
   only_of s o act = refl
 
+  -- turns lead to a model with the same client, marks and records
   same_led : (s : Model) (turns : List Turn) (t : Model) → s.client ≡ t.client → s.marks ≡ t.marks → s.records ≡ t.records → Leads commands s (only_turns turns) t
   same_led s turns t c ms rs =
       let books = Books s.reads commands s.client s.marks (sent_of s.records) (only_turns turns) in
@@ -200,6 +209,7 @@ module _ (plan : Plan) (commands : List Task) where
       (subst (λ (x : List (Option Mark)). books s.client x (sent_of t.records)) ms
       (subst (λ (x : List Record). books s.client s.marks (sent_of x)) rs (books_turns s.reads commands s.client s.marks (sent_of s.records) turns)))
 
+  -- an act of each action is its part, while the station begins
   leads_begins : (s : Model) (o : Action) (act : Act) → Invariant plan commands s → IsFor plan s.progress (waiting_of s) o → Performs commands s o act → has_begun s.progress ≡ false
       → Leads commands s (beginning s o act) (moved plan commands o (with_progress turned s) act)
   leads_begins s o act fine is obeys begins =
@@ -208,6 +218,7 @@ module _ (plan : Plan) (commands : List Task) where
       let k = keeps_action s o act is obeys begins new in
       subst (λ (p : Part). Leads commands s p t) (sym (only_of s o act)) (same_led s (beginning s o act).turns t (new ∙ sym k.0) (sym k.1) (sym k.2))
 
+  -- an act of each action is its part
   pub leads : (s : Model) (o : Action) (act : Act) → Invariant plan commands s → IsFor plan s.progress (waiting_of s) o → Performs commands s o act
       → Leads commands s (acting plan commands s o act) (moved plan commands o (with_progress turned s) act)
   leads s o act fine is obeys =

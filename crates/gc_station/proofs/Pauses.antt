@@ -24,29 +24,35 @@ takes_first b x y e = ap (λ (c : Bool). if c then x else y) e
 takes_second : {A : Type 0} (b : Bool) (x y : A) → b ≡ false → (if b then x else y) ≡ y
 takes_second b x y e = ap (λ (c : Bool). if c then x else y) e
 
--- twice a pause, up to a minute
+-- the pause behind a first failure is the quiet time, up to a minute and never below the quiet time
 twice_none : (quiet : ℕ) → max (min (min (0 + 0) 18446744073709551615) 60000) quiet ≡ max (min quiet 60000) quiet
 twice_none quiet = omega arith
 
+-- a time that is doubled is no shorter
 doubled_least : (n time : ℕ) → time ≤ doubled n time
 doubled_least zero time = omega arith
 doubled_least (suc n) time = let least = doubled_least n time in omega (arith, least)
 
+-- twice a bounded pause, bounded again, is the bounded double
 twice_more : (d quiet : ℕ) → quiet ≤ d → max (min (min (max (min d 60000) quiet + max (min d 60000) quiet) 18446744073709551615) 60000) quiet ≡ max (min (2 * d) 60000) quiet
 twice_more d quiet least = omega (arith, least)
 
+-- twice the pause behind n failures, bounded, is the one behind n + 1
 twice : (plan : Plan) (n : ℕ) → max (min (later (pause_behind plan n) (pause_behind plan n)) 60000) plan.quiet ≡ pause_behind plan (suc n)
 twice plan zero = twice_none plan.quiet
 twice plan (suc n) = twice_more (doubled n plan.quiet) plan.quiet (doubled_least n plan.quiet)
 
+-- a failure that isn't spared makes the pause that of one failure more
 failed : (plan : Plan) (commands n : ℕ) (why : Cause) (p : Progress) → is_spared plan why p ≡ false → p.pause ≡ pause_behind plan n → (again plan commands why p).pause ≡ pause_behind plan (suc n)
 failed plan commands n why p e is =
     takes_second (is_spared plan why p) (max p.pause plan.quiet) (max (min (later p.pause p.pause) 60000) plan.quiet) e
     ∙ ap (λ x. max (min (later x x) 60000) plan.quiet) is ∙ twice plan n
 
+-- a failure that isn't spared takes one try
 takes : (plan : Plan) (commands : ℕ) (why : Cause) (p : Progress) → is_spared plan why p ≡ false → 0 < p.tries → (again plan commands why p).tries + 1 ≡ p.tries
 takes plan commands why p e some = let less = takes_second (is_spared plan why p) p.tries (p.tries - 1) e in omega (arith, less, some)
 
+-- without a try left the run is over
 over_by : (done spared some : Bool) (why : Cause) → spared ≡ false → some ≡ false
     → ((if done then phase.Over cause.Done else if spared || some then phase.Pausing else phase.Over why) ≡ phase.Over cause.Done)
     ⊎ ((if done then phase.Over cause.Done else if spared || some then phase.Pausing else phase.Over why) ≡ phase.Over why)
@@ -55,13 +61,16 @@ over_by false true some why e f = cc
 over_by false false true why e f = cc
 over_by false false false why e f = inr refl
 
+-- a failure that isn't spared, without a try left, ends the run
 none_left : (plan : Plan) (commands : ℕ) (why : Cause) (p : Progress) → is_spared plan why p ≡ false → p.tries ≡ 0
     → ((again plan commands why p).phase ≡ phase.Over cause.Done) ⊎ ((again plan commands why p).phase ≡ phase.Over why)
 none_left plan commands why p e none = over_by (is_finished commands p) (is_spared plan why p) (nat_lt 0 p.tries) why e (le-ltb 0 p.tries (omega (arith, none)))
 
+-- a bounded pause that is at least the quiet time stays
 spared_stays : (d quiet : ℕ) → max (max (min d 60000) quiet) quiet ≡ max (min d 60000) quiet
 spared_stays d quiet = omega arith
 
+-- a spared close takes no try, and leaves a pause as it is
 spared : (plan : Plan) (commands n : ℕ) (why : Cause) (p : Progress) → is_spared plan why p ≡ true → p.pause ≡ pause_behind plan (suc n)
     → ((again plan commands why p).pause ≡ pause_behind plan (suc n)) × ((again plan commands why p).tries ≡ p.tries)
 spared plan commands n why p e is = (
@@ -70,9 +79,11 @@ spared plan commands n why p e is = (
   takes_first (is_spared plan why p) p.tries (p.tries - 1) e,
 )
 
+-- where there was no pause, the pause behind a spared close is the quiet time
 spared_none : (quiet : ℕ) → max 0 quiet ≡ max (min quiet 60000) quiet
 spared_none quiet = omega arith
 
+-- a spared close takes no try, and makes a pause of 0 that of one failure
 spared_first : (plan : Plan) (commands : ℕ) (why : Cause) (p : Progress) → is_spared plan why p ≡ true → p.pause ≡ pause_behind plan 0
     → ((again plan commands why p).pause ≡ pause_behind plan 1) × ((again plan commands why p).tries ≡ p.tries)
 spared_first plan commands why p e is = (
@@ -81,16 +92,19 @@ spared_first plan commands why p e is = (
   takes_first (is_spared plan why p) p.tries (p.tries - 1) e,
 )
 
+-- a read that settled a command gives all tries back, and makes the pause 0
 settled : (plan : Plan) (until : Until) (before : ℕ) (after : Waiting) (p : Progress) → after.commands < before
     → ((gave plan until before after p).tries ≡ plan.retries) × ((gave plan until before after p).pause ≡ pause_behind plan 0)
 settled plan until before after p fewer =
     let e = lt-ltb after.commands before fewer in (takes_first (nat_lt after.commands before) plan.retries p.tries e, takes_first (nat_lt after.commands before) 0 p.pause e)
 
+-- a read that settled no command leaves the tries and the pause
 unsettled : (plan : Plan) (until : Until) (before : ℕ) (after : Waiting) (p : Progress) → before ≤ after.commands
     → ((gave plan until before after p).tries ≡ p.tries) × ((gave plan until before after p).pause ≡ p.pause)
 unsettled plan until before after p more =
     let e = le-ltb after.commands before more in (takes_second (nat_lt after.commands before) plan.retries p.tries e, takes_second (nat_lt after.commands before) 0 p.pause e)
 
+-- an action of `LeavesTries` leaves the tries and the pause
 other : (plan : Plan) (commands : List Task) (action : Action) (s : Model) (act : Act) → LeavesTries action
     → ((moved plan commands action s act).progress.tries ≡ s.progress.tries) × ((moved plan commands action s act).progress.pause ≡ s.progress.pause)
 other plan commands actions.Open s act leaves = absurd leaves

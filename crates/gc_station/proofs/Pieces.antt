@@ -28,19 +28,22 @@ use Rattle.gc_station.proofs.Meets.{HasPlace, EndedBy, heard_ended, heard_left, 
 use Rattle.gc_station.proofs.Waiting.{Asked, StayedAt, WaitsAt, IsTrue, IsHonest, past_more, past_here, expired_waits, expired_window, behind_moment, moment_told}
 use Rattle.gc_station.specs.Scopes.{Scope}
 
--- the id at the place of an id
+-- the id at the place of an id is this id
 pub id_back : (next count id : ℕ) → next < 8 → count ≤ 7 → id < 8 → id_at next count (place_behind next count id) ≡ id
 id_back next count id digit few below = omega arith
 
+-- the id of a line is below 8
 pub id_digit : (line : List ℕ) (id : ℕ) → heard line ≡ Some id → id < 8
 id_digit line id e = let it = (heard_by_grammar line).only id e in subst (λ (o : Option ℕ). IfSome o (λ n. n < 8)) it.2 it.1.is_id
 
+-- records that are grouped in two ways are the same records in order
 pub regroup : (start news front : List Record) (r : Record) (back more : List Record) → ((start ++ news) ++ (front ++ r ∷ back)) ++ more ≡ start ++ ((news ++ front) ++ r ∷ (back ++ more))
 regroup start news front r back more =
     append_assoc (start ++ news) (front ++ r ∷ back) more ∙ ap (λ xs. (start ++ news) ++ xs) (append_assoc front (r ∷ back) more)
     ∙ append_assoc start news (front ++ r ∷ (back ++ more)) ∙ ap (λ xs. start ++ xs) (sym (append_assoc news front (r ∷ (back ++ more))))
 
--- a piece is heard, so far
+-- some lines of a piece were heard: what every run keeps of the requests that wait, before the act that brings the piece, and the
+-- records so far are true
 pub record Hears (plan : Plan) (commands : List Task) (scope : Scope) (acts : List Act) (piece : List ℕ) (m : Moment) (x : Model) : Type 0 where
   pub window : IsWindow x.client
   pub waiting : Rows (WaitsAt plan commands scope acts (stood plan commands scope acts).client m.elapsed x.client.next (length x.client.waiting)) 0 0 x.client.waiting x.marks
@@ -55,6 +58,7 @@ pub record WrittenDown (plan : Plan) (commands : List Task) (scope : Scope) (act
   pub own : IsOwnRequest plan commands scope before request r
   pub written : IsWrittenAt plan commands scope (before ++ request ∷ between) (Gave piece m) r
 
+-- a record of the piece, of the request with this mark, is `WrittenDown`
 written_down : (plan : Plan) (commands : List Task) (scope : Scope) (acts : List Act) (piece : List ℕ) (m : Moment) (number at id : ℕ) (p : Pending)
     (mark : Mark) (r : Record) (news earlier later more : List Record)
     → r.cycle ≡ mark.cycle → r.place ≡ mark.place → r.sent ≡ Some mark.sent → p.call ≡ r.command.call
@@ -101,17 +105,18 @@ brings plan commands scope acts piece c front others line at next before request
   has = id_heard c line at next w has is;
 }
 
--- how it stayed, once it is this moment
+-- the deadline of a request that isn't given up at this moment is later than it, and than each moment told since the request went out
 in_time : (now d : ℕ) (b : Bool) (acts : List Act) → b ≡ false → StayedAt now b d acts → AllByRecursion (IsBefore d) acts × (now < d)
 in_time now d true acts is both = cc
 in_time now d false acts is both = both
 
+-- a moment at or past the deadline of a request that is given up was told
 too_late : (now d : ℕ) (b : Bool) (acts : List Act) (act : Act) → b ≡ true → (d ≤ now → IsPast d act) → StayedAt now b d acts → TellsPast d (acts ++ act ∷ [])
 too_late now d true acts act is past (inl told) = past_more d acts (act ∷ []) told
 too_late now d true acts act is past (inr reached) = past_here d acts act (past reached)
 too_late now d false acts act is past both = cc
 
--- the answer that a line is, of the request with this mark
+-- the record of an answer, of the request with this mark, is true
 answered : (plan : Plan) (commands : List Task) (scope : Scope) (acts : List Act) (piece : List ℕ) (m : Moment) (c : ById) (front others : List (List ℕ))
     (line l : List ℕ) (number at : ℕ) (p : Pending) (mark : Mark) (r : Record)
     → front ++ line ∷ others ≡ lines_behind (stood plan commands scope acts).rest piece → IsWindow c
@@ -145,7 +150,7 @@ answered plan commands scope acts piece m c front others line l number at p mark
       written = ap (λ (xs : List Act). (stood plan commands scope xs).records) (sym (append_assoc s.before (s.request ∷ s.between) (Gave piece m ∷ []))) ∙ down.written.written;
     }
 
--- the late reply that a line is
+-- the record of a late reply, of the request with this mark, is true
 late : (plan : Plan) (commands : List Task) (scope : Scope) (acts : List Act) (piece : List ℕ) (m : Moment) (c : ById) (front others : List (List ℕ))
     (line : List ℕ) (number at : ℕ) (p : Pending) (mark : Mark) (r : Record)
     → front ++ line ∷ others ≡ lines_behind (stood plan commands scope acts).rest piece → IsWindow c
@@ -168,7 +173,7 @@ late plan commands scope acts piece m c front others line number at p mark r spl
   written = down.written;
 }
 
--- the one behind it whose reply came
+-- the record of a request that is lost is true: the reply to one behind it came
 overtaken : (plan : Plan) (commands : List Task) (scope : Scope) (acts : List Act) (piece : List ℕ) (m : Moment) (c : ById) (front others : List (List ℕ))
     (line : List ℕ) (number at there : ℕ) (p q : Pending) (mark mark' : Option Mark) (number' : ℕ)
     → front ++ line ∷ others ≡ lines_behind (stood plan commands scope acts).rest piece → IsWindow c
@@ -200,12 +205,13 @@ overtaken plan commands scope acts piece m c front others line number at there p
           (t.id ∙ ap (λ (xs : List Act). (stood plan commands scope xs).client.next) on);
     }
 
--- what a record of a line says
+-- a record of a line is of a request that the line settles
 abbrev pub IsRecorded : Plan → List Task → Scope → List Act → ℕ → ById → List ℕ → Record → Type 0
 IsRecorded plan commands scope acts now c line r =
     (at : ℕ) × (mark : Mark) × (x : Settlement) × (r.cycle ≡ mark.cycle) × (r.place ≡ mark.place) × (r.sent ≡ Some mark.sent) × IsRecordOf r x
     × EndedBy (WaitsAt plan commands scope acts (stood plan commands scope acts).client now c.next (length c.waiting)) c (heard line) line at x (Some mark)
 
+-- the records of a line are of requests that it settles
 pub line_written : (plan : Plan) (commands : List Task) (scope : Scope) (acts : List Act) (reads : Call → List ℕ → Reading) (now utc : ℕ) (c : ById) (marks : List (Option Mark)) (line : List ℕ)
     → Rows (WaitsAt plan commands scope acts (stood plan commands scope acts).client now c.next (length c.waiting)) 0 0 c.waiting marks
     → AllByRecursion (IsRecorded plan commands scope acts now c line) (records_of reads utc marks (hears c line (heard line)).settlements)
@@ -214,7 +220,7 @@ line_written plan commands scope acts reads now utc c marks line waits =
     records_all (EndedBy W c (heard line) line) (IsRecorded plan commands scope acts now c line) reads utc 0 (hears c line (heard line)).settlements marks
     (λ i y mark ended. (i, mark, y, refl, refl, refl, record { reads = reads; near = mark.near; command = refl; ended = refl }, ended)) (heard_ended W c marks line (heard line) waits)
 
--- it is true
+-- the record of a request that a line settles is true
 line_true : (plan : Plan) (commands : List Task) (scope : Scope) (acts : List Act) (piece : List ℕ) (m : Moment) (c : ById) (front others : List (List ℕ))
     (line : List ℕ) (r : Record) (news earlier later more : List Record)
     → front ++ line ∷ others ≡ lines_behind (stood plan commands scope acts).rest piece → IsWindow c
@@ -247,6 +253,7 @@ line_true plan commands scope acts piece m c front others line r news earlier la
           };
     }
 
+-- `Hears` lasts over the lines of a piece
 pub hear_all : (plan : Plan) (commands : List Task) (scope : Scope) (acts : List Act) (piece : List ℕ) (m : Moment) (front lines : List (List ℕ)) (x : Model) (tail : List Record)
     → front ++ lines ≡ lines_behind (stood plan commands scope acts).rest piece
     → (stood plan commands scope (acts ++ Gave piece m ∷ [])).records ≡ (lines_came x lines).records ++ tail
@@ -276,7 +283,7 @@ hear_all plan commands scope acts piece m front (line ∷ others) x tail split e
       grew = ap (λ xs. xs ++ written) h.grew ∙ append_assoc (stood plan commands scope acts).records h.news written;
     })
 
--- the requests that wait behind a piece wait behind the act that brought it
+-- behind the act that brought the piece, what every run keeps of the requests that wait holds
 pub behind_piece : (plan : Plan) (commands : List Task) (scope : Scope) (acts : List Act) (piece : List ℕ) (m : Moment) (x : Model)
     → Hears plan commands scope acts piece m x → IsHonest plan commands scope (acts ++ Gave piece m ∷ []) (acts ++ Gave piece m ∷ []) x
 behind_piece plan commands scope acts piece m x h = record {
@@ -284,9 +291,11 @@ behind_piece plan commands scope acts piece m x h = record {
   written = h.written;
 }
 
+-- the model before the lines of a piece: the moment was told, and requests were given up
 abbrev pub piece_before : Moment → Model → Model
 piece_before m s = with_moment m (with_progress (told m) (with_progress turned s))
 
+-- an act that brings a piece keeps what every run keeps
 pub piece_honest : (plan : Plan) (commands : List Task) (scope : Scope) (acts : List Act) (piece : List ℕ) (m : Moment) (b : Bool) (word : List ℕ) (tail : List Record)
     → (stood plan commands scope (acts ++ Gave piece m ∷ [])).records ≡ (came b word piece (piece_before m (stood plan commands scope acts))).records ++ tail
     → IsWindow (stood plan commands scope acts).client

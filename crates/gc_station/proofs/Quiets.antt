@@ -37,7 +37,7 @@ use Rattle.gc_station.specs.Scopes.{Scope}
 abbrev pub IsOpened : List Act → Type 0
 IsOpened acts = (before : List Act) × (acts ≡ before ++ Opened ∷ [])
 
--- an act cleared the connection that the acts before it made, and nothing went out since
+-- `act` cleared the connection that the acts before it made, and nothing went out since
 abbrev Clears : List Act → Act → List Act → Type 0
 Clears before start behind = IsOpened before × (start ≡ Put (10 ∷ [])) × AllByRecursion IsListening behind
 
@@ -45,17 +45,19 @@ Clears before start behind = IsOpened before × (start ≡ Put (10 ∷ [])) × A
 abbrev Drains : ℕ → List Act → Act → List Act → Type 0
 Drains since before start behind = Since Clears before × TellsMoment since start × AllByRecursion IsSilent behind
 
+-- there is an act among these of which `Drains` holds
 abbrev pub IsDrained : ℕ → List Act → Type 0
 IsDrained since acts = Since (Drains since) acts
 
--- until it was quiet, and nobody closed it behind that
+-- the connection was cleared, then it was quiet for `quiet` milliseconds, and then nobody closed it
 abbrev pub Quiets : ℕ → List Act → Act → List Act → Type 0
 Quiets quiet before start behind = (from : ℕ) × (last : Moment) × IsDrained from before × (start ≡ Silent last) × (quiet ≤ last.elapsed - from) × AllByRecursion StaysConnected behind
 
+-- there is an act among these of which `Quiets` holds
 abbrev pub WasQuiet : ℕ → List Act → Type 0
 WasQuiet quiet acts = Since (Quiets quiet) acts
 
--- whether a moment was told since
+-- the connection was cleared; and once a moment was told behind that, nothing came since the last one
 abbrev pub IsDraining : Bool → ℕ → List Act → Type 0
 IsDraining true since acts = Since Clears acts
 IsDraining false since acts = IsDrained since acts
@@ -77,19 +79,19 @@ listening_stays (Silent m) e = tt
 listening_stays act e = absurd e
 
 module _ (plan : Plan) (commands : List Task) (scope : Scope) where
-  -- it was made, and by then it had begun, or not
+  -- these acts end with a connection that was made once the station had begun, or before, as said
   abbrev pub IsOpenedSo : Bool → List Act → Type 0
   IsOpenedSo begun acts = (before : List Act) × (acts ≡ before ++ Opened ∷ []) × (has_begun (stood plan commands scope before).progress ≡ begun)
 
-  -- and cleared, while it began, and nobody closed it since
+  -- the connection was made and cleared before the station had begun, and then nobody closed it
   abbrev pub Begins : List Act → Act → List Act → Type 0
   Begins before start behind = IsOpenedSo false before × (start ≡ Put (10 ∷ [])) × AllByRecursion StaysConnected behind
 
-  -- where requests go out
+  -- where requests go out: the connection was cleared, and was quiet; or it was cleared and a beginning went on with it
   abbrev pub WasCleared : List Act → Type 0
   WasCleared acts = WasQuiet plan.quiet acts ⊎ Since Begins acts
 
-  -- in the words of the promise
+  -- a quiet connection is cleared and quiet in the words of the promise
   was_quiet : (acts : List Act) → WasQuiet plan.quiet acts → IsClearedAndQuiet plan commands scope acts
   was_quiet acts q =
       let d = q.holds.2 in
@@ -123,6 +125,7 @@ module _ (plan : Plan) (commands : List Task) (scope : Scope) where
         };
       }
 
+  -- a connection on which requests go out is cleared and quiet in the words of the promise
   was_cleared : (acts : List Act) → WasCleared acts → IsClearedAndQuiet plan commands scope acts
   was_cleared acts (inl q) = was_quiet acts q
   was_cleared acts (inr b) =
@@ -135,47 +138,51 @@ module _ (plan : Plan) (commands : List Task) (scope : Scope) where
         quiet = λ begun. absurd (clash (has_begun (stood plan commands scope o.0).progress) begun o.2);
       }
 
-  -- by the phase, and whether it has begun
+  -- what was done on the connection, by the phase, and by whether the station has begun and the moment was told
   abbrev pub Stage : Bool → Bool → ℕ → Phase → List Act → Type 0
   Stage begun stale since phase.Clearing acts = (stale ≡ false) × IsOpenedSo begun acts
   Stage begun stale since phase.Draining acts = IsDraining stale since acts
   Stage begun stale since phase.Ready acts = WasCleared acts
   Stage begun stale since _ acts = Unit {0}
 
+  -- `Stage`, by the fields of a progress
   abbrev pub StageAt : Progress → List Act → Type 0
   StageAt p acts = Stage (has_begun p) p.stale p.since p.phase acts
 
 -- One act more.
 
+-- a connection that is drained was cleared
 drained_clears : (since : ℕ) (acts : List Act) → IsDrained since acts → Since Clears acts
 drained_clears since acts d =
     let listened : AllByRecursion IsListening (d.start ∷ d.behind) = (tells_listening since d.start d.holds.1, all_on IsSilent IsListening d.behind silent_listening d.holds.2) in
     subst (λ (xs : List Act). Since Clears xs) (sym d.order)
     (since_on Clears Clears d.before (d.start ∷ d.behind) (λ before start behind order c. (c.0, c.1, all_append IsListening behind (d.start ∷ d.behind) c.2 listened)) d.holds.0)
 
--- the quiet time begins anew
+-- the quiet time begins anew with an act that tells a moment
 drained_anew : (since now : ℕ) (acts : List Act) (act : Act) → TellsMoment now act → IsDrained since acts → IsDrained now (acts ++ act ∷ [])
 drained_anew since now acts act tells d = since_now (Drains now) acts act (drained_clears since acts d, tells, tt)
 
--- nothing came
+-- the quiet time goes on where a read gave nothing
 drained_longer : (since : ℕ) (acts : List Act) (m : Moment) → IsDrained since acts → IsDrained since (acts ++ Silent m ∷ [])
 drained_longer since acts m d = since_on (Drains since) (Drains since) acts (Silent m ∷ []) (λ before start behind order h. (h.0, h.1, all_append IsSilent behind (Silent m ∷ []) h.2 (tt, tt))) d
 
--- long enough
+-- where the quiet time is long enough, the connection was quiet
 quiet_now : (quiet since : ℕ) (acts : List Act) (m : Moment) → quiet ≤ m.elapsed - since → IsDrained since acts → WasQuiet quiet (acts ++ Silent m ∷ [])
 quiet_now quiet since acts m long d = since_now (Quiets quiet) acts (Silent m) (since, m, d, refl, long, tt)
 
 -- What each act leaves.
 
+-- the quiet time begins with the moment told behind the line feed
 draining_told : (stale : Bool) (since : ℕ) (m : Moment) (acts : List Act) → stale ≡ true → IsDraining stale since acts → IsDrained m.elapsed (acts ++ Told m ∷ [])
 draining_told true since m acts old d = since_now (Drains m.elapsed) acts (Told m) (d, refl, tt)
 draining_told false since m acts old d = cc
 
+-- where the moment was told, the quiet time goes on
 draining_read : (stale : Bool) (since : ℕ) (acts : List Act) → stale ≡ false → IsDraining stale since acts → IsDrained since acts
 draining_read true since acts now d = cc
 draining_read false since acts now d = d
 
--- the quiet time is not the longer for a clock that went back
+-- a clock that went back makes the quiet time no longer
 not_longer : (now since : ℕ) (b : Bool) → nat_le since now ≡ b → now - min since now ≡ now - since
 not_longer now since true e = ap (λ n. now - n) (min-eq_left (leb-true since now e))
 not_longer now since false e =
@@ -183,7 +190,7 @@ not_longer now since false e =
     let less : now ≤ since = omega (arith, low) in
     ap (λ n. now - n) (min-eq_right less) ∙ omega (arith, low)
 
--- the quiet time where a read gave nothing: it goes on, or begins anew where the clock went back
+-- where a read gave nothing the quiet time goes on, or begins anew if the clock went back
 silent_on : (since : ℕ) (m : Moment) (acts : List Act) (b : Bool) → nat_le since m.elapsed ≡ b → IsDrained since acts → IsDrained (min since m.elapsed) (acts ++ Silent m ∷ [])
 silent_on since m acts true e d = subst (λ n. IsDrained n (acts ++ Silent m ∷ [])) (sym (min-eq_left (leb-true since m.elapsed e))) (drained_longer since acts m d)
 silent_on since m acts false e d =
@@ -192,25 +199,29 @@ silent_on since m acts false e d =
     subst (λ n. IsDrained n (acts ++ Silent m ∷ [])) (sym (min-eq_right less)) (drained_anew since m.elapsed acts (Silent m) refl d)
 
 module _ (plan : Plan) (commands : List Task) (scope : Scope) where
+  -- `Stage` of this run
   abbrev Here : Bool → Bool → ℕ → Phase → List Act → Type 0
   Here = Stage plan commands scope
 
+  -- `Here`, by the fields of a progress
   abbrev HereAt : Progress → List Act → Type 0
   HereAt = StageAt plan commands scope
 
+  -- where no connection is in use, `Stage` says nothing
   stage_none : (begun stale : Bool) (since : ℕ) (at : Phase) (acts : List Act) → is_in_use at ≡ false → Here begun stale since at acts
   stage_none begun stale since phase.Clearing acts none = cc
   stage_none begun stale since phase.Draining acts none = cc
   stage_none begun stale since phase.Ready acts none = cc
   stage_none begun stale since at acts none = tt
 
+  -- a connection on which requests go out stays so, if the act keeps it
   more : (acts : List Act) (act : Act) → StaysConnected act → WasCleared plan commands scope acts → WasCleared plan commands scope (acts ++ act ∷ [])
   more acts act on (inl q) =
       inl (since_on (Quiets plan.quiet) (Quiets plan.quiet) acts (act ∷ []) (λ before start behind order h. (h.0, h.1, h.2, h.3, h.4, all_append StaysConnected behind (act ∷ []) h.5 (on, tt))) q)
   more acts act on (inr b) =
       inr (since_on (Begins plan commands scope) (Begins plan commands scope) acts (act ∷ []) (λ before start behind order h. (h.0, h.1, all_append StaysConnected behind (act ∷ []) h.2 (on, tt))) b)
 
-  -- a moment was told
+  -- `Stage` lasts over an act that tells a moment
   stage_on : (begun begun' stale : Bool) (since now : ℕ) (at : Phase) (acts : List Act) (act : Act) → StaysConnected act
       → (at ≡ phase.Clearing → stale ≡ false → ⊥) → (IsDraining stale since acts → IsDrained now (acts ++ act ∷ []))
       → Here begun stale since at acts → Here begun' false now at (acts ++ act ∷ [])
@@ -219,13 +230,13 @@ module _ (plan : Plan) (commands : List Task) (scope : Scope) where
   stage_on begun begun' stale since now phase.Ready acts act calm never drains st = more acts act calm st
   stage_on begun begun' stale since now at acts act calm never drains st = tt
 
-  -- where requests go out, the connection stays
+  -- `Stage` lasts in the phase `Ready`, if the act keeps the connection
   stage_ready : (begun begun' stale stale' : Bool) (since since' : ℕ) (at : Phase) (acts : List Act) (act : Act) → StaysConnected act → at ≡ phase.Ready
       → Here begun stale since at acts → Here begun' stale' since' at (acts ++ act ∷ [])
   stage_ready begun begun' stale stale' since since' at acts act stays is st =
       subst (λ (x : Phase). Here begun' stale' since' x (acts ++ act ∷ [])) (sym is) (more acts act stays (subst (λ (x : Phase). Here begun stale since x acts) is st))
 
-  -- a drain was long enough
+  -- `Stage` holds where a drain was long enough
   stage_drained : (until : Until) (m : Moment) (p : Progress) (acts : List Act) → is_quiet plan (time_passed until m p) ≡ true → IsDrained p.since acts
       → HereAt (drained (time_passed until m p)) (acts ++ Silent m ∷ [])
   stage_drained until m p acts past d =
@@ -234,16 +245,17 @@ module _ (plan : Plan) (commands : List Task) (scope : Scope) where
       let quiet : plan.quiet ≤ m.elapsed - p.since = omega (arith, long, same) in
       inl (quiet_now plan.quiet p.since acts m quiet d)
 
-  -- it was cleared: and is drained, or begins
+  -- `Stage` holds where a line feed went out: the connection is drained next, or a beginning goes on with it
   stage_cleared : (begun : Bool) (since : ℕ) (acts : List Act) → IsOpenedSo plan commands scope begun acts
       → Here begun true since (if begun then phase.Draining else phase.Ready) (acts ++ Put (10 ∷ []) ∷ [])
   stage_cleared true since acts o = since_now Clears acts (Put (10 ∷ [])) ((o.0, o.1), refl, tt)
   stage_cleared false since acts o = inr (since_now (Begins plan commands scope) acts (Put (10 ∷ [])) (o, refl, tt))
 
-  -- what is said where it is in this phase
+  -- what `Stage` says in the phase that a progress has
   stage_in : (p : Progress) (at : Phase) (acts : List Act) → p.phase ≡ at → HereAt p acts → Here (has_begun p) p.stale p.since at acts
   stage_in p at acts is st = subst (λ (x : Phase). Here (has_begun p) p.stale p.since x acts) is st
 
+  -- `Stage` lasts over an act of any action
   stage_line : (next : Action) (s : Model) (acts : List Act) → has_begun (stood plan commands scope acts).progress ≡ has_begun s.progress
       → IsFor plan s.progress (waiting_of s) next → Timely s.progress next → HereAt s.progress acts → OnLine plan commands HereAt next (with_progress turned s) acts
   stage_line actions.ReadClock s acts there needs time st =
@@ -281,6 +293,7 @@ module _ (plan : Plan) (commands : List Task) (scope : Scope) where
 
   -- Whole runs.
 
+  -- `Stage` holds behind every run
   stage_stood : (acts : List Act) → Runs plan commands (opening plan scope) acts → HereAt (stood plan commands scope acts).progress acts
   stage_stood acts runs = always_far plan commands (opening plan scope) HereAt step tt acts runs where
     step : (done : List Act) (act : Act) → Runs plan commands (opening plan scope) done
@@ -295,10 +308,11 @@ module _ (plan : Plan) (commands : List Task) (scope : Scope) where
 
 -- A request goes out where requests may.
 
+-- a close is no request
 not_closing : (act : Act) → act ≡ Closed → IsRequest act → ⊥
 not_closing act o asks = subst IsRequest o asks
 
--- no request goes out by any other action
+-- by any action but `Ask`, `Send` and `Flush` no request goes out
 asks_not : (plan : Plan) (commands : List Task) (next : Action) (s : Model) (act : Act) → Performs commands s next act
     → (next ≡ actions.Ask → ⊥) × (next ≡ actions.Send → ⊥) × (next ≡ actions.Flush → ⊥) → IsRequest act → ⊥
 asks_not plan commands actions.Ask s act o other = absurd (other.0 refl)
@@ -311,7 +325,7 @@ asks_not plan commands (actions.Close why) s act o other = not_closing act o
 asks_not plan commands (actions.Stop why) s act o other = absurd o
 asks_not plan commands next s act o other = walk plan commands (λ a (t : Model). IsRequest a → ⊥) next s act o (λ m asks. asks, λ n asks. asks)
 
--- while it begins it is the null procedure that is asked for
+-- the only request that goes out while the station begins is that of `Ask`
 pub asks_only : (plan : Plan) (commands : List Task) (next : Action) (s : Model) (act : Act) → Performs commands s next act → IsRequest act
     → IsFor plan s.progress (waiting_of s) next → has_begun s.progress ≡ false → next ≡ actions.Ask
 asks_only plan commands actions.Ask s act o asks needs begins = refl
@@ -319,6 +333,7 @@ asks_only plan commands actions.Send s act o asks needs begins = absurd (clash (
 asks_only plan commands actions.Flush s act o asks needs begins = absurd (clash (has_begun s.progress) needs.1 begins)
 asks_only plan commands next s act o asks needs begins = absurd (asks_not plan commands next s act o (λ is. cc, λ is. cc, λ is. cc) asks)
 
+-- where a request goes out, the phase is `Ready`
 asks_there : (plan : Plan) (commands : List Task) (next : Action) (s : Model) (act : Act) → Performs commands s next act → IsRequest act
     → IsFor plan s.progress (waiting_of s) next → s.progress.phase ≡ phase.Ready
 asks_there plan commands actions.Ask s act o asks needs = needs.0
@@ -326,6 +341,7 @@ asks_there plan commands actions.Send s act o asks needs = needs.0
 asks_there plan commands actions.Flush s act o asks needs = needs.0
 asks_there plan commands next s act o asks needs = absurd (asks_not plan commands next s act o (λ is. cc, λ is. cc, λ is. cc) asks)
 
+-- where a request goes out, its connection is cleared and quiet
 pub cleared_and_quiet : (plan : Plan) (commands : List Task) (scope : Scope) (earlier later : List Act) (act : Act)
     → Runs plan commands (opening plan scope) (earlier ++ act ∷ later) → IsRequest act → IsClearedAndQuiet plan commands scope earlier
 cleared_and_quiet plan commands scope earlier later act runs asks =

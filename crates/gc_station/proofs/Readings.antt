@@ -20,16 +20,20 @@ use Rattle.gc_station.specs.Scopes.{Scope, AreReadings, OneReadingForALine, Some
 use Rattle.gc_station.proofs.Walk.{lines_along, moved_changed}
 use Rattle.gc_station.specs.Model.{Model, opening, action_at, with_progress, lines_came, moved, losing, after, after_all}
 
+-- lines don't change what replies say
 pub lines_reads : (s : Model) (lines : List (List ℕ)) → (lines_came s lines).reads ≡ s.reads
 lines_reads s lines = lines_along (λ (t : Model). t.reads ≡ s.reads) (λ t line e. e) s lines refl
 
+-- an act, before what is lost by it, doesn't change what replies say
 pub moved_reads : (plan : Plan) (commands : List Task) (action : Action) (s : Model) (act : Act) → (moved plan commands action s act).reads ≡ s.reads
 moved_reads plan commands action s act = ap (λ (x : Model). x.reads) (moved_changed plan commands action s act)
 
+-- a loss doesn't change what replies say
 pub ended_reads : (b : Bool) (s : Model) → (losing b s).reads ≡ s.reads
 ended_reads true s = refl
 ended_reads false s = refl
 
+-- an act doesn't change what replies say
 pub after_reads : (plan : Plan) (commands : List Task) (s : Model) (act : Act) → (after plan commands s act).reads ≡ s.reads
 after_reads plan commands s act =
     let t = moved plan commands (action_at plan s) (with_progress turned s) act in
@@ -39,20 +43,21 @@ all_reads : (plan : Plan) (commands : List Task) (s : Model) (acts : List Act) �
 all_reads plan commands s [] = refl
 all_reads plan commands s (act ∷ acts) = all_reads plan commands (after plan commands s act) acts ∙ after_reads plan commands s act
 
+-- behind any acts replies say what they say in the scope
 pub stood_reads : (plan : Plan) (commands : List Task) (scope : Scope) (acts : List Act) → (stood plan commands scope acts).reads ≡ scope.reads
 stood_reads plan commands scope acts = all_reads plan commands (opening plan scope) acts
 
--- if replies say the same of two models, readings of one are readings of the other
+-- readings of a function are readings of an equal one
 pub are_same : (a b : Call → List ℕ → Reading) → a ≡ b → AreReadings b → AreReadings a
 are_same a b e are = subst (λ (r : Call → List ℕ → Reading). AreReadings r) (sym e) are
 
--- a line says one thing of a call at most
+-- a line has at most one reading for a call
 pub one_for_a_line : OneReadingForALine
 one_for_a_line call line x y p q =
     let same = reply_one line p.reply q.reply p.is_reply q.is_reply in
     one_reading call q.reply x y (subst (λ (r : ReplyFields). IsReading call r x) same p.is_reading) q.is_reading
 
--- what a line says of a call: what its reply says, and something where it is no reply
+-- the reading of a line for a call: that of its reply, and any where it is no reply
 said : Call → Result ReplyFields LineFault → Reading
 said call (Ok reply) = (each_reply call reply).0
 said call (Err fault) = Refused 0
@@ -66,5 +71,6 @@ some_readings = (
       ∙ one_reading call is.reply (each_reply call is.reply).0 reading (each_reply call is.reply).1 is.is_reading,
 )
 
+-- what holds for every function that gives the readings is `ForReadings`, because there is such a function
 pub for_readings : (Holds : (Call → List ℕ → Reading) → Type 0) → ((reads : Call → List ℕ → Reading) → AreReadings reads → Holds reads) → ForReadings Holds
 for_readings Holds each = (each, (some_readings.0, some_readings.1, each some_readings.0 some_readings.1))

@@ -18,12 +18,13 @@ use Rattle.gc_station.specs.declared.tally.Tally.{Tally}
 
 -- Marks.
 
+-- the commands of two lists of marks are as many as those of both together
 pub commands-append : (xs ys : List (Option Mark)) → commands_in (xs ++ ys) ≡ commands_in xs + commands_in ys
 commands-append [] ys = omega arith
 commands-append (None ∷ xs) ys = commands-append xs ys
 commands-append (Some m ∷ xs) ys = let more = commands-append xs ys in omega (arith, more)
 
--- a mark is a command's, or none
+-- one mark counts as one command, or none
 commands_one : (mark : Option Mark) (b : Bool) → is_some mark ≡ b → commands_in (mark ∷ []) ≡ (if b then 1 else 0)
 commands_one None true e = cc
 commands_one None false e = refl
@@ -35,10 +36,11 @@ got_there [] i d below = absurd (omega (arith, below))
 got_there (mark ∷ marks) zero d below = refl
 got_there (mark ∷ marks) (suc i) d below = let low : i < length marks = omega (arith, below) in got_there marks i d low
 
--- the mark that is looked at
+-- the mark that is looked at is the one at its place
 pub item_there : (marks : List (Option Mark)) (i : ℕ) (mark : Option Mark) → i < length marks → mark ≡ get_or marks i mark → is_some mark ≡ is_some (get_or marks i None)
 item_there marks i mark below is = ap is_some (is ∙ got_there marks i mark below)
 
+-- the commands among the first i + 1 marks are those among the first i, and the next one
 pub commands_more : (marks : List (Option Mark)) (i : ℕ) (b : Bool) → i < length marks → b ≡ is_some (get_or marks i None)
     → commands_in (take (i + 1) marks) ≡ commands_in (take i marks) + (if b then 1 else 0)
 commands_more marks i b below e =
@@ -47,22 +49,25 @@ commands_more marks i b below e =
 
 -- Records.
 
+-- no settlements have no records
 pub records-none : (reads : Call → List ℕ → Reading) (utc : ℕ) (marks : List (Option Mark)) → records_of reads utc marks [] ≡ []
 records-none reads utc [] = refl
 records-none reads utc (mark ∷ marks) = refl
 
--- the oldest request's mark is that of its record
+-- the record of the oldest request goes by the first mark alone
 mark_here : (reads : Call → List ℕ → Reading) (utc : ℕ) (mark : Option Mark) (marks : List (Option Mark)) (x : Rule.Settlement)
     → records_of reads utc (mark ∷ marks) (x ∷ []) ≡ records_of reads utc (mark ∷ []) (x ∷ [])
 mark_here reads utc None marks x = records-none reads utc marks
 mark_here reads utc (Some mark) marks x = ap (λ rs. record_of reads utc mark x ∷ rs) (records-none reads utc marks)
 
+-- the record of the oldest request goes by the first mark, where that is known by its place
 pub mark_first : (reads : Call → List ℕ → Reading) (utc : ℕ) (marks : List (Option Mark)) (mark : Option Mark) (x : Rule.Settlement)
     → Some mark ≡ slice_get marks 0 → records_of reads utc marks (x ∷ []) ≡ records_of reads utc (mark ∷ []) (x ∷ [])
 mark_first reads utc [] mark x e = cc
 mark_first reads utc (m ∷ marks) mark x e = let same : m ≡ mark = cc in mark_here reads utc m marks x ∙ ap (λ k. records_of reads utc (k ∷ []) (x ∷ [])) same
 
--- the records of some settlements, and of those behind them
+-- the records of settlements and of others behind them are those of the first, and behind them those of the others by the marks
+-- that are left
 pub records-append : (reads : Call → List ℕ → Reading) (utc : ℕ) (marks : List (Option Mark)) (xs ys : List Rule.Settlement)
     → records_of reads utc marks (xs ++ ys) ≡ records_of reads utc marks xs ++ records_of reads utc (drop (length xs) marks) ys
 records-append reads utc [] [] ys = refl
@@ -71,7 +76,7 @@ records-append reads utc (mark ∷ marks) [] ys = refl
 records-append reads utc (None ∷ marks) (x ∷ xs) ys = records-append reads utc marks xs ys
 records-append reads utc (Some mark ∷ marks) (x ∷ xs) ys = ap (λ rs. record_of reads utc mark x ∷ rs) (records-append reads utc marks xs ys)
 
--- the settlements in front of place i, and the one at it, which has this mark
+-- the records of the first i + 1 settlements are those of the first i, and that of the one at place i
 pub front_more : (reads : Call → List ℕ → Reading) (utc : ℕ) (marks : List (Option Mark)) (ss : List Settlement) (i : ℕ) (s : Settlement) (mark : Option Mark) → i < length ss → s ≡ get_or ss i s
     → records_of reads utc (drop i marks) (settlement_seen s ∷ []) ≡ records_of reads utc (mark ∷ []) (settlement_seen s ∷ [])
     → records_of reads utc marks (map settlement_seen (take (i + 1) ss)) ≡ records_of reads utc marks (map settlement_seen (take i ss)) ++ records_of reads utc (mark ∷ []) (settlement_seen s ∷ [])
@@ -83,7 +88,7 @@ front_more reads utc marks ss i s mark below is here =
     ∙ ap (λ n. records_of reads utc marks front ++ records_of reads utc (drop n marks) (settlement_seen s ∷ [])) len
     ∙ ap (λ rs. records_of reads utc marks front ++ rs) here
 
--- those in front of place i, and the others
+-- all records are those of the first i settlements, and of the others
 pub front_left : (reads : Call → List ℕ → Reading) (utc : ℕ) (marks : List (Option Mark)) (ss : List Settlement) (i : ℕ)
     → records_of reads utc marks (map settlement_seen ss) ≡ records_of reads utc marks (map settlement_seen (take i ss)) ++ records_of reads utc
     (drop (length (map settlement_seen (take i ss))) marks) (map settlement_seen (drop i ss))
@@ -94,22 +99,25 @@ front_left reads utc marks ss i =
 
 -- Texts.
 
--- one more text behind those of some records
+-- where `next` is `front` and `more` behind it, the texts are the same, whether `front` is joined to `more` first or to `before`
 pub texts_more : (text : Record → List ℕ) (before front next more : List Record) → next ≡ front ++ more → texts_of text (before ++ next) ≡ texts_of text ((before ++ front) ++ more)
 texts_more text before front next more is = ap (λ rs. texts_of text (before ++ rs)) is ∙ ap (texts_of text) (sym (append_assoc before front more))
 
 -- Records are added, and none goes.
 
+-- these records are the first of those
 abbrev pub Grew : List Record → List Record → Type 0
 Grew old new = (more : List Record) × (new ≡ old ++ more)
 
+-- records are a front of themselves
 pub grew_none : (rs : List Record) → Grew rs rs
 grew_none rs = ([], sym (append-nil rs))
 
+-- a front of a front is a front
 pub grew_then : (a b c : List Record) → Grew a b → Grew b c → Grew a c
 grew_then a b c g h = (g.0 ++ h.0, h.1 ∙ ap (λ rs. rs ++ h.0) g.1 ∙ append_assoc a g.0 h.0)
 
--- a part of one record, behind those that stood there before
+-- a part of one record was written behind others that were written whole
 pub part_one : (text : Record → List ℕ) (before : List Record) (r : Record) (start old new : Option (List ℕ)) (part : ℕ)
     → Appends start old (texts_of text before) → part < length (text r) → Appends old new (take part (text r))
     → WritesPart text before (before ++ r ∷ []) start new
@@ -124,7 +132,7 @@ part_one text before r start old new part so not_all took = record {
       (Appends-append start old new (texts_of text before) (take part (text r)) so took);
 }
 
--- a part of some records is a part of more
+-- a part of some records is a part of these and more
 pub part_more : (text : Record → List ℕ) (before all more : List Record) (old new : Option (List ℕ)) → WritesPart text before all old new → WritesPart text before (all ++ more) old new
 part_more text before all more old new w = record {
   earlier = w.earlier;
@@ -136,7 +144,7 @@ part_more text before all more old new w = record {
   took = w.took;
 }
 
--- if a part was written behind these records, it was also written behind fewer of them
+-- a part that was written behind these records was also written behind fewer of them
 pub part_since : (text : Record → List ℕ) (before front all : List Record) (old new : Option (List ℕ)) → WritesPart text (before ++ front) all old new → WritesPart text before all old new
 part_since text before front all old new w = record {
   earlier = front ++ w.earlier;
@@ -148,14 +156,15 @@ part_since text before front all old new w = record {
   took = subst (λ (rs : List Record). Appends old new (texts_of text rs ++ take w.part (text w.next))) (append_assoc before front w.earlier) w.took;
 }
 
--- both, where records grew
+-- a part that was written behind more records was written behind fewer
 pub part_grew : (text : Record → List ℕ) (before mid all : List Record) (old new : Option (List ℕ)) → Grew before mid → WritesPart text mid all old new → WritesPart text before all old new
 part_grew text before mid all old new g w = part_since text before g.0 all old new (subst (λ (rs : List Record). WritesPart text rs all old new) g.1 w)
 
+-- a part of fewer records is a part of more
 pub part_grows : (text : Record → List ℕ) (before mid all : List Record) (old new : Option (List ℕ)) → Grew mid all → WritesPart text before mid old new → WritesPart text before all old new
 part_grows text before mid all old new g w = subst (λ (rs : List Record). WritesPart text before rs old new) (sym g.1) (part_more text before mid g.0 old new w)
 
--- a part of one record more is a part of all
+-- a part of the next record is a part of all records
 pub part_behind : (text : Record → List ℕ) (before front next more all later : List Record) (start new : Option (List ℕ)) → next ≡ front ++ more → all ≡ next ++ later
     → WritesPart text (before ++ front) ((before ++ front) ++ more) start new → WritesPart text before (before ++ all) start new
 part_behind text before front next more all later start new is whole w =
@@ -164,11 +173,12 @@ part_behind text before front next more all later start new is whole w =
     ∙ sym (append_assoc before front (more ++ later)) ∙ sym (append_assoc (before ++ front) more later) in
     part_since text before front (before ++ all) start new (part_grows text (before ++ front) ((before ++ front) ++ more) (before ++ all) start new (later, order) w)
 
--- counting goes on
+-- records that are counted, and then others, are counted in all
 pub tallied-append : (t : Tally) (xs ys : List Record) → tallied t (xs ++ ys) ≡ tallied (tallied t xs) ys
 tallied-append t [] ys = refl
 tallied-append t (x ∷ xs) ys = tallied-append (counted x.end t) xs ys
 
+-- a tally that counted records, and then one more, counted all of them
 pub tallied_more : (t u v : Tally) (front one next : List Record) → u ≡ tallied t front → v ≡ tallied u one → next ≡ front ++ one → v ≡ tallied t next
 tallied_more t u v front one next so more is = more ∙ ap (λ (x : Tally). tallied x one) so ∙ sym (tallied-append t front one) ∙ sym (ap (tallied t) is)
 
@@ -177,14 +187,16 @@ pub last-append : (reads : Call → List ℕ → Reading) (b : Bool) (xs ys : Li
 last-append reads b [] ys = refl
 last-append reads b (x ∷ xs) ys = last-append reads (is_well reads x.command.call x.end) xs ys
 
+-- how the last of some records and of others behind them ended is known from both
 pub last_more : (reads : Call → List ℕ → Reading) (a b c : Bool) (front one next : List Record) → b ≡ last_well reads a front → c ≡ last_well reads b one
     → next ≡ front ++ one → c ≡ last_well reads a next
 last_more reads a b c front one next so more is = more ∙ ap (λ x. last_well reads x one) so ∙ sym (last-append reads a front one) ∙ sym (ap (last_well reads a) is)
 
--- a record by how its command ended
+-- the record of a settlement with this ending
 abbrev pub record_as : ℕ → Mark → Rule.Settlement → End → Record
 record_as utc mark settlement end = record { sent = Some mark.sent; utc = utc; cycle = mark.cycle; place = mark.place; command = command_of settlement; end = end }
 
+-- the record with the ending that a settlement gives is the record of the settlement
 pub record_same : (reads : Call → List ℕ → Reading) (utc : ℕ) (mark : Mark) (x : Rule.Settlement) (end : End) → end ≡ end_of reads mark.near x.call x.outcome
     → record_as utc mark x end ≡ record_of reads utc mark x
 record_same reads utc mark x end is = ap (record_as utc mark x) is

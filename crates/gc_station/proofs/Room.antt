@@ -13,11 +13,13 @@ use Rattle.gc_station.specs.Runs.{stood}
 use Rattle.gc_station.specs.Model.{action_at, waiting_of}
 use Rattle.gc_station.proofs.Facts.{action_for}
 
+-- where a request of the client is next, there is room
 room_of : (plan : Plan) (p : Progress) (w : Waiting) (next : Action) → IsAsking next → IsFor plan p w next → HasRoom plan w
 room_of plan p w actions.Send puts is = is.3
 room_of plan p w actions.Flush puts is = is.5
 room_of plan p w next puts is = absurd puts
 
+-- where there is room, none is under way, or fewer than the plan's width
 few : (plan : Plan) (w : Waiting) → HasRoom plan w → (w.current ≡ 0) ⊎ (w.current < plan.width)
 few plan w room = elim (leb_tells plan.width 0) as (λ _. (w.current ≡ 0) ⊎ (w.current < plan.width)) [
   | inl none ↦ let least = none.1 in let here = room.0 in inl (omega (arith, least, here))

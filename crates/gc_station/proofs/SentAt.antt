@@ -28,6 +28,7 @@ some_is a b e = cc
 pub none_is_not : {A : Type 0} (a : A) → None ≡ Some a → ⊥
 none_is_not a e = cc
 
+-- what is at a place of two lists, one behind the other, is in the first or at a place of the second
 pub get_split : {A : Type 0} (xs ys : List A) (n : ℕ) (x : A) → slice_get (xs ++ ys) n ≡ Some x → (slice_get xs n ≡ Some x) ⊎ ((k : ℕ) × (n ≡ length xs + k) × (slice_get ys k ≡ Some x))
 get_split [] ys n x e = inr (n, omega arith, e)
 get_split (y ∷ xs) ys zero x e = inl e
@@ -37,6 +38,7 @@ get_split (y ∷ xs) ys (suc n) x e =
       | inr r ↦ (let at : n ≡ length xs + r.0 = r.1 in inr (r.0, omega (arith, at), r.2))
     ]
 
+-- an element at place i of the second list is at place i, behind the length of the first, of both
 pub get_behind : {A : Type 0} (xs ys : List A) (i j : ℕ) (x : A) → j ≡ length xs + i → slice_get ys i ≡ Some x → slice_get (xs ++ ys) j ≡ Some x
 get_behind [] ys i j x e got = let same : i ≡ j = omega (arith, e) in subst (λ k. slice_get ys k ≡ Some x) same got
 get_behind (y ∷ xs) ys i zero x e got = absurd (omega (arith, e))
@@ -61,14 +63,17 @@ fronts (x ∷ xs) ys (f ∷ fs) gs e =
 
 -- What is written down stays.
 
+-- a front of a front is a front
 pub grew_both : (xs ys zs : List Record) → Grew xs ys → Grew ys zs → Grew xs zs
 grew_both xs ys zs g h = (g.0 ++ h.0, h.1 ∙ ap (λ l. l ++ h.0) g.1 ∙ append_assoc xs g.0 h.0)
 
+-- the records before an act are the first of those behind it
 pub after_grew : (plan : Plan) (commands : List Task) (s : Model) (act : Act) → Grew s.records (after plan commands s act).records
 after_grew plan commands s act =
     let t = moved plan commands (action_at plan s) (with_progress turned s) act in
     grew_both s.records t.records (after plan commands s act).records (moved_grew plan commands (action_at plan s) (with_progress turned s) act) (losing_records (loses_all t.progress) t)
 
+-- the records before acts are the first of those behind them
 pub all_grew : (plan : Plan) (commands : List Task) (s : Model) (acts : List Act) → Grew s.records (after_all plan commands s acts).records
 all_grew plan commands s [] = grew_none s.records
 all_grew plan commands s (act ∷ acts) =
@@ -81,6 +86,7 @@ records_stay plan commands scope before rest =
 
 -- Where a request of a command goes out.
 
+-- a mark in the part of the next command is that command's
 pub put_mark : (plan : Plan) (commands : List Task) (s : Model) (left : List Task) (n : ℕ) (mark : Mark)
     → slice_get (asking_first s.progress.moment.elapsed (mark_next plan commands s.progress) left).marks n ≡ Some (Some mark)
     → (n ≡ 0) × (mark ≡ mark_next plan commands s.progress)
@@ -88,26 +94,30 @@ put_mark plan commands s [] n mark e = absurd (none_is_not (Some mark) e)
 put_mark plan commands s (task ∷ others) zero mark e = (refl, sym (some_is (mark_next plan commands s.progress) mark (some_is (Some (mark_next plan commands s.progress)) (Some mark) e)))
 put_mark plan commands s (task ∷ others) (suc n) mark e = absurd (none_is_not (Some mark) e)
 
+-- a null procedure has no mark
 pub null_mark : (n : ℕ) (mark : Mark) → slice_get (None ∷ []) n ≡ Some (Some mark) → ⊥
 null_mark zero mark e = cc
 null_mark (suc n) mark e = none_is_not (Some mark) e
 
+-- this action sends the command with this mark, as the only request of its part
 abbrev pub IsSend : Plan → List Task → Model → Action → ℕ → Mark → Type 0
 IsSend plan commands s o n mark = (n ≡ 0) × (o ≡ Send) × (mark ≡ mark_next plan commands s.progress)
 
+-- a mark in the part of bytes that are put is of a command that is sent
 pub putting_mark : (plan : Plan) (commands : List Task) (s : Model) (o : Action) (n : ℕ) (mark : Mark)
     → slice_get (putting plan commands s o).marks n ≡ Some (Some mark) → IsSend plan commands s o n mark
 putting_mark plan commands s Send n mark e = let h = put_mark plan commands s (drop (place_next commands s.progress) commands) n mark e in (h.0, refl, h.1)
 putting_mark plan commands s Flush n mark e = absurd (null_mark n mark e)
 putting_mark plan commands s o n mark e = absurd (none_is_not (Some mark) e)
 
+-- a mark in the part of an act is of a command that is sent, once the station has begun
 pub doing_mark : (plan : Plan) (commands : List Task) (s : Model) (o : Action) (act : Act) (n : ℕ) (mark : Mark)
     → slice_get (doing plan commands s o act).marks n ≡ Some (Some mark) → IsSend plan commands s o n mark
 doing_mark plan commands s o (Put bytes) n mark e = putting_mark plan commands s o n mark e
 doing_mark plan commands s o (Cut bytes count) n mark e = putting_mark plan commands s o n mark e
 doing_mark plan commands s o act n mark e = absurd (none_is_not (Some mark) e)
 
--- while it begins no request is a command
+-- while the station begins no request is a command's
 pub beginning_mark : (s : Model) (o : Action) (act : Act) (n : ℕ) (mark : Mark) → slice_get (beginning s o act).marks n ≡ Some (Some mark) → ⊥
 beginning_mark s Ask (Put bytes) n mark e = none_is_not (Some mark) e
 beginning_mark s Ask (Cut bytes count) n mark e = none_is_not (Some mark) e
@@ -116,6 +126,7 @@ beginning_mark s (Read until) (Gave piece m) n mark e = none_is_not (Some mark) 
 beginning_mark s (Read until) act n mark e = none_is_not (Some mark) e
 beginning_mark s o act n mark e = none_is_not (Some mark) e
 
+-- a mark in the part of an act is of a command that is sent
 pub acting_mark : (plan : Plan) (commands : List Task) (s : Model) (o : Action) (act : Act) (n : ℕ) (mark : Mark)
     → slice_get (acting plan commands s o act).marks n ≡ Some (Some mark) → IsSend plan commands s o n mark
 acting_mark plan commands s o act n mark =
@@ -135,27 +146,30 @@ pub record SentAt (plan : Plan) (commands : List Task) (s : Model) (acts : List 
   pub last : length (parts_of plan commands s before) ≡ suc i
   pub count : length first.marks ≡ n
 
+-- a part that is joined to the first of these is the front of the first
 pub joined_at : (p : Part) (ps : List Part) (q : Part) → slice_get ps 0 ≡ Some q → slice_get (in_front p false ps) 0 ≡ Some (joined p q)
 joined_at p [] q e = absurd (none_is_not q e)
 joined_at p (x ∷ ps) q e = ap (λ y. Some (joined p y)) (some_is x q e)
 
+-- the parts behind the first stay at their places where a part is joined to the first
 pub joined_on : (p : Part) (ps : List Part) (i : ℕ) (q : Part) → slice_get ps (suc i) ≡ Some q → slice_get (in_front p false ps) (suc i) ≡ Some q
 joined_on p [] i q e = absurd (none_is_not q e)
 joined_on p (x ∷ ps) i q e = e
 
+-- there are as many parts where a part is joined to the first
 pub joined_length : (p : Part) (ps : List Part) (i : ℕ) → length ps ≡ suc i → length (in_front p false ps) ≡ suc i
 joined_length p [] i e = absurd (omega (arith, e))
 joined_length p (x ∷ ps) i e = e
 
 module _ (plan : Plan) (commands : List Task) where
-  -- the first act sends it
+  -- where the part of the first act has the mark of a command, the first act sends the command
   pub sent_here : (s : Model) (act : Act) (acts : List Act) (n : ℕ) (mark : Mark)
       → slice_get (acting plan commands s (action_at plan s) act).marks n ≡ Some (Some mark) → SentAt plan commands s (act ∷ acts) 0 n mark
   sent_here s act acts n mark e =
       let h = acting_mark plan commands s (action_at plan s) act n mark e in
       record { before = []; act = act; rest = acts; order = refl; sends = h.1; is = h.2; first = nothing; of_parts = refl; last = refl; count = sym h.0 }
 
-  -- a later one does, in a later part
+  -- an act behind the first one, with which a part ends, sends the command: so the command is in a later part
   pub sent_cut : (s : Model) (act : Act) (acts : List Act) (i n : ℕ) (mark : Mark) → ends_part plan commands s act ≡ true
       → SentAt plan commands (after plan commands s act) acts i n mark → SentAt plan commands s (act ∷ acts) (suc i) n mark
   sent_cut s act acts i n mark is h =
@@ -174,7 +188,7 @@ module _ (plan : Plan) (commands : List Task) where
         count = h.count;
       }
 
-  -- in the same part
+  -- an act behind the first one sends the command in the first part: so the command is behind the requests of the first act
   pub sent_on : (s : Model) (act : Act) (acts : List Act) (n k : ℕ) (mark : Mark) → ends_part plan commands s act ≡ false → n ≡ length (acting plan commands s (action_at plan s) act).marks + k
       → SentAt plan commands (after plan commands s act) acts 0 k mark → SentAt plan commands s (act ∷ acts) 0 n mark
   sent_on s act acts n k mark is at h =
@@ -195,6 +209,7 @@ module _ (plan : Plan) (commands : List Task) where
         count = omega (arith, size, count, at);
       }
 
+  -- an act behind the first one sends the command in a later part
   pub sent_later : (s : Model) (act : Act) (acts : List Act) (i n : ℕ) (mark : Mark) → ends_part plan commands s act ≡ false
       → SentAt plan commands (after plan commands s act) acts (suc i) n mark → SentAt plan commands s (act ∷ acts) (suc i) n mark
   sent_later s act acts i n mark is h =
@@ -213,7 +228,7 @@ module _ (plan : Plan) (commands : List Task) where
         count = h.count;
       }
 
-  -- by whether the part ends behind the first act
+  -- a request of a command was sent among acts, whether a part ends with the first of them or not
   pub sent_by : (s : Model) (act : Act) (acts : List Act) (b : Bool) (ps : List Part) (i n : ℕ) (part : Part) (mark : Mark) → ends_part plan commands s act ≡ b
       → ((j k : ℕ) (p : Part) → slice_get ps j ≡ Some p → slice_get p.marks k ≡ Some (Some mark) → SentAt plan commands (after plan commands s act) acts j k mark)
       → slice_get (in_front (acting plan commands s (action_at plan s) act) b ps) i ≡ Some part → slice_get part.marks n ≡ Some (Some mark) → SentAt plan commands s (act ∷ acts) i n mark
@@ -231,6 +246,7 @@ module _ (plan : Plan) (commands : List Task) where
       ]
   sent_by s act acts false (q ∷ ps) (suc i) n part mark is again e f = sent_later s act acts i n mark is (again (suc i) n part e f)
 
+  -- a request of a command in a run's parts was sent among the run's acts
   pub sent_at : (s : Model) (acts : List Act) (i n : ℕ) (part : Part) (mark : Mark) → slice_get (parts_of plan commands s acts) i ≡ Some part
       → slice_get part.marks n ≡ Some (Some mark) → SentAt plan commands s acts i n mark
   sent_at s [] zero n part mark e f = absurd (none_is_not (Some mark) (subst (λ (p : Part). slice_get p.marks n ≡ Some (Some mark)) (sym (some_is nothing part e)) f))

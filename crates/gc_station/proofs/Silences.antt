@@ -26,6 +26,7 @@ use Rattle.gc_station.proofs.Walk.{asked_along, came_along}
 
 -- The moment that was told last, behind one act more.
 
+-- the moment told last among acts and one more is the one that this tells or, if it tells none, the one that those told last
 pub latest_more : (now : ℕ) (acts : List Act) (act : Act) → latest now (acts ++ act ∷ []) ≡ latest (latest now acts) (act ∷ [])
 latest_more now [] act = refl
 latest_more now (Told m ∷ acts) act = latest_more m.elapsed acts act
@@ -41,6 +42,7 @@ paused_up : (b : Bool) (at : Phase) → at ≡ phase.Pausing → is_up (if b the
 paused_up true at is = refl
 paused_up false at is = ap is_up is
 
+-- the end of a pause or a drain makes no connection, and closes none
 pub quieted_up : (plan : Plan) (at : Phase) (p : Progress) → p.phase ≡ at → is_up (quieted plan at p).phase ≡ is_up at
 quieted_up plan phase.Pausing p is = paused_up (is_past p.pause p && not (is_idle plan p)) p.phase is
 quieted_up plan phase.Draining p is = drained_up (is_quiet plan p) p is
@@ -48,34 +50,40 @@ quieted_up plan at p is = ap is_up is
 
 -- The act that told the last moment.
 
+-- the last of these acts tells this moment
 abbrev pub LastTells : ℕ → List Act → Type 0
 LastTells now acts = (front : List Act) × (last : Act) × (acts ≡ front ++ last ∷ []) × TellsMoment now last
 
--- where bytes are read, and where requests may go out, it is the last one, unless bytes went out behind it
+-- in a drain, and where requests may go out: if the moment was told, the last act told it
 abbrev Fresh : Bool → ℕ → Phase → List Act → Type 0
 Fresh stale now phase.Draining acts = stale ≡ false → LastTells now acts
 Fresh stale now phase.Ready acts = stale ≡ false → LastTells now acts
 Fresh stale now at acts = Unit {0}
 
+-- `Fresh`, by the fields of a progress
 abbrev FreshAt : Progress → List Act → Type 0
 FreshAt p acts = Fresh p.stale p.moment.elapsed p.phase acts
 
+-- where no connection is in use, `Fresh` says nothing
 fresh_none : (stale : Bool) (now : ℕ) (at : Phase) (acts : List Act) → is_in_use at ≡ false → Fresh stale now at acts
 fresh_none stale now phase.Draining acts none = cc
 fresh_none stale now phase.Ready acts none = cc
 fresh_none stale now at acts none = tt
 
+-- `Fresh` holds behind an act that tells the moment
 fresh_told : (stale : Bool) (now : ℕ) (at : Phase) (acts : List Act) (act : Act) → TellsMoment now act → Fresh stale now at (acts ++ act ∷ [])
 fresh_told stale now phase.Draining acts act tells = λ e. (acts, act, refl, tells)
 fresh_told stale now phase.Ready acts act tells = λ e. (acts, act, refl, tells)
 fresh_told stale now at acts act tells = tt
 
+-- where the moment wasn't told, `Fresh` says nothing
 fresh_stale : (now : ℕ) (at : Phase) (acts : List Act) → Fresh true now at acts
 fresh_stale now phase.Draining acts = λ e. cc
 fresh_stale now phase.Ready acts = λ e. cc
 fresh_stale now at acts = tt
 
 module _ (plan : Plan) (commands : List Task) where
+  -- `Fresh` lasts over an act of any action
   fresh_line : (next : Action) (s : Model) (acts : List Act) → OnLine plan commands FreshAt next (with_progress turned s) acts
   fresh_line actions.Open s acts = λ m. tt
   fresh_line actions.Clear s acts = λ m. fresh_stale s.progress.moment.elapsed (cleared s.progress).phase _
@@ -95,6 +103,7 @@ module _ (plan : Plan) (commands : List Task) where
   fresh_line (actions.Stop why) s acts = tt
   fresh_line next s acts = λ m. fresh_told false m.elapsed s.progress.phase acts (Told m) refl
 
+  -- `Fresh` holds behind every run
   fresh_stood : (scope : Scope) (acts : List Act) → Runs plan commands (opening plan scope) acts → FreshAt (stood plan commands scope acts).progress acts
   fresh_stood scope acts runs = always_far plan commands (opening plan scope) FreshAt step tt acts runs where
     step : (done : List Act) (act : Act) → Runs plan commands (opening plan scope) done
@@ -105,7 +114,7 @@ module _ (plan : Plan) (commands : List Task) where
         let s = stood plan commands scope done in
         on_line plan commands FreshAt (λ p acts none. fresh_none p.stale p.moment.elapsed p.phase acts none) (action_at plan s) s act done o (fresh_line (action_at plan s) s done)
 
-  -- where requests may go out, behind a moment that was told
+  -- where requests may go out, and the moment was told, the last act told it
   pub awake_last : (scope : Scope) (acts : List Act) → Runs plan commands (opening plan scope) acts → Awake (stood plan commands scope acts).progress
       → LastTells (stood plan commands scope acts).progress.moment.elapsed acts
   awake_last scope acts runs awake =
@@ -114,16 +123,19 @@ module _ (plan : Plan) (commands : List Task) where
 
 -- A close that no act shows is decided where it is made.
 
+-- where no act shows the cause of a close, the phase hasn't decided the close
 pub not_closing : (plan : Plan) (commands : List Task) (scope : Scope) (acts : List Act) (why : Cause) → Runs plan commands (opening plan scope) acts
     → ((act : Act) → Shows why act → ⊥) → (stood plan commands scope acts).progress.phase ≡ phase.Closing why → ⊥
 not_closing plan commands scope acts why runs none is = let shown = closing_shown plan commands scope acts why runs is in none shown.1 shown.3
 
+-- a close that the phase hasn't decided is decided by `IsAtItsEnd`
 pub end_here : (plan : Plan) (s : Model) (why : Cause) → action_at plan s ≡ actions.Close why → (s.progress.phase ≡ phase.Closing why → ⊥) → IsAtItsEnd plan s.progress (waiting_of s) why
 end_here plan s why is never = by_needs (needs_of plan s (actions.Close why) is).1 where
   by_needs : (s.progress.phase ≡ phase.Closing why) ⊎ IsAtItsEnd plan s.progress (waiting_of s) why → IsAtItsEnd plan s.progress (waiting_of s) why
   by_needs (inl closing) = absurd (never closing)
   by_needs (inr end) = end
 
+-- where the phase hasn't decided the close, requests may go out, and the moment was told
 pub awake_here : (p : Progress) (why : Cause) → (p.phase ≡ phase.Closing why) ⊎ Awake p → (p.phase ≡ phase.Closing why → ⊥) → Awake p
 awake_here p why (inl closing) never = absurd (never closing)
 awake_here p why (inr a) never = a

@@ -14,6 +14,7 @@ le_of a b e = elim (leb_tells a b) as (λ _. a ≤ b) [ inl is ↦ is.1 | inr is
 pub lt_of : (a b : ℕ) → nat_le a b ≡ false → b < a
 lt_of a b e = elim (leb_tells a b) as (λ _. b < a) [ inl is ↦ let bad : true ≡ false = sym is.0 ∙ e in cc | inr is ↦ is.1 ]
 
+-- a cycle that isn't the first is due by its moment
 pub due_since : (first due : Bool) → first ≡ false → (if first then true else due) ≡ true → due ≡ true
 due_since first due e d = sym (ap (λ (b : Bool). if b then true else due) e) ∙ d
 
@@ -41,13 +42,14 @@ clash b e f = let bad : true ≡ false = sym e ∙ f in cc
 
 -- Clocks.
 
--- what an act does to the moment, and to the one at which the cycle was due
+-- what an act does to the moment, and to the one that counts as the beginning of the cycle
 abbrev pub Ticks : Progress → Act → Progress → Type 0
 Ticks p (Told m) q = (q.moment ≡ m) × (q.began ≡ min p.began m.elapsed)
 Ticks p (Gave bytes m) q = (q.moment ≡ m) × (q.began ≡ min p.began m.elapsed)
 Ticks p (Silent m) q = (q.moment ≡ m) × (q.began ≡ min p.began m.elapsed)
 Ticks p act q = (q.moment ≡ p.moment) × (q.began ≡ p.began)
 
+-- where the clock doesn't go back at a moment, the beginning of the cycle stays
 pub ticked_at : (p q : Progress) (m : Moment) → (q.moment ≡ m) × (q.began ≡ min p.began m.elapsed) → p.moment.elapsed ≤ m.elapsed → p.began ≤ p.moment.elapsed
     → (q.began ≡ p.began) × (q.began ≤ q.moment.elapsed)
 ticked_at p q m t rises past =
@@ -55,19 +57,21 @@ ticked_at p q m t rises past =
     let now : q.moment.elapsed ≡ m.elapsed = ap (λ (x : Moment). x.elapsed) t.0 in
     (same, omega (arith, same, now, rises, past))
 
+-- without a moment the beginning of the cycle stays
 pub ticked_not : (p q : Progress) → (q.moment ≡ p.moment) × (q.began ≡ p.began) → p.began ≤ p.moment.elapsed → (q.began ≡ p.began) × (q.began ≤ q.moment.elapsed)
 ticked_not p q t past =
     let same = t.1 in
     let now : q.moment.elapsed ≡ p.moment.elapsed = ap (λ (x : Moment). x.elapsed) t.0 in
     (same, omega (arith, same, now, past))
 
+-- where the clock doesn't go back at an act, the beginning of the cycle stays
 pub ticked : (p q : Progress) (act : Act) → Ticks p act q → Rises p.moment.elapsed (act ∷ []) → p.began ≤ p.moment.elapsed → (q.began ≡ p.began) × (q.began ≤ q.moment.elapsed)
 ticked p q (Told m) t rises past = ticked_at p q m t rises.0 past
 ticked p q (Gave bytes m) t rises past = ticked_at p q m t rises.0 past
 ticked p q (Silent m) t rises past = ticked_at p q m t rises.0 past
 ticked p q act t rises past = ticked_not p q t past
 
--- the front of acts whose moments rise, and the last of them
+-- where the clock doesn't go back in acts, it doesn't in the acts before the last
 pub rises_front : (now : ℕ) (xs : List Act) (act : Act) → Rises now (xs ++ act ∷ []) → Rises now xs
 rises_front now [] act h = tt
 rises_front now (Told m ∷ xs) act h = (h.0, h.1, rises_front m.elapsed xs act h.2)
@@ -75,6 +79,7 @@ rises_front now (Gave bytes m ∷ xs) act h = (h.0, h.1, rises_front m.elapsed x
 rises_front now (Silent m ∷ xs) act h = (h.0, h.1, rises_front m.elapsed xs act h.2)
 rises_front now (x ∷ xs) act h = rises_front now xs act h
 
+-- the moment that these acts tell last; where they tell none, this one
 abbrev pub last_of : ℕ → List Act → ℕ
 last_of now [] = now
 last_of now (Told m ∷ acts) = last_of m.elapsed acts
@@ -82,6 +87,7 @@ last_of now (Gave bytes m ∷ acts) = last_of m.elapsed acts
 last_of now (Silent m ∷ acts) = last_of m.elapsed acts
 last_of now (act ∷ acts) = last_of now acts
 
+-- where the clock doesn't go back in acts, it doesn't at the last of them
 pub rises_last : (now : ℕ) (xs : List Act) (act : Act) → Rises now (xs ++ act ∷ []) → Rises (last_of now xs) (act ∷ [])
 rises_last now [] act h = h
 rises_last now (Told m ∷ xs) act h = rises_last m.elapsed xs act h.2
@@ -89,6 +95,7 @@ rises_last now (Gave bytes m ∷ xs) act h = rises_last m.elapsed xs act h.2
 rises_last now (Silent m ∷ xs) act h = rises_last m.elapsed xs act h.2
 rises_last now (x ∷ xs) act h = rises_last now xs act h
 
+-- the moment told last among acts and one more is the one that this tells or, if it tells none, the one that those told last
 pub last_more : (now : ℕ) (xs : List Act) (act : Act) → last_of now (xs ++ act ∷ []) ≡ last_of (last_of now xs) (act ∷ [])
 last_more now [] act = refl
 last_more now (Told m ∷ xs) act = last_more m.elapsed xs act
@@ -96,6 +103,7 @@ last_more now (Gave bytes m ∷ xs) act = last_more m.elapsed xs act
 last_more now (Silent m ∷ xs) act = last_more m.elapsed xs act
 last_more now (x ∷ xs) act = last_more now xs act
 
+-- the moment behind an act is the one told last
 pub last_ticks : (p q : Progress) (act : Act) → Ticks p act q → q.moment.elapsed ≡ last_of p.moment.elapsed (act ∷ [])
 last_ticks p q (Told m) t = ap (λ (x : Moment). x.elapsed) t.0
 last_ticks p q (Gave bytes m) t = ap (λ (x : Moment). x.elapsed) t.0

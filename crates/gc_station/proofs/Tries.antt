@@ -44,22 +44,27 @@ use Rattle.gc_station.specs.Scopes.{Scope}
 
 -- Each end of a connection takes a try at most, and only a read gives tries back.
 
--- what a piece leaves: the counts of commands that went out, whether it has begun, and the tries, by whether fewer commands wait
+-- what a piece leaves: as many commands had their turn; no beginning begins by it; and either fewer commands wait and all tries are
+-- left, or not fewer and the tries stay
 record Hears (plan : Plan) (s t : Model) : Type 0 where
   left : t.progress.left ≡ s.progress.left
   unsent : t.progress.unsent ≡ s.progress.unsent
   begins : has_begun t.progress ≡ false → has_begun s.progress ≡ false
   tries : ((commands_in t.marks < commands_in s.marks) × (t.progress.tries ≡ plan.retries)) ⊎ ((commands_in s.marks ≤ commands_in t.marks) × (t.progress.tries ≡ s.progress.tries))
 
+-- what an act does to the tries: a read that gave bytes is `Hears`; any other act takes at most one for each connection that ends by it
+-- or couldn't be made
 abbrev Took : Plan → Model → Act → Model → Type 0
 Took plan s (Gave bytes m) t = Hears plan s t
 Took plan s act t = s.progress.tries ≤ t.progress.tries + ends_in (act ∷ [])
 
+-- behind a read either fewer commands wait, and all tries are left, or not fewer, and the tries stay
 given_back : (b : Bool) (after before retries new old : ℕ) → nat_lt after before ≡ b → new ≡ old
     → ((after < before) × ((if b then retries else new) ≡ retries)) ⊎ ((before ≤ after) × ((if b then retries else new) ≡ old))
 given_back true after before retries new old e same = inl (ltb-true after before e, refl)
 given_back false after before retries new old e same = inr (ltb-false after before e, same)
 
+-- a read that gave bytes is `Hears`
 gave_took : (plan : Plan) (until : Until) (s : Model) (bytes : List ℕ) (m : Moment) → Hears plan s (piece_at plan until bytes m s)
 gave_took plan until s bytes m =
     let heard = is_heard s.progress.phase in
@@ -75,17 +80,21 @@ gave_took plan until s bytes m =
           (asked_along (λ (q : Progress). q.tries ≡ s.progress.tries) (λ q line e. e) mid.progress (lines_behind s.rest bytes) refl) refl);
     }
 
+-- a read that gave nothing leaves the tries
 silent_took : (plan : Plan) (at : Phase) (p : Progress) → (quieted plan at p).tries ≡ p.tries
 silent_took plan at p = quieted_along (λ (q : Progress). q.tries ≡ p.tries) plan at p refl refl refl
 
+-- at most one try is taken
 one_less : (b : Bool) (n : ℕ) → n ≤ (if b then n else n - 1) + 1
 one_less true n = omega arith
 one_less false n = omega arith
 
+-- a close takes at most one try
 close_took : (plan : Plan) (w : Waiting) (why : Cause) (p : Progress) → p.tries ≤ (closed plan w why p).tries + 1
 close_took plan w why p =
     closed_along (λ (q : Progress). p.tries ≤ q.tries + 1) plan w why p (omega arith) (one_less (is_spared plan why p) p.tries)
 
+-- an act of each action does to the tries what `Took` says
 took_moved : (plan : Plan) (commands : List Task) (next : Action) (s : Model) (act : Act) → Performs commands s next act
     → Took plan (with_progress turned s) act (moved plan commands next (with_progress turned s) act)
 took_moved plan commands (actions.Read until) s act o =
@@ -102,13 +111,14 @@ took_moved plan commands (actions.Close why) s act o = walk plan commands (Took 
 took_moved plan commands (actions.Stop why) s act o = absurd o
 took_moved plan commands next s act o = walk plan commands (Took plan (with_progress turned s)) next (with_progress turned s) act o (λ m. omega arith, λ n. omega arith)
 
--- a turn takes no try
+-- the turn of an act takes no try
 untook : (plan : Plan) (s t : Model) (act : Act) → Took plan (with_progress turned s) act t → Took plan s act t
 untook plan s t (Gave bytes m) h = record { left = h.left; unsent = h.unsent; begins = h.begins; tries = h.tries }
 untook plan s t act h = h
 
 -- A read gives tries back where, and only where, it settled a command.
 
+-- as many commands wait as marks are of commands
 waiting_count : (marks : List (Option Mark)) (waits : List Pending) → length marks ≡ length waits → length (still_waiting marks waits) ≡ commands_in marks
 waiting_count [] [] e = refl
 waiting_count [] (w ∷ waits) e = refl
@@ -116,7 +126,7 @@ waiting_count (mark ∷ marks) [] e = absurd (omega (arith, e))
 waiting_count (None ∷ marks) (w ∷ waits) e = waiting_count marks waits (omega (arith, e))
 waiting_count (Some mark ∷ marks) (w ∷ waits) e = ap suc (waiting_count marks waits (omega (arith, e)))
 
--- how many commands were sent
+-- the records and the commands that wait are as many as the commands that had their turn
 counted_out : (plan : Plan) (commands : List Task) (s : Model) → Invariant plan commands s
     → length s.records + commands_in s.marks ≡ length (sent_by commands (plan.cycles - s.progress.left) (place_next commands s.progress))
 counted_out plan commands s fine =
@@ -126,6 +136,7 @@ counted_out plan commands s fine =
     let d = ap length fine.each in
     omega (arith, a, b, c, d)
 
+-- where as many commands had their turn in two models, their records and the commands that wait are as many
 same_out : (plan : Plan) (commands : List Task) (s t : Model) → Invariant plan commands s → Invariant plan commands t → t.progress.left ≡ s.progress.left → t.progress.unsent ≡ s.progress.unsent
     → length t.records + commands_in t.marks ≡ length s.records + commands_in s.marks
 same_out plan commands s t fine fine' left unsent =
@@ -134,6 +145,7 @@ same_out plan commands s t fine fine' left unsent =
     ∙ ap (λ n. length (sent_by commands (plan.cycles - s.progress.left) (length commands - n))) unsent
     ∙ sym (counted_out plan commands s fine)
 
+-- records that grew and are no more are the same
 grew_none : (old new more : List Record) → new ≡ old ++ more → length new ≤ length old → new ≡ old
 grew_none old new more is few =
     let a = ap length is in
@@ -141,11 +153,11 @@ grew_none old new more is few =
     let none : length more ≡ 0 = omega (arith, a, b, few) in
     is ∙ ap (λ xs. old ++ xs) (nil_from_length more none) ∙ append-nil old
 
--- what is told of a read that gave bytes: it settled a command, and all tries are left; or none, and no try was given back
+-- a read that gave bytes settled a command, and all tries are left; or it settled none, and gave no try back
 abbrev Settling : Plan → Model → Model → Type 0
 Settling plan s t = ((t.records ≢ s.records) × (t.progress.tries ≡ plan.retries)) ⊎ ((t.records ≡ s.records) × (t.progress.tries ≡ s.progress.tries))
 
--- the tries, whatever is lost then
+-- a read is `Settling`, whatever is lost behind it, by how many commands waited before, between and behind
 settling_by : (plan : Plan) (s t : Model) (mid old : ℕ) → Grew s.records t.records → length t.records + commands_in t.marks ≡ length s.records + old → (commands_in t.marks ≡ mid) ⊎ (old ≡ 0)
     → ((mid < old) × (t.progress.tries ≡ plan.retries)) ⊎ ((old ≤ mid) × (t.progress.tries ≡ s.progress.tries)) → Settling plan s t
 settling_by plan s t mid old grew same kept (inl fewer) = inl (λ e. by_kept kept (ap length e), fewer.1) where
@@ -157,7 +169,7 @@ settling_by plan s t mid old grew same kept (inr more) = inr (grew_none s.record
   by_kept (inl stay) = let least = more.0 in omega (arith, stay, least, same)
   by_kept (inr none) = omega (arith, none, same)
 
--- what waits is lost only where the run is over, or it begins anew, and then nothing waits
+-- behind an act, if the run isn't over: as many commands wait whether what waits is lost or not; or none waited before it
 kept_marks : (plan : Plan) (commands : List Task) (s t : Model) (b : Bool) → loses_all t.progress ≡ b → is_over t.progress ≡ false
     → (has_begun t.progress ≡ false → has_begun s.progress ≡ false) → Invariant plan commands s
     → (commands_in (losing b t).marks ≡ commands_in t.marks) ⊎ (commands_in s.marks ≡ 0)
@@ -170,6 +182,7 @@ kept_marks plan commands s t true e goes begins fine =
       negated true e = cc
       negated false e = refl
 
+-- a read that gave bytes is `Settling`
 gave_settles : (plan : Plan) (commands : List Task) (s t u : Model) → Invariant plan commands s → Invariant plan commands u → Hears plan s t → Grew s.records u.records → u.progress ≡ t.progress
     → (commands_in u.marks ≡ commands_in t.marks) ⊎ (commands_in s.marks ≡ 0) → Settling plan s u
 gave_settles plan commands s t u fine fine' h grew same kept =
@@ -180,26 +193,29 @@ gave_settles plan commands s t u fine fine' h grew same kept =
 
 -- So the tries are counted along a run.
 
+-- the connections that ended among acts and one more are those among the acts, and that of the one, if it ends one
 ends_more : (xs : List Act) (act : Act) → ends_in (xs ++ act ∷ []) ≡ ends_in xs + ends_in (act ∷ [])
 ends_more [] act = omega arith
 ends_more (Closed ∷ xs) act = let e = ends_more xs act in omega (arith, e)
 ends_more (Unopened ∷ xs) act = let e = ends_more xs act in omega (arith, e)
 ends_more (x ∷ xs) act = ends_more xs act
 
+-- the connections that were asked for among acts and one more are those among the acts, and that of the one, if it asks for one
 opens_more : (xs : List Act) (act : Act) → opens_in (xs ++ act ∷ []) ≡ opens_in xs + opens_in (act ∷ [])
 opens_more [] act = omega arith
 opens_more (Opened ∷ xs) act = let e = opens_more xs act in omega (arith, e)
 opens_more (Unopened ∷ xs) act = let e = opens_more xs act in omega (arith, e)
 opens_more (x ∷ xs) act = opens_more xs act
 
+-- where no read among acts settled a command, and one act more settles none, no read among all of them did
 none_more : (plan : Plan) (commands : List Task) (s : Model) (xs : List Act) (act : Act) → NoneSettled plan commands s xs
     → SettlesNone (after_all plan commands s xs) act (after plan commands (after_all plan commands s xs) act)
     → NoneSettled plan commands s (xs ++ act ∷ [])
 none_more plan commands s [] act none here = (here, tt)
 none_more plan commands s (x ∷ xs) act none here = (none.0, none_more plan commands (after plan commands s x) xs act none.1 here)
 
--- how many tries are left: since the last act that settled a command, or from the start, each connection that ended or
--- couldn't be made has taken one
+-- how many tries are left: since the last read that settled a command, or from the start, each connection that ended or couldn't be
+-- made has taken one at most
 record Trying (plan : Plan) (commands : List Task) (scope : Scope) (tries : ℕ) (up : Bool) (acts : List Act) : Type 0 where
   before : List Act
   behind : List Act
@@ -212,7 +228,7 @@ record Trying (plan : Plan) (commands : List Task) (scope : Scope) (tries : ℕ)
   first : before ≡ [] → held ≡ 0
   opens : opens_in behind + held ≡ ends_in behind + up_count up
 
--- an act at which no command was settled
+-- `Trying` lasts over an act at which no command was settled
 abbrev trying_on : (plan : Plan) (commands : List Task) (scope : Scope) (tries tries' : ℕ) (up up' : Bool) (acts : List Act) (act : Act) → tries ≤ tries' + ends_in (act ∷ []) → Counted up act up'
     → SettlesNone (stood plan commands scope acts) act (after plan commands (stood plan commands scope acts) act)
     → Trying plan commands scope tries up acts → Trying plan commands scope tries' up' (acts ++ act ∷ [])
@@ -238,7 +254,7 @@ trying_on plan commands scope tries tries' up up' acts act took counted settles 
       opens = level;
     }
 
--- a read that settled one
+-- `Trying` begins anew with a read that settled a command
 trying_anew : (plan : Plan) (commands : List Task) (scope : Scope) (tries : ℕ) (up : Bool) (acts : List Act) (bytes : List ℕ) (m : Moment) → tries ≡ plan.retries
     → (stood plan commands scope (acts ++ Gave bytes m ∷ [])).records ≢ (stood plan commands scope acts).records → Trying plan commands scope tries up (acts ++ Gave bytes m ∷ [])
 trying_anew plan commands scope tries up acts bytes m all settled = record {
@@ -261,6 +277,7 @@ trying_anew plan commands scope tries up acts bytes m all settled = record {
   some [] e = cc
   some (x ∷ xs) e = cc
 
+-- if the run isn't over, `Trying` holds of the model's tries
 abbrev Try : Plan → List Task → Scope → List Act → Model → Type 0
 Try plan commands scope acts s = is_over s.progress ≡ false → Trying plan commands scope s.progress.tries (is_up s.progress.phase) acts
 
@@ -268,6 +285,7 @@ goes_on : (b : Bool) → (b ≡ true → ⊥) → b ≡ false
 goes_on true never = absurd (never refl)
 goes_on false never = refl
 
+-- an act only adds records
 after_grew : (plan : Plan) (commands : List Task) (s : Model) (act : Act) → Grew s.records (after plan commands s act).records
 after_grew plan commands s act =
     let t = moved plan commands (action_at plan s) (with_progress turned s) act in
@@ -275,7 +293,7 @@ after_grew plan commands s act =
     let b = losing_records (loses_all t.progress) t in
     (a.0 ++ b.0, b.1 ∙ ap (λ xs. xs ++ b.0) a.1 ∙ append_assoc s.records a.0 b.0)
 
--- one act more
+-- `Try` lasts over one act more
 try_step : (plan : Plan) (commands : List Task) (scope : Scope) (acts : List Act) (act : Act) (s u : Model) (t : Model) → stood plan commands scope acts ≡ s
     → stood plan commands scope (acts ++ act ∷ []) ≡ u → u ≡ after plan commands s act
     → u.progress ≡ t.progress → Took plan s act t → Counted (is_up s.progress.phase) act (is_up t.progress.phase)
@@ -298,10 +316,12 @@ try_step plan commands scope acts act s u t before behind does same took counted
     (subst (λ (p : Progress). s.progress.tries ≤ p.tries + ends_in (act ∷ [])) (sym same) took)
     (subst (λ (p : Progress). Counted (is_up s.progress.phase) act (is_up p.phase)) (sym same) counted) tt trying
 
+-- the model behind acts and one more is the one behind that act, from the model behind the acts on
 behind_one : (plan : Plan) (commands : List Task) (scope : Scope) (done : List Act) (act : Act)
     → stood plan commands scope (done ++ act ∷ []) ≡ after plan commands (stood plan commands scope done) act
 behind_one plan commands scope done act = after_all-append plan commands (opening plan scope) done (act ∷ [])
 
+-- `Try` lasts over one act of a run more
 try_after : (plan : Plan) (commands : List Task) (scope : Scope) (done : List Act) (act : Act)
     → Performs commands (stood plan commands scope done) (action_at plan (stood plan commands scope done)) act
     → Try plan commands scope done (stood plan commands scope done)
@@ -320,6 +340,7 @@ try_after plan commands scope done act o trying not_over =
     (kept_marks plan commands s t (loses_all t.progress) refl not_over_mid h.begins fine))
     (trying goes)
 
+-- `Try` holds behind every run
 try_stood : (plan : Plan) (commands : List Task) (scope : Scope) (acts : List Act) → Runs plan commands (opening plan scope) acts → Try plan commands scope acts (stood plan commands scope acts)
 try_stood plan commands scope acts runs =
     always plan commands (opening plan scope) (Try plan commands scope) (λ done act runs' o. try_after plan commands scope done act o)
@@ -338,6 +359,7 @@ try_stood plan commands scope acts runs =
 
 -- A run that stops.
 
+-- an act that ends a connection shows no failed call
 ending_shows : (why : Cause) (act : Act) → IsEnding act → Shows why act → ⊥
 ending_shows cause.End act o shows = subst IsEnding shows o
 ending_shows cause.Read act o shows = subst IsEnding shows o
@@ -345,9 +367,11 @@ ending_shows cause.Clock act o shows = subst IsEnding shows o
 ending_shows (cause.Write requests bytes) act o shows = subst IsEnding shows.1 o
 ending_shows why act o shows = shows
 
+-- a cause that takes tries isn't being done
 not_done : (p : Progress) (n : ℕ) (why : Cause) → IsTried why → EndsDone p n why → ⊥
 not_done p n why tried done = subst IsTried done.0 tried
 
+-- where a run ends for a cause of `IsTried`, no try is left
 no_try : (plan : Plan) (p : Progress) (n : ℕ) (other why : Cause) → IsTried why → EndsBehind plan p n other why → p.tries ≡ 0
 no_try plan p n cause.Done why tried ends = absurd (not_done p n why tried ends)
 no_try plan p n cause.Clock why tried ends = absurd (subst IsTried ends tried)
@@ -355,17 +379,19 @@ no_try plan p n cause.Turns why tried ends = absurd (subst IsTried ends tried)
 no_try plan p n other why tried (inl done) = absurd (not_done p n why tried done)
 no_try plan p n other why tried (inr used) = used.3
 
+-- an act that ends a connection settles no command
 settles_none : (s t : Model) (act : Act) → IsEnding act → SettlesNone s act t
 settles_none s t Closed o = tt
 settles_none s t Unopened o = tt
 settles_none s t act o = absurd o
 
+-- an act that ends a connection ends one
 one_end : (act : Act) → IsEnding act → ends_in (act ∷ []) ≡ 1
 one_end Closed o = refl
 one_end Unopened o = refl
 one_end act o = absurd o
 
--- from a count of the tries to the claim
+-- `Trying` with no try left, and one end more, is what the law says
 all_tried : (plan : Plan) (commands : List Task) (scope : Scope) (acts : List Act) (last : Act) → IsEnding last → Counted (is_up (stood plan commands scope acts).progress.phase) last false
     → Trying plan commands scope 0 (is_up (stood plan commands scope acts).progress.phase) acts → AllTried plan commands scope (acts ++ last ∷ [])
 all_tried plan commands scope acts last ending counted t =
@@ -390,6 +416,7 @@ all_tried plan commands scope acts last ending counted t =
       first = λ e. let start : t.held ≡ 0 = t.first e in let all : plan.retries < opens_in (t.behind ++ last ∷ []) = omega (arith, over, even, start) in all;
     }
 
+-- a run that stops for a cause of `IsTried`, at an act that ends a connection, has used up its tries
 pub stop_tried : (plan : Plan) (commands : List Task) (scope : Scope) (acts : List Act) (last : Act) (why : Cause) → Runs plan commands (opening plan scope) (acts ++ last ∷ [])
     → action_at plan (stood plan commands scope (acts ++ last ∷ [])) ≡ actions.Stop why → IsTried why → IsEnding last → AllTried plan commands scope (acts ++ last ∷ [])
 stop_tried plan commands scope acts last why runs stop tried ending = by_decided decided where

@@ -18,11 +18,12 @@ use Rattle.gc_station.specs.Stations.{stepped}
 use Rattle.gc_station.proofs.Counts.{turns_kept, ended_progress}
 use Rattle.gc_station.proofs.Walk.{closed_along}
 
--- what is left to be done: the turns, and a connection that is to be closed
+-- one for a connection that is to be closed, and none without one
 abbrev pub up_count : Bool → ℕ
 up_count true = 1
 up_count false = 0
 
+-- what is left to be done: two for each turn, and one for a connection
 abbrev pub left_to_do : Progress → ℕ
 left_to_do p = 2 * p.turns + up_count (is_up p.phase)
 
@@ -30,15 +31,17 @@ up_least : (b : Bool) → up_count b ≤ 1
 up_least true = omega arith
 up_least false = omega arith
 
+-- in the phase behind a connection that is gone there is no connection
 phase_down : (done some : Bool) (why : Cause) → is_up (if done then phase.Over cause.Done else if some then phase.Pausing else phase.Over why) ≡ false
 phase_down true some why = refl
 phase_down false true why = refl
 phase_down false false why = refl
 
--- a connection that is to be made again, and one that is closed, is not up
+-- in the progress behind a connection that is gone, or couldn't be made, there is no connection
 pub again_down : (plan : Plan) (commands : ℕ) (why : Cause) (p : Progress) → is_up (again plan commands why p).phase ≡ false
 again_down plan commands why p = phase_down (is_finished commands p) (is_spared plan why p || nat_lt 0 p.tries) why
 
+-- behind a close there is no connection
 pub closed_down : (plan : Plan) (w : Waiting) (why : Cause) (p : Progress) → is_up (closed plan w why p).phase ≡ false
 closed_down plan w why p = closed_along (λ (q : Progress). is_up q.phase ≡ false) plan w why p refl (again_down plan w.commands why p)
 
@@ -48,18 +51,22 @@ up_closes : (plan : Plan) (commands : List Task) (s t : Model) (up : Bool) (act 
 up_closes plan commands s t true act obeys = (refl, refl)
 up_closes plan commands s t false act obeys = absurd obeys
 
+-- once all turns are used up, an act closes the connection, where the end isn't decided yet
 on_closes : (plan : Plan) (commands : List Task) (s t : Model) (p : Progress) (z : Bool) (act : Act) (other : Action) → z ≡ true
     → Performs commands t (if z then action_up (is_up p.phase) else other) act
     → (is_up p.phase ≡ true) × (is_up (moved plan commands (if z then action_up (is_up p.phase) else other) s act).progress.phase ≡ false)
 on_closes plan commands s t p true act other e obeys = up_closes plan commands s t (is_up p.phase) act obeys
 on_closes plan commands s t p false act other e obeys = cc
 
+-- once all turns are used up, an act closes the connection, in each phase
 phase_closes : (plan : Plan) (commands : List Task) (s t : Model) (p : Progress) (phase : Phase) (w : Waiting) (act : Act) → nat_eq p.turns 0 ≡ true → p.phase ≡ phase
     → Performs commands t (action_in phase plan p w) act → (is_up phase ≡ true) × (is_up (moved plan commands (action_in phase plan p w) s act).progress.phase ≡ false)
 phase_closes plan commands s t p (phase.Closing cause) w act none is obeys = (refl, closed_down plan (waiting_of s) cause s.progress)
 phase_closes plan commands s t p (phase.Over cause) w act none is obeys = absurd obeys
 phase_closes plan commands s t p phase w act none is obeys = let c = on_closes plan commands s t p (nat_eq p.turns 0) act _ none obeys in (ap is_up (sym is) ∙ c.0, c.1)
 
+-- less is left to be done with one turn fewer (t', of t) or, where no turn is left, without the connection that there was (u: there was one,
+-- u': there is one)
 less : (t t' : ℕ) (u u' : Bool) → t' ≡ t - 1 → (nat_eq t 0 ≡ true → (u ≡ true) × (u' ≡ false)) → 2 * t' + up_count u' < 2 * t + up_count u
 less zero t' u u' e closes =
     let c = closes refl in
@@ -85,9 +92,11 @@ less_stepped plan commands s w act obeys =
 -- Where it is over no act follows.
 
 module _ (plan : Plan) (commands : List Task) where
+  -- no act is performed in the phase `Over`
   pub over_stops : (s : Model) (act : Act) → Performs commands s (action_at plan s) act → (why : Cause) → s.progress.phase ≡ phase.Over why → ⊥
   over_stops s act o why is = subst (λ (at : Phase). Performs commands s (action_in at plan s.progress (waiting_of s)) act) is o
 
+  -- no act is performed where the run is over
   pub over_stays : (s : Model) (act : Act) → is_over s.progress ≡ true → Performs commands s (action_at plan s) act → ⊥
   over_stays s act over obeys = by_phase s.progress.phase refl over where
     none_left : (up zero_left : Bool) → is_up s.progress.phase ≡ up → nat_eq s.progress.turns 0 ≡ zero_left → (not up && zero_left) ≡ true

@@ -33,9 +33,11 @@ use Rattle.gc_station.proofs.Ticking.{le_of, picks, picks_other, clash, rises_fr
 use Rattle.gc_station.proofs.Cycles.{Begun, late_more, kept_stood, last_began}
 
 module _ (plan : Plan) (commands : List Task) (scope : Scope) (some : 0 < plan.every) where
+  -- the record's command was missed or skipped for its cause, by these acts, if the record says so
   abbrev Truly : List Act → Record → Type 0
   Truly acts r = IsTrulyUnsent plan commands scope acts r
 
+  -- a record that is `Truly` so by these acts is, whatever acts come behind
   truly_more : (acts more : List Act) (r : Record) → Truly acts r → Truly (acts ++ more) r
   truly_more acts more r h = (missed_more, skipped_more) where
     missed_more : r.end ≡ Missed → IsMissedIn plan commands scope (acts ++ more) r
@@ -73,9 +75,11 @@ module _ (plan : Plan) (commands : List Task) (scope : Scope) (some : 0 < plan.e
           utc = x.utc;
         }
 
+  -- a record of a command that went out says nothing of being missed or skipped
   sent_truly : (acts : List Act) (r : Record) → went_out r.end ≡ true → Truly acts r
   sent_truly acts r out = (λ e. absurd (clash (went_out r.end) out (ap went_out e)), λ e. absurd (clash (went_out r.end) out (ap went_out e)))
 
+  -- the records of settlements say nothing of being missed or skipped
   settled_truly : (acts : List Act) (reads : Call → List ℕ → Reading) (utc : ℕ) (marks : List (Option Mark)) (settlements : List Rule.Settlement)
       → AllByRecursion (Truly acts) (records_of reads utc marks settlements)
   settled_truly acts reads utc [] settlements = tt
@@ -83,25 +87,29 @@ module _ (plan : Plan) (commands : List Task) (scope : Scope) (some : 0 < plan.e
   settled_truly acts reads utc (None ∷ marks) (x ∷ others) = settled_truly acts reads utc marks others
   settled_truly acts reads utc (Some mark ∷ marks) (x ∷ others) = (sent_truly acts _ (ended_sent reads mark.near x.call x.outcome), settled_truly acts reads utc marks others)
 
+  -- lines add records that say nothing of being missed or skipped
   lines_truly : (acts : List Act) (s : Model) (lines : List (List ℕ)) → AllByRecursion (Truly acts) s.records → AllByRecursion (Truly acts) (lines_came s lines).records
   lines_truly acts s lines h =
       lines_along (λ (x : Model). AllByRecursion (Truly acts) x.records)
       (λ x line all. all_append (Truly acts) x.records _ all (settled_truly acts x.reads x.progress.moment.utc x.marks (hears x.client line (heard line)).settlements)) s lines h
 
+  -- a piece adds records that say nothing of being missed or skipped
   came_truly : (acts : List Act) (b : Bool) (word piece : List ℕ) (s : Model) → AllByRecursion (Truly acts) s.records → AllByRecursion (Truly acts) (came b word piece s).records
   came_truly acts true (asked ∷ others) piece s h = h
   came_truly acts true [] piece s h = lines_truly acts (with_rest (rest_behind s.rest piece) s) (lines_behind s.rest piece) h
   came_truly acts false word piece s h = h
 
+  -- a loss adds records that say nothing of being missed or skipped
   losing_truly : (acts : List Act) (b : Bool) (s : Model) → AllByRecursion (Truly acts) s.records → AllByRecursion (Truly acts) (losing b s).records
   losing_truly acts true s h = all_append (Truly acts) s.records _ h (settled_truly acts s.reads s.progress.moment.utc s.marks (restarts s.client).settlements)
   losing_truly acts false s h = h
 
-  -- a command isn't sent
+  -- whether a command that isn't sent is missed or skipped, by whether its cycle is missed
   unsent_end : (b : Bool) → ((if b then Missed else Skipped) ≡ Missed → b ≡ true) × ((if b then Missed else Skipped) ≡ Skipped → b ≡ false)
   unsent_end true = (λ e. refl, λ e. cc)
   unsent_end false = (λ e. cc, λ e. refl)
 
+  -- a command of a missed cycle, which is passed over, is missed for its cause
   skip_missed : (acts : List Act) (m : Moment) (p : Progress) (r : Record) → (Begun plan commands scope some) acts p → 0 < p.unsent → r.cycle ≡ cycles_begun plan p → r.sent ≡ None
       → r.utc ≡ skipped_at m p → p.missed ≡ true → IsMissedIn plan commands scope (acts ++ Told m ∷ []) r
   skip_missed acts m p r (inl none) here cycle sent utc missed = let nothing = none.1 in absurd (omega (arith, nothing, here))
@@ -116,11 +124,13 @@ module _ (plan : Plan) (commands : List Task) (scope : Scope) (some : 0 < plan.e
     due = utc ∙ picks p.missed p.due m.utc missed ∙ c.due;
   }
 
+  -- in a cycle that isn't missed, a command that is passed over is of a chain, and not its first
   chain_of : (p : Progress) → ((p.missed ≡ true) ⊎ ((0 < place_next commands p) × (is_chained (drop (place_next commands p) commands) ≡ true))) → p.missed ≡ false
       → (0 < place_next commands p) × (is_chained (drop (place_next commands p) commands) ≡ true)
   chain_of p (inl missed) free = absurd (clash p.missed missed free)
   chain_of p (inr chain) free = chain
 
+  -- a command that is passed over in a cycle that isn't missed is skipped for its cause
   skip_skipped : (acts : List Act) (m : Moment) (r : Record) → (Begun plan commands scope some) acts (stood plan commands scope acts).progress
       → action_at plan (stood plan commands scope acts) ≡ actions.Skip
       → r.cycle ≡ cycles_begun plan (stood plan commands scope acts).progress → r.place ≡ place_next commands (stood plan commands scope acts).progress
@@ -153,6 +163,7 @@ module _ (plan : Plan) (commands : List Task) (scope : Scope) (some : 0 < plan.e
           utc = utc ∙ picks_other (stood plan commands scope acts).progress.missed (stood plan commands scope acts).progress.due m.utc free;
         }
 
+  -- the record of a command that is passed over is true
   skips_truly : (acts : List Act) (m : Moment) (left : List Task) → (Begun plan commands scope some) acts (stood plan commands scope acts).progress
       → action_at plan (stood plan commands scope acts) ≡ actions.Skip
       → AllByRecursion (Truly (acts ++ Told m ∷ [])) (skips_first (turned (stood plan commands scope acts).progress) m
@@ -164,7 +175,7 @@ module _ (plan : Plan) (commands : List Task) (scope : Scope) (some : 0 < plan.e
       let ends = unsent_end p.missed in
       ((λ e. skip_missed acts m p _ begun here refl refl refl (ends.0 e), λ e. skip_skipped acts m _ begun is refl refl refl refl (ends.1 e)), tt)
 
-  -- what an act writes down, before what is lost by it
+  -- what an act writes down, before what is lost by it, is true
   moved_truly : (acts : List Act) (next : Action) (act : Act) → (Begun plan commands scope some) acts (stood plan commands scope acts).progress → action_at plan (stood plan commands scope acts) ≡ next
       → AllByRecursion (Truly (acts ++ act ∷ [])) (stood plan commands scope acts).records
       → AllByRecursion (Truly (acts ++ act ∷ [])) (moved plan commands next (with_progress turned (stood plan commands scope acts)) act).records
@@ -180,9 +191,11 @@ module _ (plan : Plan) (commands : List Task) (scope : Scope) (some : 0 < plan.e
       let t = with_progress turned (stood plan commands scope acts) in
       subst (λ (x : Model). AllByRecursion (Truly (acts ++ act ∷ [])) x.records) (sym (moved_changed plan commands next t act)) all
 
+  -- where the clock doesn't go back in these acts, each record behind them is true
   abbrev Written : List Act → Type 0
   Written acts = Rises 0 acts → AllByRecursion (Truly acts) (stood plan commands scope acts).records
 
+  -- one act of a run more keeps `Written`
   written_step : (done : List Act) (act : Act) → Runs plan commands (opening plan scope) done
       → Performs commands (stood plan commands scope done) (action_at plan (stood plan commands scope done)) act → Written done → Written (done ++ act ∷ [])
   written_step done act runs o h rises =
@@ -194,6 +207,7 @@ module _ (plan : Plan) (commands : List Task) (scope : Scope) (some : 0 < plan.e
       subst (λ (x : Model). AllByRecursion (Truly (done ++ act ∷ [])) x.records) (sym (after_all-append plan commands (opening plan scope) done (act ∷ [])))
       (losing_truly (done ++ act ∷ []) (loses_all t.progress) t (moved_truly done (action_at plan s) act begun refl old))
 
+  -- `Written` holds behind every run
   written_stood : (acts : List Act) → Runs plan commands (opening plan scope) acts → Written acts
   written_stood acts runs = always plan commands (opening plan scope) (λ (xs : List Act) (t : Model). Written xs) written_step (λ rises. tt) acts runs
 

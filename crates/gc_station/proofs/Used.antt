@@ -26,16 +26,18 @@ turns_behind plan commands s (act ∷ acts) =
     ap (λ (p : Progress). p.turns) (ended_progress (moved plan commands (action_at plan s) (with_progress turned s) act)) ∙ turns_kept plan commands (action_at plan s) (with_progress turned s) act in
     omega (arith, on, one)
 
+-- where no turn is left, as many acts were made as there were turns
 used_up : (plan : Plan) (commands : List Task) (scope : Scope) (acts : List Act) → (stood plan commands scope acts).progress.turns ≡ 0 → scope.turns ≤ length acts
 used_up plan commands scope acts none = let left : (stood plan commands scope acts).progress.turns ≡ scope.turns - length acts =
     turns_behind plan commands (opening plan scope) acts in omega (arith, none, left)
 
+-- a connection is closed for its turns only behind as many acts
 close_used : (plan : Plan) (commands : List Task) (scope : Scope) (acts : List Act) → Runs plan commands (opening plan scope) acts
     → action_at plan (stood plan commands scope acts) ≡ actions.Close cause.Turns → scope.turns ≤ length acts
 close_used plan commands scope acts runs is =
     used_up plan commands scope acts (end_here plan (stood plan commands scope acts) cause.Turns is (not_closing plan commands scope acts cause.Turns runs (λ act shows. shows)))
 
--- a run ends for its turns only where it was closed for them
+-- a run ends for its turns only where its connection was closed for them
 turns_only : (plan : Plan) (p : Progress) (n : ℕ) (other : Cause) → EndsBehind plan p n other cause.Turns → other ≡ cause.Turns
 turns_only plan p n cause.Done ends = let done = ends.0 in cc
 turns_only plan p n cause.Clock ends = cc
@@ -43,6 +45,7 @@ turns_only plan p n cause.Turns ends = refl
 turns_only plan p n other (inl done) = let is = done.0 in cc
 turns_only plan p n other (inr used) = sym used.0
 
+-- a run stops for its turns only behind as many acts
 stop_used : (plan : Plan) (commands : List Task) (scope : Scope) (acts : List Act) → Runs plan commands (opening plan scope) acts
     → action_at plan (stood plan commands scope acts) ≡ actions.Stop cause.Turns → scope.turns ≤ length acts
 stop_used plan commands scope acts runs is = by_shown (stopped_for plan commands scope acts cause.Turns runs is).shown where
@@ -69,6 +72,7 @@ stop_used plan commands scope acts runs is = by_shown (stopped_for plan commands
   by_shown (inl none) = used_up plan commands scope acts none.1
   by_shown (inr (earlier, last, action, ends)) = by_end earlier last action ends
 
+-- a connection is closed, or a run stops, for its turns only behind as many acts
 pub turns_used : (plan : Plan) (commands : List Task) (scope : Scope) (acts : List Act) → Runs plan commands (opening plan scope) acts
     → (action_at plan (stood plan commands scope acts) ≡ actions.Close cause.Turns) ⊎ (action_at plan (stood plan commands scope acts) ≡ actions.Stop cause.Turns) → scope.turns ≤ length acts
 turns_used plan commands scope acts runs (inl is) = close_used plan commands scope acts runs is

@@ -29,7 +29,7 @@ pub record Marked (plan : Plan) (commands : List Task) (scope : Scope) (acts : L
   pub place : mark.place ≡ place_next commands (stood plan commands scope acts).progress
   pub sent : mark.sent ≡ (stood plan commands scope acts).progress.moment.utc
 
--- the request of this place and id was put among these acts, as number `number`; and of the acts behind it `Stays` holds
+-- the request with this place and id was put among these acts, as number `number`; and `Stays` holds of the acts behind it
 pub record Asked (plan : Plan) (commands : List Task) (scope : Scope) (acts : List Act) (Stays : Bool → ℕ → List Act → Type 0) (number at with_id : ℕ) (p : Pending) (mark : Option Mark) : Type 0 where
   pub before : List Act
   pub request : Act
@@ -43,40 +43,41 @@ pub record Asked (plan : Plan) (commands : List Task) (scope : Scope) (acts : Li
   pub deadline : (m : Mark) → mark ≡ Some m → p.deadline ≡ deadline_behind plan commands scope before
   pub stays : Stays p.given_up p.deadline between
 
--- its deadline wasn't told, or it is given up and its deadline was
+-- no moment at or past the deadline was told in these acts; or one was, and the request is given up
 abbrev pub Stayed : Bool → ℕ → List Act → Type 0
 Stayed true deadline acts = TellsPast deadline acts
 Stayed false deadline acts = AllByRecursion (IsBefore deadline) acts
 
--- what holds of a request since it was put, where it is now this moment
+-- what `Stayed` says of a request that is given up or not at this moment, which isn't among the acts yet
 abbrev pub StayedAt : ℕ → Bool → ℕ → List Act → Type 0
 StayedAt now true deadline acts = TellsPast deadline acts ⊎ (deadline ≤ now)
 StayedAt now false deadline acts = AllByRecursion (IsBefore deadline) acts × (now < deadline)
 
--- a request that waits at this place, with the id that its place has, was put among these acts
+-- a request that waits at this place, with the id of the place, was put among these acts, and `Stayed` since
 abbrev pub Waits : Plan → List Task → Scope → List Act → (next count : ℕ) → (number at : ℕ) → Pending → Option Mark → Type 0
 Waits plan commands scope acts next count number at p mark = Asked plan commands scope acts Stayed number at (id_at next count at) p mark
 
--- at this moment, where the client was this before it
+-- what `Waits` says at this moment, which isn't among the acts yet, of a client that came of `first` by it
 abbrev pub WaitsAt : Plan → List Task → Scope → List Act → ById → ℕ → (next count : ℕ) → (number at : ℕ) → Pending → Option Mark → Type 0
 WaitsAt plan commands scope acts client now next count number at p mark =
     Asked plan commands scope acts (StayedAt now) number at (id_at next count at) p mark × Ids.Waits client (id_at next count at)
 
--- what a record says is true
+-- a record is true: if it is an answer, late or lost, the law on that says how
 pub record IsTrue (plan : Plan) (commands : List Task) (scope : Scope) (acts : List Act) (r : Record) : Type 0 where
   pub answered : IsTrueRecord plan commands scope acts r
   pub late : IsTrulyLate plan commands scope acts r
   pub lost : IsTrulyLost plan commands scope acts r
 
--- what every run keeps, of the parts of the model: of the requests that wait among these acts, and of the records among those
+-- what every run keeps: the requests that wait were put among the acts, in order, and the records are true by all acts
 pub record Honest (plan : Plan) (commands : List Task) (scope : Scope) (acts all : List Act) (c : ById) (marks : List (Option Mark)) (records : List Record) : Type 0 where
   pub waiting : Rows (Waits plan commands scope acts c.next (length c.waiting)) 0 0 c.waiting marks
   pub written : AllByRecursion (IsTrue plan commands scope all) records
 
+-- `Honest`, of the parts of a model
 abbrev pub IsHonest : Plan → List Task → Scope → List Act → List Act → Model → Type 0
 IsHonest plan commands scope acts all s = Honest plan commands scope acts all s.client s.marks s.records
 
--- a request that was put is still among them where there is one act more
+-- a request that was put among acts was put among these and one more
 pub asked_more : (plan : Plan) (commands : List Task) (scope : Scope) (acts : List Act) (act : Act) (S T : Bool → ℕ → List Act → Type 0) (number at id : ℕ) (p : Pending) (mark : Option Mark)
     → ((b : Bool) (d : ℕ) (xs : List Act) → S b d xs → T b d (xs ++ act ∷ []))
     → Asked plan commands scope acts S number at id p mark → Asked plan commands scope (acts ++ act ∷ []) T number at id p mark
@@ -94,7 +95,7 @@ asked_more plan commands scope acts act S T number at id p mark step s = record 
   stays = step p.given_up p.deadline s.between s.stays;
 }
 
--- at another place, with the same id
+-- a request that was `Asked` at one place is so at another place, with an equal id
 pub asked_as : (plan : Plan) (commands : List Task) (scope : Scope) (acts : List Act) (S : Bool → ℕ → List Act → Type 0) (number at at' id id' : ℕ)
     (p : Pending) (mark : Option Mark) → (0 < at' → 0 < at) → id' ≡ id
     → Asked plan commands scope acts S number at id p mark → Asked plan commands scope acts S number at' id' p mark
@@ -120,14 +121,15 @@ asked_among plan commands scope acts S number at id p mark s =
     let many = s.many in
     omega (arith, whole, many)
 
--- a moment that was told stays told
+-- a moment that was told among acts was told among more
 pub past_more : (d : ℕ) (xs ys : List Act) → TellsPast d xs → TellsPast d (xs ++ ys)
 past_more d xs ys t = record { earlier = t.earlier; telling = t.telling; later = t.later ++ ys; at = ap (λ zs. zs ++ ys) t.at ∙ append_assoc t.earlier (t.telling ∷ t.later) ys; past = t.past }
 
+-- a moment that the last act tells was told
 pub past_here : (d : ℕ) (xs : List Act) (act : Act) → IsPast d act → TellsPast d (xs ++ act ∷ [])
 past_here d xs act on = record { earlier = xs; telling = act; later = []; at = refl; past = on }
 
--- what is recorded stays true; where a run stopped no act follows
+-- a record that is true by the acts so far is true by one more: a lost one isn't the last act's then, because no act follows that
 true_more : (plan : Plan) (commands : List Task) (scope : Scope) (acts : List Act) (act : Act) (r : Record)
     → Performs commands (stood plan commands scope acts) (action_at plan (stood plan commands scope acts)) act
     → IsTrue plan commands scope acts r → IsTrue plan commands scope (acts ++ act ∷ []) r
@@ -211,18 +213,19 @@ true_more plan commands scope acts act r obeys is = record { answered = answered
         on a (inr (inl anew)) = inr (inl anew)
         on a (inr (inr last)) = absurd (not_last a.before a.request a.between a.act a.behind a.order last)
 
+-- records that are true by the acts so far are true by one more
 pub more_true : (plan : Plan) (commands : List Task) (scope : Scope) (acts : List Act) (act : Act) (rs : List Record)
     → Performs commands (stood plan commands scope acts) (action_at plan (stood plan commands scope acts)) act
     → AllByRecursion (IsTrue plan commands scope acts) rs → AllByRecursion (IsTrue plan commands scope (acts ++ act ∷ [])) rs
 more_true plan commands scope acts act rs obeys all = all_on (IsTrue plan commands scope acts) (IsTrue plan commands scope (acts ++ act ∷ [])) rs
     (λ r is. true_more plan commands scope acts act r obeys is) all
 
--- an act that tells no moment
+-- an act that tells no moment keeps `Stayed`
 pub stays_still : (act : Act) → ((d : ℕ) → IsBefore d act) → (b : Bool) (d : ℕ) (xs : List Act) → Stayed b d xs → Stayed b d (xs ++ act ∷ [])
 stays_still act on true d xs told = past_more d xs (act ∷ []) told
 stays_still act on false d xs all = all_append (IsBefore d) xs (act ∷ []) all (on d, tt)
 
--- an act that changes nothing of the client, and tells no moment, keeps each request's past
+-- an act that changes nothing of the client, and tells no moment, keeps `Honest`
 pub still : (plan : Plan) (commands : List Task) (scope : Scope) (acts : List Act) (act : Act) (c : ById) (marks : List (Option Mark)) (rs : List Record) → ((d : ℕ) → IsBefore d act)
     → Honest plan commands scope acts (acts ++ act ∷ []) c marks rs → Honest plan commands scope (acts ++ act ∷ []) (acts ++ act ∷ []) c marks rs
 still plan commands scope acts act c marks rs on h = record {
@@ -231,7 +234,7 @@ still plan commands scope acts act c marks rs on h = record {
   written = h.written;
 }
 
--- a moment
+-- a moment gives a request up if its deadline has come: from `Stayed` to `StayedAt`
 stays_at : (now : ℕ) (b : Bool) (d : ℕ) (xs : List Act) → Stayed b d xs → StayedAt now (b || nat_le d now) d xs
 stays_at now true d xs told = inl told
 stays_at now false d xs all = by_test (nat_le d now) refl where
@@ -239,6 +242,7 @@ stays_at now false d xs all = by_test (nat_le d now) refl where
   by_test true e = let past : d ≤ now = grind (arith, nat_tests, e) in inr past
   by_test false e = let low : now < d = grind (arith, nat_tests, e) in (all, low)
 
+-- a request that was put among acts is one that was put, at a moment that gives it up or not
 pub at_moment : (plan : Plan) (commands : List Task) (scope : Scope) (acts : List Act) (now number at id : ℕ) (p : Pending) (mark : Option Mark)
     → Asked plan commands scope acts Stayed number at id p mark
     → Asked plan commands scope acts (StayedAt now) number at id (expired now p) mark
@@ -256,10 +260,11 @@ at_moment plan commands scope acts now number at id p mark s = record {
   stays = stays_at now p.given_up p.deadline s.between s.stays;
 }
 
+-- the client that gave requests up at a moment
 abbrev pub at_expired : ById → ℕ → ById
 at_expired c now = record { next = c.next; waiting = map (expired now) c.waiting }
 
--- a moment gives requests up, and as many wait behind it
+-- behind a moment the same requests wait, given up or not
 pub expired_waits : (plan : Plan) (commands : List Task) (scope : Scope) (acts : List Act) (now : ℕ) (c : ById) (marks : List (Option Mark))
     → Rows (Waits plan commands scope acts c.next (length c.waiting)) 0 0 c.waiting marks
     → Rows (WaitsAt plan commands scope acts c now c.next (length (map (expired now) c.waiting))) 0 0 (map (expired now) c.waiting) marks
@@ -268,16 +273,18 @@ expired_waits plan commands scope acts now c marks all =
     (rows_map (Waits plan commands scope acts c.next (length c.waiting)) (WaitsAt plan commands scope acts c now c.next (length c.waiting)) (expired now) 0 0 c.waiting marks
     (λ n j p mark low w. let below : j < length c.waiting = omega (arith, low) in (at_moment plan commands scope acts now n j _ p mark w, (j, below, refl))) all)
 
+-- behind a moment the client's window is still one
 pub expired_window : (c : ById) (now : ℕ) → IsWindow c → IsWindow (at_expired c now)
 expired_window c now w = record { digit = w.digit; few = let n : length (map (expired now) c.waiting) ≡ length c.waiting = length-map c.waiting (expired now) in omega (arith, n, w.few) }
 
--- the requests that wait behind an act that tells this moment
+-- behind an act that tells the moment, `StayedAt` is `Stayed`
 stays_behind : (act : Act) (now : ℕ) → ((d : ℕ) → now < d → IsBefore d act) → ((d : ℕ) → d ≤ now → IsPast d act) → (b : Bool) (d : ℕ) (xs : List Act)
     → StayedAt now b d xs → Stayed b d (xs ++ act ∷ [])
 stays_behind act now on past true d xs (inl told) = past_more d xs (act ∷ []) told
 stays_behind act now on past true d xs (inr reached) = past_here d xs act (past d reached)
 stays_behind act now on past false d xs both = all_append (IsBefore d) xs (act ∷ []) both.0 (on d both.1, tt)
 
+-- the requests that wait at a moment wait behind the act that tells it
 pub behind_moment : (plan : Plan) (commands : List Task) (scope : Scope) (acts : List Act) (act : Act) (client : ById) (now next count : ℕ) (ps : List Pending) (marks : List (Option Mark))
     → ((d : ℕ) → now < d → IsBefore d act) → ((d : ℕ) → d ≤ now → IsPast d act)
     → Rows (WaitsAt plan commands scope acts client now next count) 0 0 ps marks → Rows (Waits plan commands scope (acts ++ act ∷ []) next count) 0 0 ps marks
@@ -285,6 +292,7 @@ behind_moment plan commands scope acts act client now next count ps marks on pas
     rows_same (WaitsAt plan commands scope acts client now next count) (Waits plan commands scope (acts ++ act ∷ []) next count) 0 0 ps marks
     (λ n j p mark w. asked_more plan commands scope acts act (StayedAt now) Stayed n j _ p mark (stays_behind act now on past) w.0) all
 
+-- an act that tells a moment keeps what every run keeps
 pub moment_told : (plan : Plan) (commands : List Task) (scope : Scope) (acts : List Act) (act : Act) (now : ℕ) (c : ById) (marks : List (Option Mark))
     (rs : List Record) → ((d : ℕ) → now < d → IsBefore d act) → ((d : ℕ) → d ≤ now → IsPast d act)
     → Honest plan commands scope acts (acts ++ act ∷ []) c marks rs → Honest plan commands scope (acts ++ act ∷ []) (acts ++ act ∷ []) (at_expired c now) marks rs

@@ -24,7 +24,7 @@ use Rattle.gc_station.specs.Model.{Model, waiting_of, place_next, mark_next, req
 
 -- Parts of an act.
 
--- what holds before lines, and behind each line, holds behind them
+-- a fact of models that each line keeps is kept by all lines
 pub lines_along : (P : Model → Type 0) → ((t : Model) (line : List ℕ) → P t → P (line_came t line)) → (s : Model) (lines : List (List ℕ)) → P s → P (lines_came s lines)
 lines_along P step s [] p = p
 lines_along P step s (line ∷ others) p = lines_along P step (line_came s line) others (step s line p)
@@ -34,14 +34,14 @@ pub asked_along : (P : Progress → Type 0) → ((q : Progress) (line : List ℕ
 asked_along P step p [] h = h
 asked_along P step p (line ∷ others) h = asked_along P step (line_asked p line) others (step p line h)
 
--- a piece is heard, once it has begun or while it begins, or dropped
+-- a fact of models that each line keeps is kept by a piece, if it is also where the piece is heard while the station begins, or dropped
 pub came_along : (P : Model → Type 0) → ((t : Model) (line : List ℕ) → P t → P (line_came t line)) → (heard : Bool) (word piece : List ℕ) (s : Model)
     → P (with_rest (rest_behind s.rest piece) s) → P (piece_asked piece s) → P s → P (came heard word piece s)
 came_along P step true [] piece s hears begins drops = lines_along P step (with_rest (rest_behind s.rest piece) s) (lines_behind s.rest piece) hears
 came_along P step true (asked ∷ others) piece s hears begins drops = begins
 came_along P step false word piece s hears begins drops = drops
 
--- nothing came
+-- a fact of progresses is kept where a read gave nothing, if it is where a pause ends, where a drain ends, and where neither does
 pub quieted_along : (P : Progress → Type 0) (plan : Plan) (at : Phase) (p : Progress) → P (pause_ended plan p) → P (drained p) → P p → P (quieted plan at p)
 quieted_along P plan Pausing p paused quiet same = paused
 quieted_along P plan Draining p paused quiet same = by_test (is_quiet plan p) where
@@ -50,7 +50,7 @@ quieted_along P plan Draining p paused quiet same = by_test (is_quiet plan p) wh
   by_test false = same
 quieted_along P plan at p paused quiet same = same
 
--- a connection was closed: for good, or to be made again
+-- a fact of progresses is kept by a close, if it is where the run ends, and where another connection may be made
 pub closed_along : (P : Progress → Type 0) (plan : Plan) (w : Waiting) (why : Cause) (p : Progress) → P (ended_for why p) → P (again plan w.commands why p) → P (closed plan w why p)
 closed_along P plan w cause.Done p ends on = ends
 closed_along P plan w cause.Clock p ends on = ends
@@ -59,6 +59,7 @@ closed_along P plan w why p ends on = on
 
 -- The next command was sent, whatever it is.
 
+-- the model that sent the next command, by its fields
 abbrev pub sending : Plan → List Task → Model → Model
 sending plan commands s = record s { progress = sent (is_chained_behind_next commands s.progress) s.progress; client = (asks_next plan commands s).client; marks = (asks_next plan commands s).marks }
 
@@ -68,18 +69,21 @@ first_sent : (next_is_chained : Bool) (mark : Mark) (left : List Task) (s : Mode
 first_sent next_is_chained mark [] s = refl
 first_sent next_is_chained mark (task ∷ others) s = refl
 
+-- the model that sent the next command, by its fields, is that behind the act that sends
 pub is_sent : (plan : Plan) (commands : List Task) (s : Model) → sending plan commands s ≡ with_progress (sent (is_chained_behind_next commands s.progress)) (asks_next plan commands s)
 is_sent plan commands s = first_sent (is_chained_behind_next commands s.progress) (mark_next plan commands s.progress) (drop (place_next commands s.progress) commands) s
 
 -- Which fields change.
 
+-- the progress with those fields of another that a moment changes
 abbrev told_of : Progress → Progress → Progress
 told_of p q = record p { phase = q.phase; moment = q.moment; since = q.since; alive = q.alive; began = q.began; stale = q.stale; early = q.early }
 
+-- the progress with those fields of another that a request changes
 abbrev asking_of : Progress → Progress → Progress
 asking_of p q = record p { phase = q.phase; alive = q.alive; asked = q.asked; stale = q.stale }
 
--- how far a station is behind an act, and before it
+-- the second progress with those fields of the first that an act of this action changes
 abbrev progress_of : Action → Progress → Progress → Progress
 progress_of ReadClock p q = told_of p q
 progress_of Renew p q = record (told_of p q) { word = q.word; again = q.again; asked = q.asked; chain_unbroken = q.chain_unbroken }
@@ -94,6 +98,7 @@ progress_of (Read until) p q = record (told_of p q) { word = q.word; again = q.a
 progress_of (Close why) p q = record p { phase = q.phase; stale = q.stale; tries = q.tries; pause = q.pause; chain_unbroken = q.chain_unbroken }
 progress_of (Stop why) p q = p
 
+-- the second model with those fields of the first that an act of this action changes
 abbrev changed_by : Action → Model → Model → Model
 changed_by ReadClock s t = record s { client = t.client }
 changed_by Renew s t = record s { client = t.client }
@@ -112,17 +117,18 @@ changed_by (Stop why) s t = s
 abbrev pub changed : Action → Model → Model → Model
 changed action s t = record (changed_by action s t) { progress = record (progress_of action s.progress t.progress) { turns = s.progress.turns }; reads = s.reads }
 
--- behind lines that were heard while it begins
+-- the second progress with those fields of the first that lines change which are heard while the station begins
 abbrev asked_of : Progress → Progress → Progress
 asked_of p q = record p { word = q.word; again = q.again; alive = q.alive; asked = q.asked }
 
 lines_changed : (p : Progress) (lines : List (List ℕ)) → lines_asked p lines ≡ asked_of p (lines_asked p lines)
 lines_changed p lines = asked_along (λ (q : Progress). q ≡ asked_of p q) (λ q line e. subst (λ (r : Progress). line_asked r line ≡ asked_of p (line_asked r line)) (sym e) refl) p lines refl
 
--- behind a read that gave bytes
+-- the second model with those fields of the first that a read changes which gave bytes
 abbrev piece_of : Model → Model → Model
 piece_of s t = record s { progress = asked_of s.progress t.progress; rest = t.rest; client = t.client; marks = t.marks; records = t.records }
 
+-- a read that gave bytes changes what `changed` says
 gave_changed : (plan : Plan) (until : Until) (s : Model) (bytes : List ℕ) (m : Moment) → piece_at plan until bytes m s ≡ changed (Read until) s (piece_at plan until bytes m s)
 gave_changed plan until s bytes m =
     let mid = with_moment m (with_progress (told m) s) in
@@ -135,15 +141,18 @@ gave_changed plan until s bytes m =
           (record t { progress = lines_asked t.progress lines; rest = rest })
       begins t lines rest = subst (λ (q : Progress). record t { progress = q; rest = rest } ≡ piece_of t (record t { progress = q; rest = rest })) (sym (lines_changed t.progress lines)) refl
 
+-- a read that gave nothing changes what `changed` says
 silent_changed : (plan : Plan) (until : Until) (s : Model) (m : Moment) → after_read plan until s (Silent m) ≡ changed (Read until) s (after_read plan until s (Silent m))
 silent_changed plan until s m =
     quieted_along (λ (q : Progress). with_moment m (record s { progress = q }) ≡ changed (Read until) s (with_moment m (record s { progress = q }))) plan
     s.progress.phase (time_passed until m s.progress) refl refl refl
 
+-- a close changes what `changed` says
 closed_changed : (plan : Plan) (why : Cause) (s : Model) → after_close plan why s ≡ changed (Close why) s (after_close plan why s)
 closed_changed plan why s =
     closed_along (λ (q : Progress). record s { progress = q; rest = [] } ≡ changed (Close why) s (record s { progress = q; rest = [] })) plan (waiting_of s) why s.progress refl refl
 
+-- what an act of an action leaves is as `changed` says
 pub moved_changed : (plan : Plan) (commands : List Task) (action : Action) (s : Model) (act : Act) → moved plan commands action s act ≡ changed action s (moved plan commands action s act)
 moved_changed plan commands ReadClock s (Told m) = refl
 moved_changed plan commands ReadClock s act = refl
@@ -174,10 +183,11 @@ moved_changed plan commands (Stop why) s act = refl
 -- What has to hold for a fact to hold behind an act of an action: where it goes well, and where it doesn't. The former is given a moment and
 -- the latter a number, also where no clock is read and no bytes are cut, so that one row serves many actions.
 
--- bytes are put, whole or in part
+-- the fact holds behind an act that puts these bytes, whole or in part, if it holds in both cases
 abbrev pub Putting : (Act → Model → Type 0) → ℕ → List ℕ → Model → Type 0
 Putting P requests bytes t = ((m : Moment) → P (Put bytes) t) × ((n : ℕ) → P (Cut bytes n) (with_progress (failing (cause.Write requests n)) t))
 
+-- the fact holds behind each act of this action that there may be
 abbrev pub Behind : Plan → List Task → (Act → Model → Type 0) → Action → Model → Type 0
 Behind plan commands P ReadClock s =
     ((m : Moment) → P (Told m) (with_moment m (with_progress (λ p. reckoned_early plan (commands_in s.marks) (told m p)) s))) × ((n : ℕ) → P Untold (with_progress (failing cause.Clock) s))
@@ -199,11 +209,13 @@ Behind plan commands P (Read until) s =
 Behind plan commands P (Close why) s = P Closed (after_close plan why s)
 Behind plan commands P (Stop why) s = Unit {0}
 
+-- from that to the fact behind an act that puts the bytes
 put_walk : (P : Act → Model → Type 0) (requests : ℕ) (bytes : List ℕ) (f : Model → Model) (s : Model) (act : Act) → Puts bytes act → Putting P requests bytes (f s) → P act (after_put requests f s act)
 put_walk P requests bytes f s (Put out) o h = subst (λ (xs : List ℕ). P (Put xs) (f s)) (sym o) (h.0 (record { elapsed = 0; utc = 0 }))
 put_walk P requests bytes f s (Cut out n) o h = subst (λ (xs : List ℕ). P (Cut xs n) (with_progress (failing (cause.Write requests n)) (f s))) (sym o.0) (h.1 n)
 put_walk P requests bytes f s act o h = absurd o
 
+-- from that to the fact behind an act that performs the action
 pub walk : (plan : Plan) (commands : List Task) (P : Act → Model → Type 0) (action : Action) (s : Model) (act : Act) → Performs commands s action act
     → Behind plan commands P action s → P act (moved plan commands action s act)
 walk plan commands P ReadClock s (Told m) o h = h.0 m

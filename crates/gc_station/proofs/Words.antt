@@ -20,31 +20,35 @@ use Rattle.gc_station.proofs.Invariant.{Invariant}
 use Rattle.gc_station.proofs.Midway.{clash}
 use Rattle.gc_station.proofs.Walk.{lines_along, quieted_along, closed_along, walk}
 
--- where nothing is left, no line changes that
+-- where all ids are answered, no line changes that
 pub left_none : (lines : List (List ℕ)) → left_behind [] lines ≡ []
 left_none [] = refl
 left_none (line ∷ others) = left_none others
 
+-- lines that are heard while the station begins leave of the ids what `left_behind` says
 word_asked : (p : Progress) (lines : List (List ℕ)) → (lines_asked p lines).word ≡ left_behind p.word lines
 word_asked p [] = refl
 word_asked p (line ∷ others) = word_asked (line_asked p line) others
 
+-- a piece leaves of the ids what its lines leave, where they are heard
 word_came : (h : Bool) (word piece : List ℕ) (s : Model) → s.progress.word ≡ word → (came h word piece s).progress.word ≡ left_behind word (if h then lines_behind s.rest piece else [])
 word_came true [] piece s e =
     lines_along (λ (t : Model). t.progress.word ≡ []) (λ t line same. same) (with_rest (rest_behind s.rest piece) s) (lines_behind s.rest piece) e ∙ sym (left_none (lines_behind s.rest piece))
 word_came true (asked ∷ others) piece s e = word_asked s.progress (lines_behind s.rest piece) ∙ ap (λ (w : List ℕ). left_behind w (lines_behind s.rest piece)) e
 word_came false word piece s e = e
 
--- where it begins behind a piece, it did before
+-- where a station begins behind a piece, it began before it
 pub begins_before : (h : Bool) (word piece : List ℕ) (s : Model) → s.progress.word ≡ word → has_begun (came h word piece s).progress ≡ false → is_none_left word ≡ false
 begins_before h [] piece s e f =
     let lines = if h then lines_behind s.rest piece else [] in absurd (clash (has_begun (came h [] piece s).progress) (ap is_none_left (word_came h [] piece s e ∙ left_none lines)) f)
 begins_before h (asked ∷ others) piece s e f = refl
 
 module _ (plan : Plan) (commands : List Task) where
+  -- an act leaves of the ids what its lines leave
   abbrev Leaves : Model → Act → Model → Type 0
   Leaves s act t = t.progress.word ≡ left_behind s.progress.word (heard_at s act)
 
+  -- an act of each action but `Renew` leaves of the ids what its lines leave
   pub word_moved : (s : Model) (o : Action) (act : Act) → Performs commands s o act → (o ≡ actions.Renew → ⊥)
       → (moved plan commands o (with_progress turned s) act).progress.word ≡ left_behind s.progress.word (heard_at s act)
   word_moved s actions.Renew act obeys other = absurd (other refl)
@@ -62,6 +66,7 @@ module _ (plan : Plan) (commands : List Task) where
   word_moved s (actions.Stop why) act obeys other = absurd obeys
   word_moved s o act obeys other = walk plan commands (Leaves s) o (with_progress turned s) act obeys (λ m. refl, λ n. refl)
 
+  -- an act of any action but `Renew` leaves a station begun
   begun_other : (s : Model) (o : Action) (act : Act) → Performs commands s o act → (o ≡ actions.Renew → ⊥) → has_begun s.progress ≡ true
       → has_begun (moved plan commands o (with_progress turned s) act).progress ≡ true
   begun_other s o act obeys other begun = by_word s.progress.word refl begun where
@@ -69,21 +74,21 @@ module _ (plan : Plan) (commands : List Task) where
     by_word [] e b = ap is_none_left (word_moved s o act obeys other ∙ ap (λ (w : List ℕ). left_behind w (heard_at s act)) e ∙ left_none (heard_at s act))
     by_word (asked ∷ others) e b = cc
 
-  -- once it has begun it begins anew only where a chain doesn't go on
+  -- where a chain goes on, the station doesn't begin anew
   pub begun_kept : (s : Model) (o : Action) (act : Act) → Performs commands s o act → has_begun s.progress ≡ true → (moved plan commands o (with_progress turned s) act).progress.chain_unbroken ≡ true
       → has_begun (moved plan commands o (with_progress turned s) act).progress ≡ true
   begun_kept s actions.Renew (Told m) obeys begun whole = cc
   begun_kept s actions.Renew act obeys begun whole = begun
   begun_kept s o act obeys begun whole = begun_other s o act obeys (λ e. cc) begun
 
-  -- it begins anew only where it reads the clock for that
+  -- a station begins anew only where it reads the clock for that
   pub renews_only : (s : Model) (o : Action) (act : Act) → Performs commands s o act → has_begun s.progress ≡ true → has_begun (moved plan commands o (with_progress turned s) act).progress ≡ false
       → (o ≡ actions.Renew) × (m : Moment) × (act ≡ Told m)
   renews_only s actions.Renew (Told m) obeys begun begins = (refl, m, refl)
   renews_only s actions.Renew act obeys begun begins = absurd (clash (has_begun s.progress) begun begins)
   renews_only s o act obeys begun begins = absurd (clash (has_begun (moved plan commands o (with_progress turned s) act).progress) (begun_other s o act obeys (λ e. cc) begun) begins)
 
--- what it needs: seven wait, which are all given up
+-- where a station begins anew, seven wait, which are all given up
 pub renews_needs : (plan : Plan) (commands : List Task) (s : Model) (o : Action) → Invariant plan commands s → o ≡ actions.Renew
     → IsFor plan s.progress (waiting_of s) o → (length s.client.waiting ≡ WINDOW) × (deadlines s.client.waiting ≡ [])
 renews_needs plan commands s o fine is needs =

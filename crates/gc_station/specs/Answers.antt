@@ -22,7 +22,7 @@ IsBefore deadline (Gave bytes m) = m.elapsed < deadline
 IsBefore deadline (Silent m) = m.elapsed < deadline
 IsBefore deadline _ = Unit {0}
 
--- how long the first of these commands waits
+-- how long the first of these commands waits; 0 where there is none
 abbrev pub first_deadline : List Task → ℕ
 first_deadline [] = 0
 first_deadline (task ∷ others) = task.deadline
@@ -33,8 +33,9 @@ deadline_behind plan commands scope acts =
     let p = (stood plan commands scope acts).progress in
     later p.moment.elapsed (first_deadline (drop (place_next commands p) commands))
 
--- among these acts the request of a record, of its cycle and place, was put, behind the moment that the record has for it; then none told a moment at or
--- past its deadline; then a piece came, also before that, and with it this line with the request's id; and this act wrote the record down
+-- among these acts the request of a record, of its cycle and place, was put behind the moment that the record has for it. From
+-- then on no act told a moment at or past the request's deadline, up to and with a read whose piece brought this line, with the
+-- request's id; and at that read the record was written down
 pub record IsAnsweredIn (plan : Plan) (commands : List Task) (scope : Scope) (acts : List Act) (r : Record) (line : List ℕ) : Type 0 where
   pub before : List Act
   pub request : Act
@@ -59,7 +60,8 @@ pub record IsAnsweredIn (plan : Plan) (commands : List Task) (scope : Scope) (ac
   pub written : (stood plan commands scope (before ++ request ∷ (between ++ Gave piece moment ∷ []))).records
       ≡ (stood plan commands scope (before ++ request ∷ between)).records ++ (earlier ++ r ∷ later)
 
--- the line that answered a command, where it ended so: its values read or don't, and it was measured at its target or elsewhere
+-- the line of the reply, for a command that a reply in time ended: as answered, unreadable or elsewhere. None for any other
+-- ending
 abbrev pub answer_of : End → Option (List ℕ)
 answer_of (Answered answer line) = Some line
 answer_of (Unreadable line fault) = Some line
@@ -69,6 +71,6 @@ answer_of Lost = None
 answer_of Skipped = None
 answer_of Missed = None
 
--- if the record is of an answer, its line is such a line
+-- if a record is of a reply in time, its line came so: by `IsAnsweredIn`
 abbrev pub IsTrueRecord : Plan → List Task → Scope → List Act → Record → Type 0
 IsTrueRecord plan commands scope acts r = (line : List ℕ) → answer_of r.end ≡ Some line → IsAnsweredIn plan commands scope acts r line

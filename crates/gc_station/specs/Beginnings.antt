@@ -26,21 +26,21 @@ abbrev pub heard_behind : Plan → List Task → Model → List Act → List (Li
 heard_behind plan commands s [] = []
 heard_behind plan commands s (act ∷ acts) = heard_at s act ++ heard_behind plan commands (after plan commands s act) acts
 
--- the ids of a beginning that aren't answered behind these lines
+-- which of these ids of a beginning are left unanswered behind these lines
 abbrev pub left_behind : List ℕ → List (List ℕ) → List ℕ
 left_behind word [] = word
 left_behind word (line ∷ others) = left_behind (left_by word (heard line)) others
 
--- Where a command goes out, or a null procedure behind commands that are all given up, replies came with the ids of all null procedures
--- that weren't answered before, in their order. At the start of a run, and where it begins anew, these are all eight
+-- where a command goes out, or a null procedure behind commands that are all given up, replies came with the ids of all null procedures
+-- that weren't answered behind earlier acts, in their order. At the start of a run, and where it begins anew, these are all eight
 abbrev pub NoneBeforeTheLastAnswer : Type 0
 NoneBeforeTheLastAnswer =
     (plan : Plan) (commands : List Task) (scope : Scope) (earlier between : List Act) → Runs plan commands (opening plan scope) (earlier ++ between)
     → IsAsking (action_at plan (stood plan commands scope (earlier ++ between)))
     → IsSubsequence (stood plan commands scope earlier).progress.word (filter_map heard (heard_behind plan commands (stood plan commands scope earlier) between))
 
--- an act while it begins: nothing waits, and the client is new; what goes out is the null procedure of the first id that isn't answered;
--- and the next one is asked for exactly where a line came with that id, in whatever order of acts, also over closes
+-- an act while the station begins: nothing waits, and the client is new; what goes out is the null procedure of the first id that isn't
+-- answered; and the next one takes its place exactly where a line came with that id, in whatever order of acts, also over closes
 pub record IsOfBeginning (plan : Plan) (commands : List Task) (scope : Scope) (acts : List Act) (act : Act) : Type 0 where
   pub client : (stood plan commands scope acts).client ≡ fresh
   pub marks : (stood plan commands scope acts).marks ≡ []
@@ -59,8 +59,8 @@ pub record IsAnew (plan : Plan) (commands : List Task) (scope : Scope) (acts : L
   pub word : (stood plan commands scope (acts ++ act ∷ [])).progress.word ≡ the_word
   pub client : (stood plan commands scope (acts ++ act ∷ [])).client ≡ fresh
 
--- a run begins with all eight null procedures; each act while it begins is `IsOfBeginning`; and where it begins anew, that
--- is by `IsAnew`
+-- a run begins with all eight null procedures; each act while the station begins is `IsOfBeginning`; and where the station begins
+-- anew, the act is `IsAnew`
 pub record BeginsSo (plan : Plan) (commands : List Task) (scope : Scope) (acts : List Act) (act : Act) : Type 0 where
   pub starts : (stood plan commands scope []).progress.word ≡ the_word
   pub begins : has_begun (stood plan commands scope acts).progress ≡ false → IsOfBeginning plan commands scope acts act

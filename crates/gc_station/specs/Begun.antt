@@ -11,7 +11,7 @@ heard_in (Asks ∷ turns) = heard_in turns
 heard_in (Hears line ∷ turns) = line ∷ heard_in turns
 
 -- each of these parts but the last has begun: its lines answered its beginning, which for the first part has these ids left,
--- and for each other all eight. In the last, no step of the client comes before that
+-- and for each other all eight. The last one has no step of the client, or has begun as well
 abbrev pub AreBegun : List ℕ → List Part → Type 0
 AreBegun word [] = Unit {0}
 AreBegun word (p ∷ []) = (p.steps ≡ []) ⊎ (left_behind word (heard_in p.turns) ≡ [])

@@ -16,7 +16,7 @@ use Rattle.gc_station.specs.Runs.{stood}
 use Rattle.gc_station.specs.Scopes.{Scope}
 use Rattle.gc_station.specs.Model.{Model, action_at, cycles_begun, place_next, is_chained}
 
--- the next command is not the first of its cycle, and is of a chain, and not its first
+-- the next command is of a chain, and neither the first of that nor of its cycle
 abbrev pub IsChained : List Task → Model → Type 0
 IsChained commands s = (0 < place_next commands s.progress) × (is_chained (drop (place_next commands s.progress) commands) ≡ true)
 

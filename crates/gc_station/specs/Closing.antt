@@ -17,12 +17,12 @@ use Rattle.gc_station.specs.Runs.{stood}
 use Rattle.gc_station.specs.Model.{Model, waiting_of, action_at, Performs}
 use Rattle.gc_station.specs.Scopes.{Scope}
 
--- the null procedures of a beginning go out where nothing waits, and the client is new: the first command behind them has id 0
+-- where a null procedure of a beginning goes out nothing waits, and the client is new: the first command behind the beginning has id 0
 abbrev pub IsAlone : Action → Model → Type 0
 IsAlone Ask s = (s.client ≡ fresh) × (s.marks ≡ [])
 IsAlone _ s = Unit {0}
 
--- an act is that of the action that is next, and what that action needs is so
+-- an act performs the action that is next, and the conditions of that action hold
 pub record IsReasoned (plan : Plan) (commands : List Task) (s : Model) (act : Act) : Type 0 where
   pub obeys : Performs commands s (action_at plan s) act
   pub needs : IsFor plan s.progress (waiting_of s) (action_at plan s)
@@ -43,13 +43,13 @@ pub record ClosesForACause (plan : Plan) (commands : List Task) (scope : Scope) 
   pub shown : IsAtItsEnd plan (stood plan commands scope acts).progress (waiting_of (stood plan commands scope acts)) why
       ⊎ ((earlier : List Act) × (last : Act) × (acts ≡ earlier ++ last ∷ []) × Shows why last)
 
--- nothing is left to be sent, and no command waits, and so a run is done
+-- a run ends as done: no command is left to be sent, and none waits
 abbrev pub EndsDone : Progress → ℕ → Cause → Type 0
 EndsDone p commands why = (why ≡ cause.Done) × (p.left ≡ 0) × (p.unsent ≡ 0) × (commands ≡ 0)
 
--- for what a run ends where the connection is gone for a cause, and so many commands wait: for a clock that can't be read, and for turns
--- that are used up, at once. It is done where nothing is left to be sent and no command waits. Else it ends for that cause: a
--- connection anew would take a try, and none is left
+-- a run ends for the cause `why` where its connection is gone for this cause, and `commands` commands wait. For a clock that can't be read,
+-- and for turns that are used up, it ends at once, for that cause. It is done where no command is left to be sent and none waits. Else it
+-- ends for the cause of the connection's end: a connection anew would take a try, and none is left
 abbrev pub EndsBehind : Plan → Progress → ℕ → Cause → Cause → Type 0
 EndsBehind plan p commands cause.Done why = EndsDone p commands why
 EndsBehind plan p commands cause.Clock why = why ≡ cause.Clock

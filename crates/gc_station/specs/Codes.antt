@@ -14,9 +14,10 @@ use Rattle.gc_texts.specs.declared.near.Near.{Near}
 use Rattle.gc_station.specs.Marks.{end_of, is_well}
 use Rattle.gc_station.specs.Scopes.{AreReadings}
 
--- a command whose reply has these fields, and whose target stands there, where that was said, was answered well only where its communication
--- code and its return code are both 0, and it wasn't where the reply says anything but an answer; where both are 0 and the parameters are an
--- answer it was exactly where that wasn't measured elsewhere, and else its outcome is that. One without a reply never was
+-- a command whose target stands at `near`, where the text says so, has a reply with these fields. It was answered well only if
+-- the communication code and the return code are both 0. It wasn't if the reply says anything but an answer. If both codes are
+-- 0 and the parameters are an answer of the call, it was answered well exactly if the answer wasn't measured elsewhere, and
+-- else it ended as elsewhere. A command that is late, lost, skipped or missed never was answered well
 pub record WellIsBothCodesZero : Type 0 where
   pub only : (reads : Call → List ℕ → Reading) (near : Option Near) (call : Call) (line : List ℕ) (r : ReplyFields) → AreReadings reads → IsReply line r
       → is_well reads call (end_of reads near call (Answered line)) ≡ true → (r.rc_com ≡ 0) × (r.rc ≡ 0)

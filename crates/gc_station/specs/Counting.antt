@@ -9,30 +9,37 @@ abbrev pub how_many : (End → Bool) → List Record → ℕ
 how_many so [] = 0
 how_many so (r ∷ others) = if so r.end then suc (how_many so others) else how_many so others
 
+-- whether an ending is `Answered`
 abbrev pub is_answered : End → Bool
 is_answered (Answered answer line) = true
 is_answered _ = false
 
+-- whether an ending is `Unreadable`
 abbrev pub is_unreadable : End → Bool
 is_unreadable (Unreadable line fault) = true
 is_unreadable _ = false
 
+-- whether an ending is `Elsewhere`
 abbrev pub is_elsewhere : End → Bool
 is_elsewhere (Elsewhere line) = true
 is_elsewhere _ = false
 
+-- whether an ending is `Late`
 abbrev pub is_late : End → Bool
 is_late Late = true
 is_late _ = false
 
+-- whether an ending is `Lost`
 abbrev pub is_lost : End → Bool
 is_lost Lost = true
 is_lost _ = false
 
+-- whether an ending is `Skipped`
 abbrev pub is_skipped : End → Bool
 is_skipped Skipped = true
 is_skipped _ = false
 
+-- whether an ending is `Missed`
 abbrev pub is_missed : End → Bool
 is_missed Missed = true
 is_missed _ = false

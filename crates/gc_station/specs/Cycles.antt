@@ -1,5 +1,5 @@
--- When cycles begin, and which commands aren't sent, in the acts' own moments: this project's own. Cycles are due on a grid: the first
--- when it begins, and each other one so long behind the one before it.
+-- When cycles begin, and which commands aren't sent, in the acts' own moments: this project's own. Cycles are due on a grid:
+-- the first when it begins, and each other one `every` milliseconds behind the one before it.
 use Rattle.std.specs.Prelude.{◌≡◌, ℕ, zero, suc, ◌+◌, ◌-◌, ◌<◌, ◌≤◌, true, false, List, [], ◌∷◌, ◌++◌, drop, None}
 use Rattle.std.specs.List.{AllByRecursion}
 use Rattle.gc_texts.specs.Endings.{Skipped, Missed}
@@ -42,7 +42,7 @@ pub record BeginsLate (plan : Plan) (commands : List Task) (scope : Scope) (acts
   pub begins : BeginsAt plan commands scope acts n m
   pub grid : due_behind first.elapsed plan.every n + late ≡ m.elapsed
 
--- of these acts: which cycle began last, at which moment, and how long after its due moment
+-- the cycle that began last among these acts: its number, the moment at which it began, and how long that was after its due moment
 pub record LastBegan (plan : Plan) (commands : List Task) (scope : Scope) (acts : List Act) : Type 0 where
   pub n : ℕ
   pub moment : Moment
@@ -50,14 +50,14 @@ pub record LastBegan (plan : Plan) (commands : List Task) (scope : Scope) (acts 
   pub begins : BeginsLate plan commands scope acts n moment late
   pub number : cycles_begun plan (stood plan commands scope acts).progress ≡ suc n
 
--- a cycle begins at or behind its due moment
+-- a cycle begins at or behind its due moment, where cycles have due moments and the clock doesn't go back
 abbrev pub CyclesBeginWhenDue : Type 0
 CyclesBeginWhenDue =
     (plan : Plan) (commands : List Task) (scope : Scope) (acts later : List Act) (m : Moment) → 0 < plan.every → Runs plan commands (opening plan scope) (acts ++ Told m ∷ later)
     → Rises 0 (acts ++ Told m ∷ []) → action_at plan (stood plan commands scope acts) ≡ Begin
     → (late : ℕ) × BeginsLate plan commands scope (acts ++ Told m ∷ []) (cycles_begun plan (stood plan commands scope acts).progress) m late
 
--- where a command goes out, its cycle began before the next one was due
+-- where a command goes out, its cycle began before the next one was due, if cycles have due moments and the clock doesn't go back
 abbrev pub SentOnlyInTime : Type 0
 SentOnlyInTime =
     (plan : Plan) (commands : List Task) (scope : Scope) (acts : List Act) → 0 < plan.every → Runs plan commands (opening plan scope) acts → Rises 0 acts
@@ -76,8 +76,8 @@ pub record IsMissedIn (plan : Plan) (commands : List Task) (scope : Scope) (acts
   pub due : r.utc ≡ moment.utc - late
 
 -- the command of a record is skipped: it is of a chain, and not its first; its cycle began before the next one was due; it wasn't sent,
--- since the one before it wasn't answered well, or since that went out a connection was closed, or it began anew; and the record has the
--- moment at which that was seen
+-- because the one before it wasn't answered well, or a connection was closed or the station began anew since that one went out; and the
+-- record has the moment at which the command was passed over
 pub record IsSkippedIn (plan : Plan) (commands : List Task) (scope : Scope) (acts : List Act) (r : Record) : Type 0 where
   pub before : List Act
   pub moment : Moment
@@ -98,6 +98,7 @@ pub record IsSkippedIn (plan : Plan) (commands : List Task) (scope : Scope) (act
 abbrev pub IsTrulyUnsent : Plan → List Task → Scope → List Act → Record → Type 0
 IsTrulyUnsent plan commands scope acts r = (r.end ≡ Missed → IsMissedIn plan commands scope acts r) × (r.end ≡ Skipped → IsSkippedIn plan commands scope acts r)
 
+-- each record of a missed or a skipped command is justified, where cycles have due moments and the clock doesn't go back
 abbrev pub UnsentForACause : Type 0
 UnsentForACause =
     (plan : Plan) (commands : List Task) (scope : Scope) (acts : List Act) → 0 < plan.every → Runs plan commands (opening plan scope) acts → Rises 0 acts

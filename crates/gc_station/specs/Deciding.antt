@@ -20,7 +20,7 @@ width_of plan = min (max plan.width 1) 7
 abbrev pub later : ℕ → ℕ → ℕ
 later moment wait = min (moment + wait) 18446744073709551615
 
--- whether there is a connection
+-- whether there is a connection in a phase
 abbrev pub is_up : Phase → Bool
 is_up phase.Down = false
 is_up phase.Pausing = false
@@ -30,28 +30,29 @@ is_up phase.Ready = true
 is_up (phase.Closing cause) = true
 is_up (phase.Over cause) = false
 
--- whether `wait` milliseconds have passed since bytes last came or went, or a connection was closed or couldn't be made
+-- whether at least `wait` milliseconds lie between `since` and the last moment that was told
 abbrev pub is_past : ℕ → Progress → Bool
 is_past wait p = nat_le wait (p.moment.elapsed - p.since)
 
--- whether the plan's quiet time has passed, as `is_past` counts it
+-- whether at least the plan's quiet time lies between `since` and the last moment that was told
 abbrev pub is_quiet : Plan → Progress → Bool
 is_quiet plan p = is_past plan.quiet p
 
--- whether a beginning is over: none of its null procedures is left unanswered
+-- whether none of these null procedures is left
 abbrev pub is_none_left : List ℕ → Bool
 is_none_left [] = true
 is_none_left (asked ∷ others) = false
 
+-- whether a beginning is over: none of its null procedures is left unanswered
 abbrev pub has_begun : Progress → Bool
 has_begun p = is_none_left p.word
 
--- how long no reply line has to come before the line is dead: twice the longest deadline
+-- after how long without a reply line the line is dead: twice the longest deadline
 abbrev pub patience_of : Plan → ℕ
 patience_of plan = later plan.deadline plan.deadline
 
--- whether the line is dead: something waits, or the null procedure that is asked for went out on this connection; and for
--- the plan's patience no reply line came, since the last one or since the first request behind it
+-- whether the line is dead: a request waits, or a null procedure of the beginning went out on this connection; and for
+-- `patience_of` no reply line came, since the last one or since the first request behind it
 abbrev pub is_dead : Plan → Progress → Waiting → Bool
 is_dead plan p w = (nat_lt 0 w.all || nat_lt 0 p.again) && nat_le (patience_of plan) (p.moment.elapsed - p.alive)
 
@@ -65,20 +66,20 @@ action_waiting plan p w = if is_dead plan p w then Close Dead else if nat_eq w.c
 abbrev pub is_due : Plan → Progress → Bool
 is_due plan p = if nat_eq p.left plan.cycles then true else nat_le plan.every (p.moment.elapsed - p.began)
 
--- the cycle was done before the next was due, and that isn't due yet: nothing goes out, and no connection is wanted
+-- whether no connection is wanted: the cycle was done before the next was due, and the next isn't due yet
 abbrev pub is_idle : Plan → Progress → Bool
 is_idle plan p = p.early && not (is_due plan p)
 
--- whether more is asked at once: a command of the cycle is left to be sent, or the next cycle is due
+-- whether commands are left that needn't wait for a due moment: some of this cycle, or the next cycle is due
 abbrev pub goes_on : Plan → Progress → Bool
 goes_on plan p = nat_lt 0 p.unsent || is_due plan p
 
--- no command of any cycle is left to be sent, and none waits
+-- whether no command of any cycle is left to be sent, and none waits: `commands` is how many wait
 abbrev pub is_finished : ℕ → Progress → Bool
 is_finished commands p = nat_eq p.left 0 && nat_eq p.unsent 0 && nat_eq commands 0
 
--- the next action while the station begins: the null procedure that is asked for goes out, and again at its deadline, unless
--- nothing is left to be asked behind it
+-- the next action while the station begins: the null procedure of the first id that isn't answered goes out, and again at its
+-- deadline, but not between cycles, nor where no command is left to be sent behind the beginning
 abbrev pub action_beginning : Plan → Progress → Waiting → Action
 action_beginning plan p w =
     if is_finished w.commands p then Close Done
@@ -91,16 +92,16 @@ action_beginning plan p w =
 abbrev pub action_done : Plan → Progress → Action
 action_done plan p = if nat_eq p.left 0 then Close Done else if is_due plan p then Begin else Read Due
 
--- another request may go out: fewer are under way than the plan has it, and fewer wait in all than the window is wide
+-- whether another request may go out: fewer are under way than `width_of` allows, and fewer wait in all than the window has places
 abbrev pub has_room : Plan → Waiting → Bool
 has_room plan w = nat_lt w.current (width_of plan) && nat_lt w.all WINDOW
 
--- this action, which sends a request, if there is room for one; else the action of a station that waits
+-- `action`, which sends a request, if there is room for one; else the action of a station that waits
 abbrev pub action_room : Plan → Progress → Waiting → Action → Action
 action_room plan p w action = if has_room plan w then action else action_waiting plan p w
 
--- the next command of a chain goes out where the one before it was answered well, and since that went out no connection was closed, and
--- it didn't begin anew
+-- whether the next command of a chain may go out: the one before it was answered well, and since that went out no connection was
+-- closed, and the station didn't begin anew
 abbrev pub may_go : Progress → Waiting → Bool
 may_go p w = w.well && p.chain_unbroken
 
@@ -112,14 +113,14 @@ action_settled plan p w =
     else Skip
 
 -- the next action where no command may go out before those that wait are settled: each of the cycle was sent, or the next
--- one is chained. Where some wait, and all that wait are given up, it is a null procedure, whose reply settles them
+-- one is chained. Where some wait, and all that wait are given up, a null procedure goes out, whose reply settles them
 abbrev pub action_sent : Plan → Progress → Waiting → Action
 action_sent plan p w =
     if nat_eq w.commands 0 then action_settled plan p w
     else if nat_eq w.current 0 then action_room plan p w Flush
     else action_waiting plan p w
 
--- the next action once the station has begun
+-- the next action once the station has begun: to send the next command, if that needn't wait for the answer before it
 abbrev pub action_begun : Plan → Progress → Waiting → Action
 action_begun plan p w = if nat_lt 0 p.unsent && not p.next_is_chained then action_room plan p w Send else action_sent plan p w
 
@@ -150,11 +151,13 @@ action_on plan p w =
     else if p.stale then ReadClock
     else action_told plan p.phase p w
 
+-- the next action in a phase: `Stop` where the run is over, `Close` where the connection is to be closed, and else that of
+-- `action_on`
 abbrev pub action_in : Phase → Plan → Progress → Waiting → Action
 action_in (phase.Over cause) plan p w = Stop cause
 action_in (phase.Closing cause) plan p w = Close cause
 action_in _ plan p w = action_on plan p w
 
--- the next action
+-- the next action of a station with this progress
 abbrev pub action_of : Plan → Progress → Waiting → Action
 action_of plan p w = action_in p.phase plan p w

@@ -1,5 +1,5 @@
--- Each command once, this project's own: the records of a run, and behind them the commands that wait, are the commands that were
--- sent, cycle by cycle and in order, each once.
+-- Each command once, this project's own: the records of a run, and behind them the commands that wait, are the commands that
+-- had their turn, sent or not, cycle by cycle and in order, each once.
 use Rattle.std.specs.Prelude.{◌≡◌, ◌⊎◌, ◌<◌, ℕ, zero, suc, ◌+◌, List, [], ◌∷◌, ◌++◌, take, map, Option, Some, None}
 use Rattle.gc_client.specs.declared.pending.Pending.{Pending}
 use Rattle.gc_client.specs.OneForOne.{Asked, of_pending}
@@ -27,10 +27,11 @@ abbrev pub requests : ℕ → ℕ → List Asked → List Request
 requests cycle place [] = []
 requests cycle place (a ∷ others) = record { cycle = cycle; place = place; asked = a } ∷ requests cycle (place + 1) others
 
--- what a command asks, and a task
+-- what a command asks, and whom
 abbrev pub of_command : Command → Asked
 of_command c = record { target = c.target; call = c.call }
 
+-- what the command of a task asks, and whom
 abbrev pub of_task : Task → Asked
 of_task task = of_command task.command
 
@@ -39,8 +40,8 @@ abbrev pub all_cycles : List Task → ℕ → List Request
 all_cycles commands zero = []
 all_cycles commands (suc n) = all_cycles commands n ++ requests (suc n) 0 (map of_task commands)
 
--- the commands that were sent, or written down unsent, where this many cycles began, and of the last of them this many
--- commands had their turn
+-- the commands that had their turn, sent or not, where this many cycles began: all of the cycles before the last of these, and
+-- the first `place` of the last
 abbrev pub sent_by : List Task → ℕ → ℕ → List Request
 sent_by commands zero place = []
 sent_by commands (suc n) place = all_cycles commands n ++ requests (suc n) 0 (map of_task (take place commands))
@@ -60,12 +61,13 @@ still_waiting (mark ∷ marks) [] = []
 still_waiting (None ∷ marks) (p ∷ others) = still_waiting marks others
 still_waiting (Some mark ∷ marks) (p ∷ others) = of_waiting mark p ∷ still_waiting marks others
 
--- the records, and behind them the commands that wait, are the commands that were sent
+-- the records, and behind them the commands that wait, are the commands that had their turn, sent or not
 abbrev pub IsEachOnce : Plan → List Task → Model → Type 0
 IsEachOnce plan commands s =
     map of_record s.records ++ still_waiting s.marks s.client.waiting ≡ sent_by commands (cycles_begun plan s.progress) (place_next commands s.progress)
 
--- after each run, and where it stopped: nothing waits, and where it is done all commands of all cycles were sent
+-- behind each run `IsEachOnce` is so. Where the run stopped, the records alone are the commands that had their turn, and where it is done
+-- they are all commands of all cycles
 pub record EachOnce (plan : Plan) (commands : List Task) (scope : Scope) (acts : List Act) : Type 0 where
   pub each : IsEachOnce plan commands (stood plan commands scope acts)
   pub settled : (cause : Cause) → action_at plan (stood plan commands scope acts) ≡ Stop cause
@@ -73,7 +75,7 @@ pub record EachOnce (plan : Plan) (commands : List Task) (scope : Scope) (acts :
       (place_next commands (stood plan commands scope acts).progress)
   pub done : action_at plan (stood plan commands scope acts) ≡ Stop Done → map of_record (stood plan commands scope acts).records ≡ all_cycles commands plan.cycles
 
--- a station is further than it was: in a later cycle, or at a later place in the same
+-- a station is further than it was: in a later cycle, or at a later place in the same cycle
 abbrev pub IsFurther : Plan → List Task → Model → Model → Type 0
 IsFurther plan commands s t =
     (cycles_begun plan s.progress < cycles_begun plan t.progress)

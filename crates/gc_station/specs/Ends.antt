@@ -1,7 +1,7 @@
 -- How a request ends that has no answer, in an operator's words, this project's own. Late: its own request went out, then a moment at or
 -- past its deadline was told, and only then a line came with its id. Lost: its own request went out, and at the act that wrote it down as
--- lost a line came with the id of a request that was put behind it, or the station begins anew, since seven wait that are all given up, or the
--- run stopped.
+-- lost a line came with the id of a request that was put behind it, or the station begins anew, because seven wait that are all given up, or
+-- the run stopped.
 use Rattle.std.specs.Prelude.{◌≡◌, ◌⊎◌, ℕ, ◌≤◌, List, [], ◌∷◌, ◌++◌, length, Some}
 use Rattle.gc_catalogue.specs.declared.call.Call.{Call}
 use Rattle.gc_client.specs.Ids.{Waits}
@@ -45,7 +45,7 @@ pub record IsOwnRequest (plan : Plan) (commands : List Task) (scope : Scope) (ac
   pub sent : r.sent ≡ Some (stood plan commands scope acts).progress.moment.utc
   pub put : Puts (request_text (stood plan commands scope acts).client r.command.call) act
 
--- behind these acts, with this piece a line comes with this id
+-- behind these acts, this piece completes a line with this id
 pub record Brings (plan : Plan) (commands : List Task) (scope : Scope) (acts : List Act) (piece : List ℕ) (id : ℕ) : Type 0 where
   pub front : List (List ℕ)
   pub line : List ℕ
@@ -97,7 +97,7 @@ pub record BeginsAnew (plan : Plan) (commands : List Task) (scope : Scope) (acts
   pub seven : length (stood plan commands scope acts).client.waiting ≡ WINDOW
   pub given_up : deadlines (stood plan commands scope acts).client.waiting ≡ []
 
--- behind these acts, this act is the last one: none follows, and the run stops
+-- behind these acts, this act is the last one: no act is behind it, and the run stops
 pub record IsLast (plan : Plan) (commands : List Task) (scope : Scope) (acts : List Act) (act : Act) (behind : List Act) : Type 0 where
   pub none : behind ≡ []
   pub why : Cause
@@ -117,9 +117,10 @@ pub record IsLostIn (plan : Plan) (commands : List Task) (scope : Scope) (acts :
   pub shown : IsOvertaken plan commands scope before request between act
       ⊎ (BeginsAnew plan commands scope (before ++ request ∷ between) act ⊎ IsLast plan commands scope (before ++ request ∷ between) act behind)
 
--- a record that is late, or lost, is so
+-- if a record is late, its command was: by `IsLateIn`
 abbrev pub IsTrulyLate : Plan → List Task → Scope → List Act → Record → Type 0
 IsTrulyLate plan commands scope acts r = r.end ≡ Late → IsLateIn plan commands scope acts r
 
+-- if a record is lost, its command was: by `IsLostIn`
 abbrev pub IsTrulyLost : Plan → List Task → Scope → List Act → Record → Type 0
 IsTrulyLost plan commands scope acts r = r.end ≡ Lost → IsLostIn plan commands scope acts r

@@ -17,6 +17,6 @@ abbrev pub given_behind : Plan → List Task → Model → List ℕ → List Act
 given_behind plan commands s bytes [] = bytes
 given_behind plan commands s bytes (act ∷ acts) = given_behind plan commands (after plan commands s act) (given_with (is_heard s.progress.phase) act bytes) acts
 
--- the bytes that were given on this connection while they were heard
+-- the bytes that were given on the current connection while they were heard, behind these acts of a run
 abbrev pub given : Plan → List Task → Scope → List Act → List ℕ
 given plan commands scope acts = given_behind plan commands (opening plan scope) [] acts

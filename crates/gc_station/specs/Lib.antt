@@ -8,6 +8,7 @@ pub mod Progressing
 pub mod Model
 pub mod Tallies
 pub mod Runs
+pub mod Keeping
 pub mod EachOnce
 pub mod Reasons
 pub mod Closing

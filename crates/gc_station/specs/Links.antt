@@ -18,7 +18,7 @@ use Rattle.gc_station.specs.declared.plan.Plan.{Plan}
 abbrev pub AreChained : List Task → ℕ → ℕ → Type 0
 AreChained commands a b = (p : ℕ) → a < p → p ≤ b → is_chained (drop p commands) ≡ true
 
--- of two pairs of numbers the first comes first
+-- the pair of i and m comes before the pair of j and n: by the first numbers or, where these are equal, by the second ones
 abbrev pub IsBefore : ℕ → ℕ → ℕ → ℕ → Type 0
 IsBefore i m j n = (i < j) ⊎ ((i ≡ j) × (m < n))
 
@@ -54,20 +54,21 @@ pub record IsSentBehind (plan : Plan) (commands : List Task) (scope : Scope) (ac
   pub count : length first.marks ≡ n
   pub chain : (a : ℕ) → a < place → AreChained commands a place → IsAnsweredBack plan commands scope before first cycle a
 
+-- each command that goes out went out behind the answers of its chain, as a request of the same part of a run
 abbrev pub ChainsStay : Type 0
 ChainsStay =
     (plan : Plan) (commands : List Task) (scope : Scope) (acts : List Act) → Runs plan commands (opening plan scope) acts
     → (i n : ℕ) (part : Part) (mark : Mark) → slice_get (parts plan commands scope acts) i ≡ Some part → slice_get part.marks n ≡ Some (Some mark)
     → IsSentBehind plan commands scope acts i n mark.cycle mark.place
 
--- the commands that go out go on, from part to part and in each
+-- of two commands that go out, in one part or in two, the later one is of a later place in its cycle, or of a later cycle
 abbrev pub MarksGoOn : Type 0
 MarksGoOn =
     (plan : Plan) (commands : List Task) (scope : Scope) (acts : List Act) → Runs plan commands (opening plan scope) acts
     → (i j m n : ℕ) (p q : Part) (a b : Mark) → slice_get (parts plan commands scope acts) i ≡ Some p → slice_get (parts plan commands scope acts) j ≡ Some q
     → slice_get p.marks m ≡ Some (Some a) → slice_get q.marks n ≡ Some (Some b) → IsBefore i m j n → IsBefore a.cycle a.place b.cycle b.place
 
--- what is written down stays so
+-- the records behind some acts stay, in front of those of the acts that follow
 abbrev pub RecordsStay : Type 0
 RecordsStay =
     (plan : Plan) (commands : List Task) (scope : Scope) (before rest : List Act)

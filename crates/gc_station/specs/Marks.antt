@@ -14,25 +14,27 @@ use Rattle.gc_texts.specs.Endings as end
 use Rattle.gc_station.specs.declared.mark.Mark.{Mark}
 use Rattle.gc_station.specs.Records.{Record}
 
--- how many of these are commands
+-- how many of these marks are of commands
 abbrev pub commands_in : List (Option Mark) → ℕ
 commands_in [] = 0
 commands_in (None ∷ marks) = commands_in marks
 commands_in (Some mark ∷ marks) = suc (commands_in marks)
 
--- how an answer with both codes 0 ends a command: it is answered with this answer, or that was measured elsewhere than its target stands
+-- how a command ends whose reply is this answer, in this line: as elsewhere where the answer was measured elsewhere (`true`),
+-- else as answered
 abbrev pub value_as : Bool → Answer → List ℕ → End
 value_as true answer line = end.Elsewhere line
 value_as false answer line = end.Answered (Some answer) line
 
--- how an answer ends a command of which its line says this, and whose target stands there, where that was said: its values don't read, or it
--- was measured elsewhere, or it is answered, and where both codes are 0 with this answer
+-- how a command ends whose reply in time, this line, says this, and whose target stands at `near`, where the text says so: as
+-- unreadable where the values don't read, as elsewhere where the answer was measured elsewhere, and else as answered, with the
+-- answer where both codes are 0
 abbrev pub answer_as : Option Near → Reading → List ℕ → End
 answer_as near (reading.Unreadable fault) line = end.Unreadable line fault
 answer_as near (reading.Value answer) line = value_as (is_elsewhere near answer) answer line
 answer_as near _ line = end.Answered None line
 
--- how a command ended whose request ended so
+-- how a command ended whose request had this outcome, where replies say what `reads` gives
 abbrev pub end_of : (Call → List ℕ → Reading) → Option Near → Call → Outcome → End
 end_of reads near call (Answered line) = answer_as near (reads call line) line
 end_of reads near call Late = end.Late
@@ -42,7 +44,7 @@ end_of reads near call Lost = end.Lost
 abbrev pub command_of : Settlement → Command
 command_of settlement = record { target = settlement.target; call = settlement.call }
 
--- the record of a command that was settled
+-- the record of a command with this mark that was settled at this moment
 abbrev pub record_of : (Call → List ℕ → Reading) → ℕ → Mark → Settlement → Record
 record_of reads utc mark settlement = record {
   sent = Some mark.sent;
@@ -53,7 +55,8 @@ record_of reads utc mark settlement = record {
   end = end_of reads mark.near settlement.call settlement.outcome;
 }
 
--- the records of the requests that were settled at a moment, the oldest of those with these marks; a null procedure has none
+-- the records of the requests that were settled at a moment, which are the oldest of those with these marks; a null procedure has no
+-- record
 abbrev pub records_of : (Call → List ℕ → Reading) → ℕ → List (Option Mark) → List Settlement → List Record
 records_of reads utc [] settlements = []
 records_of reads utc (mark ∷ marks) [] = []
@@ -77,7 +80,7 @@ is_well reads call end.Lost = false
 is_well reads call end.Skipped = false
 is_well reads call end.Missed = false
 
--- whether the last of these records is of a command that was answered well, or where there is none, this
+-- whether the last of these records is of a command that was answered well; where there are none, `well`
 abbrev pub last_well : (Call → List ℕ → Reading) → Bool → List Record → Bool
 last_well reads well [] = well
 last_well reads well (r ∷ others) = last_well reads (is_well reads r.command.call r.end) others

@@ -75,25 +75,26 @@ abbrev pub near_first : List Task → Option Near
 near_first [] = None
 near_first (task ∷ others) = task.near
 
--- the next command, the cycle that it is of, the moment told last, and where its target stands
+-- the mark of the next command: its cycle, its place, the moment told last, and where its target stands
 abbrev pub mark_next : Plan → List Task → Progress → Mark
 mark_next plan commands p =
     record { cycle = cycles_begun plan p; place = place_next commands p; sent = p.moment.utc; near = near_first (drop (place_next commands p) commands) }
 
--- how many requests of the cycle went out: none before the first cycle
+-- how many commands of the cycle were sent or passed over: none before the first cycle
 abbrev pub requests_out : Plan → List Task → Progress → ℕ
 requests_out plan commands p = if nat_eq p.left plan.cycles then 0 else place_next commands p
 
--- a request line with its CR LF
+-- the bytes of a client's next request, for this call: its line with CR LF
 abbrev pub request_text : ById → Call → List ℕ
 request_text client call = with_end (request_line (Some client.next) call)
 
--- the request line of a beginning's null procedure, of the first id that isn't answered
+-- the bytes of the null procedure that a beginning asks for, where these ids of its word aren't answered: it has the first of them. No bytes
+-- where all are answered
 abbrev pub null_text : List ℕ → List ℕ
 null_text [] = []
 null_text (asked ∷ others) = with_end (request_line (Some asked) NullProc)
 
--- the request line of the first of these commands
+-- the bytes of the request for the first of these commands; none where there is none
 abbrev pub first_text : ById → List Task → List ℕ
 first_text client [] = []
 first_text client (task ∷ others) = request_text client task.command.call
@@ -103,26 +104,30 @@ abbrev pub is_chained : List Task → Bool
 is_chained [] = false
 is_chained (task ∷ others) = task.chained
 
--- whether the command behind the next one goes out only once that was answered well
+-- whether the command behind the next one goes out only once the next one was answered well. In a missed cycle, where none goes
+-- out, this holds of each command
 abbrev pub is_chained_behind_next : List Task → Progress → Bool
 is_chained_behind_next commands p = p.missed || is_chained (drop (place_next commands p + 1) commands)
 
--- these bytes were put, whole or in part
+-- an act puts these bytes, whole or in part
 abbrev pub Puts : List ℕ → Act → Type 0
 Puts bytes (Put out) = out ≡ bytes
 Puts bytes (Cut out count) = (out ≡ bytes) × (count < length bytes)
 Puts bytes _ = ⊥
 
+-- an act reads the clock, or fails to
 abbrev pub ReadsClock : Act → Type 0
 ReadsClock (Told m) = Unit {0}
 ReadsClock Untold = Unit {0}
 ReadsClock _ = ⊥
 
+-- an act makes a connection, or fails to
 abbrev pub IsOpening : Act → Type 0
 IsOpening Opened = Unit {0}
 IsOpening Unopened = Unit {0}
 IsOpening _ = ⊥
 
+-- an act is a read, whatever came of it
 abbrev pub IsReading : Act → Type 0
 IsReading (Gave bytes m) = Unit {0}
 IsReading (Silent m) = Unit {0}
@@ -131,7 +136,7 @@ IsReading Broke = Unit {0}
 IsReading Untold = Unit {0}
 IsReading _ = ⊥
 
--- the act is that of this action
+-- an act performs this action, where a station is at this model
 abbrev pub Performs : List Task → Model → Action → Act → Type 0
 Performs commands s ReadClock act = ReadsClock act
 Performs commands s Renew act = ReadsClock act
@@ -148,7 +153,7 @@ Performs commands s (Stop cause) act = ⊥
 
 -- What an act does.
 
--- the same model, with another progress
+-- a model with its progress changed by `f`
 abbrev pub with_progress : (Progress → Progress) → Model → Model
 with_progress f s = record s { progress = f s.progress }
 
@@ -156,7 +161,7 @@ with_progress f s = record s { progress = f s.progress }
 abbrev pub with_moment : Moment → Model → Model
 with_moment m s = record s { client = expires s.client m.elapsed }
 
--- the client after a send, where it wasn't refused
+-- the client behind a send; where the send was refused (`None`), the client as it was
 abbrev pub client_sent : ById → Option (Sending ById) → ById
 client_sent client None = client
 client_sent client (Some x) = x.client
@@ -181,7 +186,7 @@ asks_first mark (task ∷ others) s = asks task.deadline task.command.target tas
 abbrev pub asks_next : Plan → List Task → Model → Model
 asks_next plan commands s = asks_first (mark_next plan commands s.progress) (drop (place_next commands s.progress) commands) s
 
--- the same model, with another client
+-- a model with another client in place of its own
 abbrev pub with_client : ById → Model → Model
 with_client client s = record s { client = client }
 
@@ -191,7 +196,7 @@ skips_first p m mark [] = []
 skips_first p m mark (task ∷ others) =
     record { sent = None; utc = skipped_at m p; cycle = mark.cycle; place = mark.place; command = task.command; end = if p.missed then Missed else Skipped } ∷ []
 
--- the record of the next command, where the clock was read
+-- the record of the next command, which isn't sent, where the act read the clock; else none
 abbrev pub skips : Plan → List Task → Progress → Act → List Record
 skips plan commands p (Told m) = skips_first p m (mark_next plan commands p) (drop (place_next commands p) commands)
 skips plan commands p _ = []
@@ -200,14 +205,14 @@ skips plan commands p _ = []
 abbrev pub with_records : List Record → Model → Model
 with_records records s = record s { records = s.records ++ records }
 
--- settlements of the oldest requests that wait are written down by their marks, which go
+-- the model once these settlements of the oldest requests that wait are written down, by their marks, which are taken out
 abbrev pub with_settled : List Settlement → Model → Model
 with_settled settlements s = record s {
   records = s.records ++ records_of s.reads s.progress.moment.utc s.marks settlements;
   marks = drop (length settlements) s.marks;
 }
 
--- the model behind what a client settled: the records of that, and the client as it then is
+-- the model behind what a client settled: with the records of these settlements, and the client as it then is
 abbrev pub settles : Settled ById → Model → Model
 settles x s = with_client x.client (with_settled x.settlements s)
 
@@ -215,6 +220,7 @@ settles x s = with_client x.client (with_settled x.settlements s)
 abbrev pub line_came : Model → List ℕ → Model
 line_came s line = with_progress (noted (is_reply line)) (settles (hears s.client line (heard line)) s)
 
+-- the model behind lines that came, in order
 abbrev pub lines_came : Model → List (List ℕ) → Model
 lines_came s [] = s
 lines_came s (line ∷ others) = lines_came (line_came s line) others
@@ -223,6 +229,7 @@ lines_came s (line ∷ others) = lines_came (line_came s line) others
 abbrev pub lines_behind : List ℕ → List ℕ → List (List ℕ)
 lines_behind rest piece = filter_map line_in (frames_behind rest piece)
 
+-- a model with these bytes since the last line feed in place of its own
 abbrev pub with_rest : List ℕ → Model → Model
 with_rest rest s = record s { rest = rest }
 
@@ -234,7 +241,7 @@ piece_came piece s = lines_came (with_rest (rest_behind s.rest piece) s) (lines_
 abbrev pub piece_asked : List ℕ → Model → Model
 piece_asked piece s = with_progress (λ p. lines_asked p (lines_behind s.rest piece)) (with_rest (rest_behind s.rest piece) s)
 
--- whether what comes in a phase is heard: it is where requests go out, and is dropped before that
+-- whether what comes in a phase is heard: in `Ready` alone. In each other phase it is dropped
 abbrev pub is_heard : Phase → Bool
 is_heard phase.Down = false
 is_heard phase.Pausing = false
@@ -251,7 +258,8 @@ came true [] piece s = piece_came piece s
 came true (asked ∷ others) piece s = piece_asked piece s
 came false word piece s = s
 
--- the model behind a piece that was heard, where `before` commands waited before it
+-- the model once what a piece settled was counted: a command that was settled gives all tries back, and the cycle may be done
+-- early. `before` commands waited before the piece
 abbrev pub reckoned : Plan → Until → ℕ → Model → Model
 reckoned plan until before s = with_progress (λ p. reckoned_early plan (commands_in s.marks) (gave plan until before (waiting_of s) p)) s
 
@@ -269,13 +277,14 @@ after_read plan until s Ended = with_progress (failing cause.End) s
 after_read plan until s Broke = with_progress (failing cause.Read) s
 after_read plan until s _ = with_progress (failing cause.Clock) s
 
--- the model behind a reading of the clock, which does this to its progress
+-- the model behind an act that reads the clock: its progress is changed by `f` or, where the clock couldn't be read, fails for
+-- that
 abbrev pub after_clock : (Moment → Progress → Progress) → Model → Act → Model
 after_clock f s (Told m) = with_moment m (with_progress (f m) s)
 after_clock f s _ = with_progress (failing cause.Clock) s
 
--- the model behind a write, which does this where all bytes went out; where they were cut, the connection is to be closed,
--- and this many requests count as sent
+-- the model behind a write, changed by `f`. Where the bytes were cut, the connection is to be closed besides, for a cause that names
+-- this number of requests
 abbrev pub after_put : ℕ → (Model → Model) → Model → Act → Model
 after_put requests f s (Cut bytes count) = with_progress (failing (cause.Write requests count)) (f s)
 after_put requests f s _ = f s
@@ -289,7 +298,7 @@ after_open plan s _ = with_progress (again plan (commands_in s.marks) cause.Open
 abbrev pub after_close : Plan → Cause → Model → Model
 after_close plan cause s = with_progress (closed plan (waiting_of s) cause) (with_rest [] s)
 
--- the model behind an act of this action, apart from the turn that it takes
+-- the model behind an act that performs this action, apart from the turn that is taken
 abbrev pub moved : Plan → List Task → Action → Model → Act → Model
 moved plan commands ReadClock s act = after_clock (λ m p. reckoned_early plan (commands_in s.marks) (told m p)) s act
 moved plan commands Renew s act = after_clock (λ m p. reckoned_early plan 0 (renewed plan m p)) s act
@@ -305,16 +314,16 @@ moved plan commands (Read until) s act = after_read plan until s act
 moved plan commands (Close cause) s act = after_close plan cause s
 moved plan commands (Stop cause) s act = s
 
--- the model with all that wait lost and the ids begun anew, if that is asked for; else the model as it is
+-- the model with all requests that wait lost and a fresh client, if that is asked for; else the model as it is
 abbrev pub losing : Bool → Model → Model
 losing true s = settles (restarts s.client) s
 losing false s = s
 
--- the model where the station begins anew or no act follows: all that wait are lost; else the model as it is
+-- the model with all requests that wait lost, where the station begins anew or no act follows; else the model as it is
 abbrev pub ended : Model → Model
 ended s = losing (loses_all s.progress) s
 
--- the model behind an act: it takes a turn, and does what an act of the next action does
+-- the model behind an act: a turn is taken, then `moved` for the action that was next, then `ended`
 abbrev pub after : Plan → List Task → Model → Act → Model
 after plan commands s act = ended (moved plan commands (action_at plan s) (with_progress turned s) act)
 
@@ -323,7 +332,7 @@ abbrev pub after_all : Plan → List Task → Model → List Act → Model
 after_all plan commands s [] = s
 after_all plan commands s (act ∷ acts) = after_all plan commands (after plan commands s act) acts
 
--- each act is the one that was to be made next
+-- each of these acts performs the action that was next
 abbrev pub Runs : Plan → List Task → Model → List Act → Type 0
 Runs plan commands s [] = Unit {0}
 Runs plan commands s (act ∷ acts) = Performs commands s (action_at plan s) act × Runs plan commands (after plan commands s act) acts

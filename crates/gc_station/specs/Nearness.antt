@@ -24,14 +24,15 @@ IsAtItsTarget commands r =
     (task : Task) (near : Near) (answer : Answer) (line : List ℕ) (d : Direction) → slice_get commands r.place ≡ Some task → task.near ≡ Some near
     → r.end ≡ Answered (Some answer) line → direction_of answer ≡ Some d → IsNear d near.place near.tolerance
 
--- one that is elsewhere is of an answer, with both codes 0 and values that read, whose direction isn't near where its target stands
+-- a record that is elsewhere is of an answer, with both codes 0 and values that read, whose direction isn't near where its
+-- target stands
 abbrev pub IsTrulyElsewhere : (Call → List ℕ → Reading) → List Task → Record → Type 0
 IsTrulyElsewhere reads commands r =
     (task : Task) (line : List ℕ) → slice_get commands r.place ≡ Some task → r.end ≡ Elsewhere line
     → (answer : Answer) × (near : Near) × (d : Direction) × (reads r.command.call line ≡ Value answer) × (task.near ≡ Some near) × (direction_of answer ≡ Some d)
     × (IsNear d near.place near.tolerance → ⊥)
 
--- behind any acts
+-- each record behind any acts is `IsAtItsTarget`, and `IsTrulyElsewhere`
 abbrev pub AnswersAreAtTheirTargets : Type 0
 AnswersAreAtTheirTargets =
     (plan : Plan) (commands : List Task) (scope : Scope) (acts : List Act)

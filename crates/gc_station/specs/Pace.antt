@@ -1,4 +1,4 @@
--- How long a read waits, and which overrun is told: this project's own.
+-- How long a read waits, and which overrun is reported: this project's own.
 use Rattle.std.specs.Prelude.{ℕ, ◌-◌, ◌&&◌, Bool, not, if◌then◌else◌, nat_lt, min, max, Option, Some, None}
 use Rattle.gc_station.specs.declared.plan.Plan.{Plan}
 use Rattle.gc_station.specs.declared.progress.Phase.{Phase}
@@ -9,52 +9,54 @@ use Rattle.gc_station.specs.declared.progress.Until.TheVariants.{Limit, Due}
 use Rattle.gc_station.specs.Deciding.{later, has_begun, patience_of, is_due}
 use Rattle.gc_station.specs.Progressing.{is_idle}
 
--- the moment at which the line is dead, and at which the next cycle is due
+-- the moment from which on the line is dead, if no reply line comes until then
 abbrev pub dead_at : Plan → Progress → ℕ
 dead_at plan p = later p.alive (patience_of plan)
 
+-- the moment at which the next cycle is due
 abbrev pub due_at : Plan → Progress → ℕ
 due_at plan p = later p.began plan.every
 
--- the moment at which the next connection is tried: when the pause is over, and where none is wanted before the next cycle is due, then at
--- the earliest
+-- the moment of the next attempt to connect: the end of the pause, or, where no connection is wanted before the next cycle is due, that due
+-- moment if it is later
 abbrev pub retry_at : Plan → Progress → ℕ
 retry_at plan p = if is_idle plan p then max (later p.since p.pause) (due_at plan p) else later p.since p.pause
 
--- the moment at which a read that brings nothing is over at the latest, whatever deadlines there are: at the end of a pause or a drain, where
--- the line is dead, or where the null procedure of a beginning goes out again
+-- the moment at which a read in this phase ends if nothing comes, leaving out the deadlines of the requests that wait: at the end of a pause
+-- or a drain, when the line is dead, or when a null procedure of the beginning goes out again
 abbrev pub ends_in : Phase → Plan → Progress → ℕ
 ends_in phase.Pausing plan p = retry_at plan p
 ends_in phase.Draining plan p = later p.since plan.quiet
 ends_in _ plan p = if has_begun p then dead_at plan p else min p.again (dead_at plan p)
 
--- the due moment, where all that is left is to wait for it
+-- as `ends_in`, except that a read that only waits for the next cycle ends when that cycle is due
 abbrev pub ends_without_deadline : Plan → Progress → Until → ℕ
 ends_without_deadline plan p Due = due_at plan p
 ends_without_deadline plan p Limit = ends_in p.phase plan p
 
--- the moment at which it is over, where this is the next deadline, if a request still has one
+-- the moment at which a read ends if nothing comes: `ends_without_deadline`, or the next deadline of a request if that is earlier
 abbrev pub ends_at : Plan → Progress → Until → Option ℕ → ℕ
 ends_at plan p until (Some deadline) = min deadline (ends_without_deadline plan p until)
 ends_at plan p until None = ends_without_deadline plan p until
 
--- how many milliseconds it waits: until that moment, at least one, and at most a minute
+-- how many milliseconds a read waits: until `ends_at`, but at least one and at most a minute
 abbrev pub patience : Plan → Progress → Until → Option ℕ → ℕ
 patience plan p until deadline = min (max (ends_at plan p until deadline - p.moment.elapsed) 1) 60000
 
--- the cycle that began last
+-- the number of the cycle that began last, counted from 1; 0 before the first
 abbrev pub cycle_of : Plan → Progress → ℕ
 cycle_of plan p = plan.cycles - p.left
 
--- whether the cycle that began last has overrun: it isn't missed, and wasn't done when the next was due, which is still to come
+-- whether the cycle that began last has overrun: it isn't missed, and wasn't done when the next one, which hasn't begun, was due
 abbrev pub has_overrun : Plan → Progress → Bool
 has_overrun plan p = not p.early && not p.missed && is_due plan p && nat_lt 0 p.left && nat_lt 0 plan.every
 
--- the cycle that is told to have overrun, where this is the last one that was: the one that began last, once
+-- the cycle that is to be reported as overrun: the one that began last, if it has overrun and is behind `told`, the last one that was
+-- reported
 abbrev pub overrun : Plan → Progress → ℕ → Option ℕ
 overrun plan p told = if has_overrun plan p && nat_lt told (cycle_of plan p) then Some (cycle_of plan p) else None
 
--- the last one that was told then
+-- the last cycle that is reported as overrun by then: this one, if one was to be reported, else `told`
 abbrev pub told_then : ℕ → Option ℕ → ℕ
 told_then told None = told
 told_then told (Some cycle) = cycle

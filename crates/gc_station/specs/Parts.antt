@@ -1,5 +1,5 @@
--- What a run of a station is to its client, this project's own: apart at each beginning, what happens while it begins, and then the client's
--- steps, and of each request that goes out which command it is.
+-- A run of a station as its client has it, this project's own: a part for each beginning, with what happens while the station begins, then
+-- the client's steps, and which command each request is that goes out.
 use Rattle.std.specs.Prelude.{◌≡◌, ℕ, ◌&&◌, Bool, true, false, if◌then◌else◌, List, [], ◌∷◌, ◌++◌, drop, map, Option, Some, None, slice_get, unwrap_or}
 use Rattle.gc_catalogue.specs.declared.call.Call.{Call}
 use Rattle.gc_catalogue.specs.declared.call.Call.TheVariants.{NullProc}
@@ -18,7 +18,7 @@ use Rattle.gc_station.specs.Progressing.{loses_all}
 use Rattle.gc_station.specs.Records.{Record}
 use Rattle.gc_station.specs.Model.{Model, action_at, place_next, mark_next, lines_behind, is_heard, after}
 
--- what happens while it begins: the null procedure that is asked for goes out, whole or in part; or a line is heard
+-- what happens while a station begins: the null procedure of the first id that isn't answered goes out, whole or in part; or a line is heard
 pub data Turn : Type 0 where
   Asks : Turn
   Hears : (line : List ℕ) → Turn
@@ -30,23 +30,27 @@ pub record Part : Type 0 where
   pub steps : List Step
   pub marks : List (Option Mark)
 
--- turns of a beginning; steps without a send; nothing; and one part and then another
+-- the part of these turns of a beginning
 abbrev pub only_turns : List Turn → Part
 only_turns turns = record { turns = turns; steps = []; marks = [] }
 
+-- the part of these steps, which send nothing
 abbrev pub only : List Step → Part
 only steps = record { turns = []; steps = steps; marks = [] }
 
+-- the part in which nothing happens
 abbrev pub nothing : Part
 nothing = only []
 
+-- one part and another behind it, as one
 abbrev pub joined : Part → Part → Part
 joined p q = record { turns = p.turns ++ q.turns; steps = p.steps ++ q.steps; marks = p.marks ++ q.marks }
 
--- the part of a request that goes out, and of the first of these commands as one
+-- the part of a request that goes out
 abbrev pub asking : ℕ → Call → ℕ → Option Mark → Part
 asking target call deadline mark = record { turns = []; steps = Send target call deadline ∷ []; marks = mark ∷ [] }
 
+-- the part of the first of these commands, whose request goes out at this moment
 abbrev pub asking_first : ℕ → Mark → List Task → Part
 asking_first now mark [] = nothing
 asking_first now mark (task ∷ others) = asking task.command.target task.command.call (later now task.deadline) (Some mark)
@@ -59,8 +63,8 @@ putting plan commands s action.Send =
     asking_first s.progress.moment.elapsed (mark_next plan commands s.progress) (drop (place_next commands s.progress) commands)
 putting plan commands s _ = nothing
 
--- the part of a piece behind these bytes since the last line feed: it is heard line by line, or it is dropped, and its lines
--- count as lost by the line
+-- the client's steps for a piece behind these bytes since the last line feed: it hears the piece line by line; or, where the piece is
+-- dropped, nothing, as if the lines were lost on the way
 abbrev pub hearing : Bool → List ℕ → List ℕ → List Step
 hearing true rest piece = map Hear (lines_behind rest piece)
 hearing false rest piece = []
@@ -75,8 +79,8 @@ doing plan commands s action (Put bytes) = putting plan commands s action
 doing plan commands s action (Cut bytes count) = putting plan commands s action
 doing plan commands s action _ = nothing
 
--- the part of an act of this action while the station begins: the null procedure that is asked for is put, all of it or
--- some; a piece is heard line by line
+-- the part of an act of this action while the station begins: the null procedure of the first id that isn't answered is put, all
+-- of it or some; a piece is heard line by line
 abbrev pub beginning : Model → Action → Act → Part
 beginning s action.Ask (Put bytes) = only_turns (Asks ∷ [])
 beginning s action.Ask (Cut bytes count) = only_turns (Asks ∷ [])
@@ -87,11 +91,12 @@ beginning s action act = nothing
 abbrev pub acting : Plan → List Task → Model → Action → Act → Part
 acting plan commands s action act = if has_begun s.progress then doing plan commands s action act else beginning s action act
 
--- a part ends behind this act, where all that wait are lost: it begins anew, or no act follows. While it begins, nothing waits
+-- whether a part ends with this act: behind it all requests that wait are lost, because the station begins anew or no act follows. An act of
+-- a beginning ends no part, because nothing waits then
 abbrev pub ends_part : Plan → List Task → Model → Act → Bool
 ends_part plan commands s act = has_begun s.progress && loses_all (after plan commands s act).progress
 
--- the parts of an act and of those behind it, of which it is in the first or ends its own
+-- the parts of an act and of the acts behind it: the act's is a part of its own where the act ends it, and else the front of the first one
 abbrev pub in_front : Part → Bool → List Part → List Part
 in_front p true parts = p ∷ parts
 in_front p false [] = p ∷ []
@@ -103,18 +108,18 @@ parts_of plan commands s [] = nothing ∷ []
 parts_of plan commands s (act ∷ acts) =
     in_front (acting plan commands s (action_at plan s) act) (ends_part plan commands s act) (parts_of plan commands (after plan commands s act) acts)
 
--- what a request asks that has this mark: it is a command, or a null procedure
+-- a request with this mark asks this: what the command of the mark asks, or a null procedure where there is no mark
 abbrev pub IsOf : List Task → Option Mark → Asked → Type 0
 IsOf commands None a = a ≡ record { target = 0; call = NullProc }
 IsOf commands (Some mark) a = (task : Task) × (slice_get commands mark.place ≡ Some task) × (a ≡ of_task task)
 
--- each request asks what its mark says, one for one
+-- requests with these marks ask this, one for one
 abbrev pub AreOf : List Task → List (Option Mark) → List Asked → Type 0
 AreOf commands [] [] = Unit {0}
 AreOf commands (mark ∷ marks) (a ∷ others) = IsOf commands mark a × AreOf commands marks others
 AreOf commands _ _ = ⊥
 
--- whether it went out
+-- whether the request of a command that ended so went out
 abbrev pub went_out : End → Bool
 went_out (Answered answer line) = true
 went_out (Unreadable line fault) = true
@@ -124,7 +129,7 @@ went_out Lost = true
 went_out Skipped = false
 went_out Missed = false
 
--- with this record in front, where its command went out
+-- these records, with this one in front if its command went out
 abbrev pub sent_with : Bool → Record → List Record → List Record
 sent_with true r rs = r ∷ rs
 sent_with false r rs = rs
@@ -134,9 +139,11 @@ abbrev pub sent_of : List Record → List Record
 sent_of [] = []
 sent_of (r ∷ rs) = sent_with (went_out r.end) r (sent_of rs)
 
--- the command that a record is of, whose target stands there, where that was said; and the record without its moment
+-- the mark of the command that a record is of, whose target stands at `near`, where the text says so; 0 as the moment of
+-- sending where the record has none
 abbrev pub mark_of : Option Near → Record → Mark
 mark_of near r = record { cycle = r.cycle; place = r.place; sent = unwrap_or r.sent 0; near = near }
 
+-- a record with 0 for the moment of its end
 abbrev pub timeless : Record → Record
 timeless r = record r { utc = 0 }

@@ -25,17 +25,17 @@ abbrev pub pause_behind : Plan → ℕ → ℕ
 pause_behind plan zero = 0
 pause_behind plan (suc n) = max (min (doubled n plan.quiet) 60000) plan.quiet
 
--- any action but these touches neither the tries nor the pause
+-- an action that touches neither the tries nor the pause: it doesn't make a connection, read from one or close one
 abbrev pub LeavesTries : Action → Type 0
 LeavesTries Open = ⊥
 LeavesTries (Read until) = ⊥
 LeavesTries (Close why) = ⊥
 LeavesTries _ = Unit {0}
 
--- at the start all tries are left, and there is no pause. A failure takes one try, and makes the pause that of one failure more; without a
--- try left the run is over. A close while no connection is wanted takes none, and makes the pause that of one failure where there was none
--- before. A read that settles a command gives all tries back, and ends the pause; one that settles none changes neither, and no other act
--- does
+-- at the start all tries are left, and the pause is 0. A failure takes one try, and makes the pause that of one failure more; without a try
+-- left the run is over. A close while no connection is wanted takes no try, and makes a pause of 0 that of one failure. A read that settles
+-- a command gives all tries back, and makes the pause 0. Bytes that settle none change neither, and nor does an act that is no opening, no
+-- read and no close
 pub record TriesAndPausesAreCounted : Type 0 where
   pub start : (plan : Plan) (turns : ℕ) → ((at_start plan turns).tries ≡ plan.retries) × ((at_start plan turns).pause ≡ pause_behind plan 0)
   pub failed : (plan : Plan) (commands n : ℕ) (why : Cause) (p : Progress) → is_spared plan why p ≡ false → p.pause ≡ pause_behind plan n

@@ -44,8 +44,9 @@ at_start plan turns = record {
 abbrev pub turned : Progress → Progress
 turned p = record p { turns = p.turns - 1 }
 
--- the moment was told, behind bytes that went or came, or a connection that was closed or not made: the quiet time begins now. Where the
--- clock went back, the cycle began now at the latest, so that the next one isn't put off, and the line was alive now at the latest
+-- the progress once a moment was told otherwise than behind a read that gave nothing: the quiet time begins now. Where the
+-- clock went back, the cycle began now at the latest, so that the next one isn't put off, and the line was alive now at the
+-- latest
 abbrev pub told : Moment → Progress → Progress
 told m p = record p { moment = m; since = m.elapsed; alive = min p.alive m.elapsed; began = min p.began m.elapsed; stale = false }
 
@@ -54,7 +55,7 @@ told m p = record p { moment = m; since = m.elapsed; alive = min p.alive m.elaps
 abbrev pub beginning : Plan → Moment → Progress → ℕ
 beginning plan m p = if nat_eq p.left plan.cycles || nat_eq plan.every 0 then m.elapsed else min (later p.began plan.every) m.elapsed
 
--- whether a cycle that would begin at this moment is missed: the one behind it is due by now
+-- whether a cycle that would begin at this moment is missed: the one behind it is due by then
 abbrev pub is_missing : Plan → Moment → Progress → Bool
 is_missing plan m p = nat_lt 0 plan.every && nat_le plan.every (m.elapsed - beginning plan m p)
 
@@ -77,7 +78,8 @@ begun plan count m p =
       chain_unbroken = false;
     }
 
--- the moment in the record of a command that isn't sent: that at which its cycle was due, where that is missed, and else this one
+-- the moment in the record of a command that isn't sent: where its cycle is missed, the moment at which the cycle was due; else
+-- this one
 abbrev pub skipped_at : Moment → Progress → ℕ
 skipped_at m p = if p.missed then p.due else m.utc
 
@@ -94,7 +96,7 @@ failing cause p = record p { phase = if is_up p.phase then phase.Closing cause e
 abbrev pub opened : Progress → Progress
 opened p = record p { phase = phase.Clearing }
 
--- whether the next connection takes no try: one was closed while none is wanted. That none could be made takes one
+-- whether a failure for this cause takes no try: a connection was closed while none is wanted. An attempt that failed always takes one
 abbrev pub is_spared : Plan → Cause → Progress → Bool
 is_spared plan cause.Open p = false
 is_spared plan _ p = is_idle plan p
@@ -107,8 +109,8 @@ phase_again plan commands why p =
     else if is_spared plan why p || nat_lt 0 p.tries then phase.Pausing
     else phase.Over why
 
--- the length of the next pause: the quiet time behind a first failure, and behind each further one twice the last pause, up
--- to a minute and never below the quiet time. Where no connection is wanted the last pause stays
+-- the length of the next pause: the quiet time behind a first failure, and behind each further one twice the last pause, up to
+-- a minute. Where no connection is wanted it is the last pause. It is never below the quiet time
 abbrev pub pause_again : Plan → Cause → Progress → ℕ
 pause_again plan why p = if is_spared plan why p then max p.pause plan.quiet else max (min (later p.pause p.pause) 60000) plan.quiet
 
@@ -126,16 +128,16 @@ again plan commands why p = record p {
 abbrev pub cleared : Progress → Progress
 cleared p = record p { phase = if has_begun p then phase.Draining else phase.Ready; again = 0; asked = false; stale = true }
 
--- the progress behind a request: the time of a dead line begins with the first one behind a reply line
+-- the progress behind a request: the time after which the line is dead begins with the first one behind a reply line
 abbrev pub asking : Progress → Progress
 asking p = record p { alive = if p.asked then p.alive else p.moment.elapsed; asked = true; stale = true }
 
--- the progress behind the null procedure that is asked for: it goes out again at its deadline
+-- the progress behind the null procedure of the first id that isn't answered: it goes out again at its deadline
 abbrev pub null_sent : Plan → Progress → Progress
 null_sent plan p = let q = asking p in record q { again = later p.moment.elapsed plan.deadline }
 
--- the progress of a station that begins anew at this moment: no null procedure is answered, and no chain goes on. Where
--- nothing more is asked before the next cycle is due, the time of a dead line begins with the first null procedure
+-- the progress of a station that begins anew at this moment: no null procedure is answered, and no chain goes on. Where nothing
+-- goes out before the next cycle is due, the time after which the line is dead begins with the first null procedure
 abbrev pub renewed : Plan → Moment → Progress → Progress
 renewed plan m p = let q = told m p in record q { word = the_word; again = 0; asked = p.asked && goes_on plan q; chain_unbroken = false }
 
@@ -147,25 +149,28 @@ sent next_is_chained p = let q = asking p in record q { unsent = p.unsent - 1; n
 abbrev pub noted : Bool → Progress → Progress
 noted is_reply p = record p { alive = if is_reply then p.moment.elapsed else p.alive; asked = if is_reply then false else p.asked }
 
--- while it begins a line was heard with this id, or with none: where it answers, the next null procedure goes out at once
+-- the progress once a line with this id, or with none, was heard while the station begins: where that answers the first null
+-- procedure that is left, the next one goes out at once
 abbrev pub answered : Option ℕ → Progress → Progress
 answered id p = record p { word = left_by p.word id; again = if is_answered p.word id then 0 else p.again }
 
--- the lines of a piece were heard while it begins, in order
+-- the progress behind a line that was heard while the station begins
 abbrev pub line_asked : Progress → List ℕ → Progress
 line_asked p line = noted (is_reply line) (answered (heard line) p)
 
+-- the progress behind the lines of a piece that were heard while the station begins, in order
 abbrev pub lines_asked : Progress → List (List ℕ) → Progress
 lines_asked p [] = p
 lines_asked p (line ∷ others) = lines_asked (line_asked p line) others
 
--- a read until the next cycle is due shows that this one was done before that
+-- whether the cycle counts as done early behind a read. A read until the next cycle is due shows that it was, because only a done cycle
+-- has such a read; behind any other read it counts as before (`early`)
 abbrev pub early_behind : Until → Bool → Bool
 early_behind Due early = true
 early_behind Limit early = early
 
 -- the progress behind bytes that came: `before` commands waited before them, and `after` counts what waits behind them.
--- Where a command was settled, all tries are left again, and the next pause is short
+-- Where a command was settled, all tries are left again, and the next pause is the quiet time
 abbrev pub gave : Plan → Until → ℕ → Waiting → Progress → Progress
 gave plan until before after p = record p {
   early = early_behind until p.early;
@@ -177,7 +182,7 @@ gave plan until before after p = record p {
 abbrev pub pause_ended : Plan → Progress → Progress
 pause_ended plan p = record p { phase = if is_past p.pause p && not (is_idle plan p) then phase.Down else p.phase }
 
--- the progress at the end of draining, once the connection was quiet: requests go out at once
+-- the progress at the end of draining, once the connection was quiet: requests may go out
 abbrev pub drained : Progress → Progress
 drained p = record p { phase = phase.Ready; alive = p.moment.elapsed; asked = false }
 
@@ -187,8 +192,8 @@ quieted plan phase.Pausing p = pause_ended plan p
 quieted plan phase.Draining p = if is_quiet plan p then drained p else p
 quieted plan _ p = p
 
--- the moment was told behind a read that gave nothing: the quiet time goes on. Where the clock went back, the quiet time, and the cycle,
--- began now at the latest, and the line was alive now at the latest
+-- the progress once a moment was told behind a read that gave nothing: the quiet time goes on. Where the clock went back, the quiet time
+-- and the cycle began now at the latest, and the line was alive now at the latest
 abbrev pub time_passed : Until → Moment → Progress → Progress
 time_passed until m p = record p {
   moment = m;
@@ -212,14 +217,14 @@ reckoned_early plan commands p = record p { early = p.early || (nat_eq commands 
 abbrev pub ended_for : Cause → Progress → Progress
 ended_for why p = record p { phase = phase.Over why; chain_unbroken = false }
 
--- the progress behind a close: for these causes no other connection is made, and for any other one is
+-- the progress behind a close: for `Done`, `Clock` and `Turns` no other connection is made; for any other cause `again` says whether
 abbrev pub closed : Plan → Waiting → Cause → Progress → Progress
 closed plan w cause.Done p = ended_for cause.Done p
 closed plan w cause.Clock p = ended_for cause.Clock p
 closed plan w cause.Turns p = ended_for cause.Turns p
 closed plan w why p = again plan w.commands why p
 
--- whether the end is decided in a phase
+-- whether the run is over in a phase
 abbrev pub is_over_in : Phase → Bool
 is_over_in phase.Down = false
 is_over_in phase.Pausing = false
@@ -229,10 +234,10 @@ is_over_in phase.Ready = false
 is_over_in (phase.Closing cause) = false
 is_over_in (phase.Over cause) = true
 
--- whether no act follows: the end is decided, or there is no connection and no turn is left
+-- whether no act follows: the run is over, or there is no connection and no turn is left
 abbrev pub is_over : Progress → Bool
 is_over p = is_over_in p.phase || (not (is_up p.phase) && nat_eq p.turns 0)
 
--- whether all that wait are lost: the station begins anew, or no act follows
+-- whether all requests that wait are lost: the station begins anew, or no act follows
 abbrev pub loses_all : Progress → Bool
 loses_all p = not (has_begun p) || is_over p

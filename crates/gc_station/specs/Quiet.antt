@@ -6,19 +6,20 @@ use Rattle.gc_station.specs.declared.progress.Action.{Action}
 use Rattle.gc_station.specs.declared.progress.Action.TheVariants.{Send, Flush}
 use Rattle.gc_links.specs.Acts.{Act, Told, Put, Cut, Gave, Silent, Closed, Opened, Unopened}
 
--- a request goes out, whole or in part: bytes that aren't the lone line feed
+-- an act puts a request, whole or in part: bytes that aren't the lone line feed
 abbrev pub IsRequest : Act → Type 0
 IsRequest (Put bytes) = bytes ≢ 10 ∷ []
 IsRequest (Cut bytes count) = bytes ≢ 10 ∷ []
 IsRequest _ = ⊥
 
--- the next command goes out, or a null procedure behind some that are all given up: a request of the client, and none of a beginning
+-- an action sends a request of the client, and none of a beginning: the next command, or a null procedure behind requests that are all
+-- given up
 abbrev pub IsAsking : Action → Type 0
 IsAsking Send = Unit {0}
 IsAsking Flush = Unit {0}
 IsAsking _ = ⊥
 
--- no request goes out
+-- an act puts no request
 abbrev pub AsksNothing : Act → Type 0
 AsksNothing act = IsRequest act → ⊥
 
@@ -29,14 +30,14 @@ TellsMoment elapsed (Gave bytes m) = m.elapsed ≡ elapsed
 TellsMoment elapsed (Silent m) = m.elapsed ≡ elapsed
 TellsMoment elapsed _ = ⊥
 
--- the clock was read, or a read gave bytes or nothing: no bytes go out, and the connection stays
+-- an act reads the clock, or is a read that gave bytes or nothing: no bytes go out, and the connection stays
 abbrev pub IsListening : Act → Type 0
 IsListening (Told m) = Unit {0}
 IsListening (Gave bytes m) = Unit {0}
 IsListening (Silent m) = Unit {0}
 IsListening _ = ⊥
 
--- a read gave nothing
+-- an act is a read that gave nothing
 abbrev pub IsSilent : Act → Type 0
 IsSilent (Silent m) = Unit {0}
 IsSilent _ = ⊥
@@ -46,16 +47,16 @@ abbrev pub KeepsOpen : Act → Type 0
 KeepsOpen Closed = ⊥
 KeepsOpen _ = Unit {0}
 
--- an act neither makes a connection nor closes one
+-- an act doesn't close the connection, and doesn't make one or try to
 abbrev pub StaysConnected : Act → Type 0
 StaysConnected Closed = ⊥
 StaysConnected Opened = ⊥
 StaysConnected Unopened = ⊥
 StaysConnected _ = Unit {0}
 
--- these acts begin with so long a quiet, before anything goes out: bytes may come first; and behind an act that told a moment, reads gave
--- nothing, until one of them told another, so much later. No time at all has always passed, also where the clock went back; any other passed
--- by the clock
+-- these acts begin with a quiet time of `quiet` milliseconds, before anything goes out. First bytes may come; then an act told a moment; and
+-- the reads behind it gave nothing, until one told a moment at least `quiet` milliseconds later by the clock. A quiet time of 0 has always
+-- passed, also where the clock went back
 pub record IsQuietFirst (quiet : ℕ) (acts : List Act) : Type 0 where
   pub drain : List Act
   pub start : Act

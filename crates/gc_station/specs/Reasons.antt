@@ -11,22 +11,22 @@ use Rattle.gc_station.specs.declared.progress.Progress.{Progress}
 use Rattle.gc_station.specs.declared.progress.Waiting.{Waiting}
 use Rattle.gc_station.specs.Deciding.{width_of, has_begun, is_up, is_idle, is_dead, may_go}
 
--- another request may go out
+-- another request may go out: fewer are under way than `width_of` allows, and fewer wait in all than the window has places
 abbrev pub HasRoom : Plan → Waiting → Type 0
 HasRoom plan w = (w.current < width_of plan) × (w.all < WINDOW)
 
--- each command of the cycle was sent, or the next one is of a chain whose last command went out
+-- each command of the cycle was sent, or the next one waits for the answer of the one before it in its chain
 abbrev pub IsHeld : Progress → Type 0
 IsHeld p = (p.unsent ≡ 0) ⊎ (p.next_is_chained ≡ true)
 
--- no command may go out: it hasn't begun; there is no room; or each command of the cycle was
--- sent, or the next one waits for the answer of the one before it in its chain, and some wait, not all of them given up
+-- no command may go out: the station hasn't begun; or there is no room; or `IsHeld` is so, and some commands wait, and some request
+-- isn't given up
 abbrev pub NothingMayGo : Plan → Progress → Waiting → Type 0
 NothingMayGo plan p w =
     (has_begun p ≡ false) ⊎ ((width_of plan ≤ w.current) ⊎ ((WINDOW ≤ w.all) ⊎ (IsHeld p × (0 < w.commands) × (0 < w.current))))
 
--- the next command may go out: it is the first of its chain, or all that went out are settled, the one before it was answered well,
--- and since that went out no connection was closed, and it didn't begin anew
+-- the next command may go out: it is the first of its chain; or all that went out are settled, the one before it was answered well,
+-- and since that went out no connection was closed, and the station didn't begin anew
 abbrev pub MayGo : Progress → Waiting → Type 0
 MayGo p w = (p.next_is_chained ≡ false) ⊎ ((w.commands ≡ 0) × (w.well ≡ true) × (p.chain_unbroken ≡ true))
 
@@ -38,10 +38,10 @@ IsAtItsEnd plan p w Dead = NothingMayGo plan p w × (is_dead plan p w ≡ true)
 IsAtItsEnd plan p w Turns = p.turns ≡ 0
 IsAtItsEnd plan p w _ = ⊥
 
--- what holds where this action is next
+-- the conditions of this action, which hold where it is next
 abbrev pub IsFor : Plan → Progress → Waiting → Action → Type 0
 IsFor plan p w action.ReadClock = Unit {0}
--- it begins anew where seven wait, which are all given up
+-- the station begins anew where seven wait, which are all given up
 IsFor plan p w action.Renew = (p.phase ≡ phase.Ready) × (has_begun p ≡ true) × (w.current ≡ 0) × (WINDOW ≤ w.all)
 IsFor plan p w action.Begin = (p.phase ≡ phase.Ready) × (has_begun p ≡ true) × (p.unsent ≡ 0) × (w.commands ≡ 0) × (0 < p.left)
 IsFor plan p w action.Open = p.phase ≡ phase.Down

@@ -10,8 +10,8 @@ use Rattle.gc_catalogue.specs.declared.answer.Reading.{Reading}
 use Rattle.gc_catalogue.specs.declared.call.Call.{Call}
 use Rattle.gc_station.specs.Scopes.{AreReadings}
 
--- the end of a command: the moment told last before its request went out, where it did; when its end was told, of which cycle and place it
--- was, what it asked and whom, and how it ended
+-- how a command ended: the moment told last before its request went out, if it did; the moment of its end; its cycle and its place in that;
+-- what it asked and whom; and its ending
 pub record Record : Type 0 where
   pub sent : Option ℕ
   pub utc : ℕ
@@ -24,17 +24,17 @@ pub record Record : Type 0 where
 abbrev pub record_seen : Stamp → Command → Ending → Record
 record_seen stamp command ending = record { sent = stamp.sent; utc = stamp.utc; cycle = stamp.cycle; place = stamp.place; command = command; end = ending_seen ending }
 
--- a text was written whole, or a first part of it, which isn't all
+-- a text was written whole, or where the write failed (`Err`) a first part of it, which isn't all
 abbrev pub Writes : {X E : Type 0} → Option (List ℕ) → Option (List ℕ) → List ℕ → Result X E → Type 0
 Writes old new text (Ok _) = Appends old new text
 Writes old new text (Err _) = (part : ℕ) × (part < length text) × Appends old new (take part text)
 
--- the texts of records
+-- the texts of records, one behind the other
 abbrev pub texts_of : (Record → List ℕ) → List Record → List ℕ
 texts_of text records = flat_map text records
 
--- of all these records those that stood there before were written whole; of the others those in front of one of them, too, and of that
--- one a first part, which isn't all
+-- a book wrote these records, `all`, in order, and broke off within one that isn't among those of `before`: the records in front of that one
+-- were written whole, and of that one a first part, which isn't all
 pub record WritesPart (text : Record → List ℕ) (before all : List Record) (old new : Option (List ℕ)) : Type 0 where
   pub earlier : List Record
   pub next : Record
@@ -44,7 +44,7 @@ pub record WritesPart (text : Record → List ℕ) (before all : List Record) (o
   pub not_all : part < length (text next)
   pub took : Appends old new (texts_of text (before ++ earlier) ++ take part (text next))
 
--- all these records were written whole; or where the book failed, those that stood there before, and a part of the others
+-- all these records were written whole; or, where the book failed, those of `before`, and a part of the others
 abbrev pub WritesAll : {X E : Type 0} → (Record → List ℕ) → List Record → List Record → Option (List ℕ) → Option (List ℕ) → Result X E → Type 0
 WritesAll text before all old new (Ok _) = Appends old new (texts_of text all)
 WritesAll text before all old new (Err _) = WritesPart text before all old new

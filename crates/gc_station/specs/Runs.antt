@@ -17,11 +17,12 @@ use Rattle.gc_station.specs.Model.{Model, opening, action_at, after_all, Runs}
 use Rattle.gc_station.specs.Tallies.{none_yet, tallied}
 use Rattle.gc_station.specs.Scopes.{Scope}
 
--- where a station stands after these acts, from the start on
+-- the model of a station behind these acts, from the start on
 abbrev pub stood : Plan → List Task → Scope → List Act → Model
 stood plan commands scope acts = after_all plan commands (opening plan scope) acts
 
--- a link told these acts, each the one that was to be made next; then none was, for this cause; and the book took the records
+-- a link told these acts, each the one that was to be made next; then none was, for this cause; the book took the records of
+-- the acts, and the tally counts them
 pub record RanTo (plan : Plan) (commands : List Task) (scope : Scope) (text : Record → List ℕ) (told told' : Option (List Act))
     (taken taken' : Option (List ℕ)) (cause : Cause) (tally : Tally) : Type 0 where
   pub acts : List Act
@@ -55,7 +56,7 @@ EndsAs plan commands scope text told told' taken taken' (Ok end) = RanTo plan co
 EndsAs plan commands scope text told told' taken taken' (Err _) =
     BrokeAt plan commands scope text told told' taken taken' ⊎ LeftAt plan commands scope text told told' taken taken'
 
--- a run that ended so: it stopped for a cause with this fault, or it is done; or the book failed
+-- a run came to this result: it is done, or it stopped for a cause with this fault, or the book failed
 abbrev pub Ran : Plan → List Task → Scope → (Record → List ℕ) → Option (List Act) → Option (List Act) → Option (List ℕ) → Option (List ℕ) → Result Tally RunFault → Type 0
 Ran plan commands scope text told told' taken taken' (Ok tally) = RanTo plan commands scope text told told' taken taken' Done tally
 Ran plan commands scope text told told' taken taken' (Err Output) =
@@ -63,13 +64,13 @@ Ran plan commands scope text told told' taken taken' (Err Output) =
 Ran plan commands scope text told told' taken taken' (Err fault) =
     (cause : Cause) × (tally : Tally) × RanTo plan commands scope text told told' taken taken' cause tally × (fault_of cause ≡ Some fault)
 
--- the book failed where that is the fault, and else is as it was
+-- behind a run with the fault `Output` its book has failed (`new`); behind any other run whether the book has failed is as before (`old`)
 abbrev pub FailsAtOutput : {X : Type 0} → Bool → Bool → Result X RunFault → Type 0
 FailsAtOutput old new (Ok _) = new ≡ old
 FailsAtOutput old new (Err Output) = new ≡ true
 FailsAtOutput old new (Err fault) = new ≡ old
 
--- all records last, but where the book failed
+-- all records are durable, unless the book failed
 abbrev pub LastsBut : {X : Type 0} → Bool → Result X RunFault → Type 0
 LastsBut is_durable (Ok _) = is_durable ≡ true
 LastsBut is_durable (Err Output) = Unit {0}

@@ -1,26 +1,27 @@
--- What the laws on a run are told of it beside its plan and its commands, this project's own: how many acts it makes at
--- most, and what each reply says of its call.
+-- What the laws on a run take beside its plan and its commands, this project's own: how many acts it makes at most, and what
+-- each reply says of its call.
 use Rattle.std.specs.Prelude.{◌≡◌, ℕ, List}
 use Rattle.gc_catalogue.specs.declared.answer.Reading.{Reading}
 use Rattle.gc_catalogue.specs.declared.call.Call.{Call}
 use Rattle.gc_client.specs.Settlements.{ReadsAs}
 
+-- how many acts a run makes at most, and what each reply says of its call
 pub record Scope : Type 0 where
   pub turns : ℕ
   pub reads : Call → List ℕ → Reading
 
--- each line that is a reply says this of its call
+-- this function gives each line's reading for a call, wherever there is one
 abbrev pub AreReadings : (Call → List ℕ → Reading) → Type 0
 AreReadings reads = (call : Call) (line : List ℕ) (reading : Reading) → ReadsAs call line reading → reads call line ≡ reading
 
--- a line says one thing of a call at most
+-- a line has at most one reading for a call
 abbrev pub OneReadingForALine : Type 0
 OneReadingForALine = (call : Call) (line : List ℕ) (x y : Reading) → ReadsAs call line x → ReadsAs call line y → x ≡ y
 
--- some function says what each reply says of its call
+-- some function gives each line's reading for a call, wherever there is one
 abbrev pub SomeReadings : Type 0
 SomeReadings = (reads : Call → List ℕ → Reading) × AreReadings reads
 
--- it holds with whatever function says what each reply says of its call, and with one that there is
+-- `Holds` is so for every function that gives each reply's reading for its call, and there is such a function
 abbrev pub ForReadings : ((Call → List ℕ → Reading) → Type 0) → Type 0
 ForReadings Holds = ((reads : Call → List ℕ → Reading) → AreReadings reads → Holds reads) × ((reads : Call → List ℕ → Reading) × AreReadings reads × Holds reads)

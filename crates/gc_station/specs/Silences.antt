@@ -9,7 +9,7 @@ use Rattle.gc_station.specs.Runs.{stood}
 use Rattle.gc_station.specs.Model.{Model, is_reply, lines_behind, after}
 use Rattle.gc_station.specs.Scopes.{Scope}
 
--- the moment that these acts told last, where this one was told before them
+-- the moment that these acts told last; where they told none, `now`
 abbrev pub latest : ℕ → List Act → ℕ
 latest now [] = now
 latest now (Told m ∷ acts) = latest m.elapsed acts
@@ -31,7 +31,7 @@ abbrev pub IsMute : Plan → List Task → Model → List Act → Type 0
 IsMute plan commands s [] = Unit {0}
 IsMute plan commands s (act ∷ acts) = BringsNoReply s.rest act × IsMute plan commands (after plan commands s act) acts
 
--- behind these acts the clock goes back to this moment: the one that was told last is later
+-- behind these acts the clock goes back to this moment: the one told last among them is later
 pub record WentBack (from : ℕ) (acts : List Act) : Type 0 where
   pub earlier : List Act
   pub act : Act
@@ -41,8 +41,9 @@ pub record WentBack (from : ℕ) (acts : List Act) : Type 0 where
   pub tells : TellsMoment told act
   pub later : from < latest told others
 
--- behind an act that told a moment, no line that reads as a reply came on the same connection, and the moment that was told last is so much
--- later. No request went out behind it, or one did at once, so that it had all that time; or the clock went back at that act
+-- behind an act that told a moment, `start`, no line that reads as a reply came on the same connection, and the moment that was told last is
+-- at least `wait` milliseconds later. Behind `start` no request went out, or one went out at once, so that its reply had all that time; or
+-- the clock went back at `start`
 pub record IsMuteFor (wait : ℕ) (plan : Plan) (commands : List Task) (scope : Scope) (acts : List Act) : Type 0 where
   pub before : List Act
   pub start : Act

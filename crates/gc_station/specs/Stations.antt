@@ -1,4 +1,4 @@
--- No part of a promise: what the functions of a station say of it, in the words of where it stands.
+-- No part of a promise: what the functions of a station do to it, in terms of its model.
 use Rattle.std.specs.Prelude.{◌≡◌, ℕ, ◌<◌, false, List, [], ◌∷◌, length, Option, Result, Ok, Err}
 use Rattle.std.specs.Io.KnownBytes.{Appends}
 use Rattle.gc_lines.specs.Assembler.{StandsFor}
@@ -21,7 +21,7 @@ use Rattle.gc_station.specs.Records.{Record, texts_of, WritesPart}
 use Rattle.gc_station.specs.Model.{Model, Performs, moved, ended, with_progress}
 use Rattle.gc_station.specs.Tallies.{none_yet, tallied}
 
--- how many requests wait
+-- how many requests of a station wait, and whether the command that was written down last was answered well
 abbrev pub waiting_in : Station → Waiting
 waiting_in station =
     record {
@@ -35,7 +35,8 @@ waiting_in station =
 abbrev pub IsPaired : Station → Type 0
 IsPaired station = length station.marks.items ≡ length station.client.ids.waiting
 
--- a station stands there; how it counted, where replies say what the model has them say
+-- a station is as this model says; so are its tally, and whether the last command was answered well, where the model's `reads` gives each
+-- reply's reading for its call
 pub record Refines (station : Station) (s : Model) : Type 0 where
   pub progress : station.progress ≡ s.progress
   pub ids : station.client.ids ≡ s.client
@@ -46,11 +47,12 @@ pub record Refines (station : Station) (s : Model) : Type 0 where
   pub tally : AreReadings s.reads → station.tally ≡ tallied none_yet s.records
   pub well : AreReadings s.reads → station.well ≡ last_well s.reads false s.records
 
--- a book took the records, where replies say what the model has them say; and the same of a part of them, behind those that stood
--- there before
+-- a book took the records of a model, where the model's `reads` gives each reply's reading for its call
 abbrev pub Took : (Record → List ℕ) → Option (List ℕ) → Option (List ℕ) → Model → Type 0
 Took text start taken s = AreReadings s.reads → Appends start taken (texts_of text s.records)
 
+-- a book took those records of a model that were there before, and a part of the others, where the model's `reads` gives each reply's
+-- reading for its call
 abbrev pub TookPart : (Record → List ℕ) → List Record → Option (List ℕ) → Option (List ℕ) → Model → Type 0
 TookPart text before start taken s = AreReadings s.reads → WritesPart text before s.records start taken
 
@@ -62,17 +64,18 @@ pub record Seen : Type 0 where
   pub taken : Option (List ℕ)
   pub station : Station
 
+-- what is seen of a run, from its four parts
 abbrev pub seen : Option (List Act) → (Record → List ℕ) → Option (List ℕ) → Station → Seen
 seen acts text taken station = record { acts = acts; text = text; taken = taken; station = station }
 
--- a link told one act of this action, and the station went on as this says; a book took what that writes down
+-- a link told one act, which performs this action; the station went on by `next`, and a book took the records that this adds
 pub record Makes (commands : List Task) (action : Action) (next : Model → Act → Model) (old new : Seen) : Type 0 where
   pub act : Act
   pub tells : Tells old.acts new.acts (act ∷ [])
   pub goes : (s : Model) (start : Option (List ℕ)) → Refines old.station s → Took old.text start old.taken s
       → Performs commands s action act × Refines new.station (next s act) × Took new.text start new.taken (next s act)
 
--- a link told one act of this action, and a book failed at a record that this writes down
+-- a link told one act, which performs this action; and a book failed at one of the records that `next` adds
 pub record Breaks (commands : List Task) (action : Action) (next : Model → Act → Model) (old : Seen) (told : Option (List Act)) (taken : Option (List ℕ)) : Type 0 where
   pub act : Act
   pub tells : Tells old.acts told (act ∷ [])
@@ -84,20 +87,22 @@ abbrev pub Made : {X E : Type 0} → List Task → Action → (Model → Act →
 Made commands action next old new (Ok _) = Makes commands action next old new
 Made commands action next old new (Err _) = Breaks commands action next old new.acts new.taken
 
--- the station did what an act of this action does
+-- the station did what an act that performs this action does, apart from the turn
 abbrev pub Does : Plan → List Task → Action → Seen → Seen → Type 0
 Does plan commands action old new = Makes commands action (moved plan commands action) old new
 
--- a turn with an act of this action
+-- the model behind an act that performs this action, with the turn that is taken and what is lost then
 abbrev pub stepped : Plan → List Task → Action → Model → Act → Model
 stepped plan commands action s act = ended (moved plan commands action (with_progress turned s) act)
 
--- the progress where a write was cut
+-- the progress behind a write with this result: as it was or, where the write was cut (`Err`), failing for a cause that names
+-- this number of requests
 abbrev pub cut_progress : Result (Unit {0}) ℕ → ℕ → Progress → Progress
 cut_progress (Ok _) requests p = p
 cut_progress (Err n) requests p = failing (cause.Write requests n) p
 
--- where a request is to be sent, the window has room, and where it is a command's, one is left; and where it is a beginning's, that hasn't begun
+-- what an action needs: the window has room for a request, a command is left to be sent or skipped, and for a null procedure of a beginning
+-- the station hasn't begun
 abbrev pub IsFitting : Progress → ℕ → Action → Type 0
 IsFitting p waiting Send = (0 < p.unsent) × (waiting < WINDOW)
 IsFitting p waiting Skip = 0 < p.unsent
@@ -105,7 +110,7 @@ IsFitting p waiting Ask = has_begun p ≡ false
 IsFitting p waiting Flush = waiting < WINDOW
 IsFitting p waiting _ = Unit {0}
 
--- a station stands there, and a book took the records; or the book failed at one that didn't stand there before
+-- a station is as this model says, and a book took its records; or the book failed at one that isn't among those of `before`
 abbrev pub ComesTo : {X E : Type 0} → (Record → List ℕ) → List Record → Station → Option (List ℕ) → Option (List ℕ) → Model → Result X E → Type 0
 ComesTo text before station start taken s (Ok _) = Refines station s × Took text start taken s
 ComesTo text before station start taken s (Err _) = TookPart text before start taken s

@@ -5,6 +5,7 @@ use Rattle.gc_station.specs.Deciding.{later}
 use Rattle.gc_station.specs.Records.{Record}
 use Rattle.gc_station.specs.declared.tally.Tally.{Tally}
 
+-- the tally of no command
 abbrev pub none_yet : Tally
 none_yet = record { answered = 0; late = 0; lost = 0; skipped = 0; unreadable = 0; missed = 0; elsewhere = 0 }
 

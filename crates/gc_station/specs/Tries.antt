@@ -10,34 +10,34 @@ use Rattle.gc_station.specs.Runs.{stood}
 use Rattle.gc_station.specs.Model.{Model, after}
 use Rattle.gc_station.specs.Scopes.{Scope}
 
--- for another cause than these a run stops only without a try left
+-- a cause for which a run stops only without a try left, where its connection ended or couldn't be made
 abbrev pub IsTried : Cause → Type 0
 IsTried cause.Done = ⊥
 IsTried cause.Clock = ⊥
 IsTried cause.Turns = ⊥
 IsTried _ = Unit {0}
 
--- a connection ended, or none could be made
+-- an act ends a connection, or fails to make one
 abbrev pub IsEnding : Act → Type 0
 IsEnding Closed = Unit {0}
 IsEnding Unopened = Unit {0}
 IsEnding _ = ⊥
 
--- how often a connection ended, or none could be made
+-- how often a connection ended, or none could be made, among these acts
 abbrev pub ends_in : List Act → ℕ
 ends_in [] = 0
 ends_in (Closed ∷ acts) = suc (ends_in acts)
 ends_in (Unopened ∷ acts) = suc (ends_in acts)
 ends_in (act ∷ acts) = ends_in acts
 
--- how often a connection was asked for
+-- how often a connection was asked for among these acts
 abbrev pub opens_in : List Act → ℕ
 opens_in [] = 0
 opens_in (Opened ∷ acts) = suc (opens_in acts)
 opens_in (Unopened ∷ acts) = suc (opens_in acts)
 opens_in (act ∷ acts) = opens_in acts
 
--- a read settled no command: no record was written down where one gave bytes
+-- a read that gave bytes settled no command: it wrote down no record between these models. Of other acts nothing is said
 abbrev pub SettlesNone : Model → Act → Model → Type 0
 SettlesNone s (Gave bytes m) t = t.records ≡ s.records
 SettlesNone s act t = Unit {0}
@@ -55,8 +55,8 @@ pub record EndsSettled (plan : Plan) (commands : List Task) (scope : Scope) (act
   pub order : acts ≡ earlier ++ Gave piece moment ∷ []
   pub settled : (stood plan commands scope acts).records ≢ (stood plan commands scope earlier).records
 
--- since a read settled a command, or from the start where none did, more connections ended, or couldn't be made, than there are tries: so
--- many were asked for at least, and from the start one more
+-- since a read settled a command, or from the start where none did, more connections ended, or couldn't be made, than the plan
+-- has tries. At least as many as the plan has tries were asked for and, counted from the start, more
 pub record AllTried (plan : Plan) (commands : List Task) (scope : Scope) (acts : List Act) : Type 0 where
   pub before : List Act
   pub behind : List Act

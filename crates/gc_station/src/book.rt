@@ -18,7 +18,7 @@ pub enum LinkHealth {
     Idle,
     /// There is no connection, though one is wanted.
     Unconnected,
-    /// A connection was made, and no request went out over it yet: it isn't quiet, or it was just now.
+    /// A connection was made, and no request went out over it yet: it is being cleared, or drained until it is quiet.
     Unquiet,
     /// A request went out, and no reply line came since.
     Unheard,
@@ -33,19 +33,19 @@ pub trait Book {
     /// The bytes of a record, as this book writes them.
     ghost text: { Self → Record → List ℕ };
 
-    /// The bytes that were taken, where they are known.
+    /// All bytes that the book has taken, where they are known.
     ghost taken: { Self → Option (List ℕ) };
 
-    /// Whether a write, or what is to make it last, has failed.
+    /// Whether a write or a sync of the book has failed.
     ghost failed: { Self → Bool };
 
     /// Whether the records that were written outlast what this book is meant to outlast.
     ghost is_durable: { Self → Bool };
 
-    /// The cycles of which it was told that they overran, where they are known.
+    /// The cycles that were reported to the book as overrun, where they are known.
     ghost overruns: { Self → Option (List ℕ) } = { λ _. None };
 
-    /// Writes a record. `Err`: it took the first bytes of it, which aren't all, and has failed.
+    /// Writes a record. `Err`: the book took a first part of the record's bytes, not all of them, and has failed.
     fn write(
         &mut self,
         stamp: Stamp,
@@ -57,8 +57,8 @@ pub trait Book {
         ensures untold { overruns self.new ≡ overruns self.old }
         ensures form { text self.new ≡ text self.old };
 
-    /// Makes all that was written last: through a crash, where the book is meant to outlast one. It is called before each act and
-    /// at the end. `Err`: the book has failed.
+    /// Makes all records so far durable: they outlast a crash, where the book is meant to outlast one. It is called before each act
+    /// and at the end. `Err`: the book has failed.
     fn sync(&mut self) -> Result<(), PortFailed>
         ensures is_durable { OnOk result (is_durable self.new ≡ true) }
         ensures same { Keeps (taken self.old) (taken self.new) }
@@ -66,7 +66,7 @@ pub trait Book {
         ensures untold { overruns self.new ≡ overruns self.old }
         ensures form { text self.new ≡ text self.old };
 
-    /// Is told before each act how things stand, and the moment that was told last.
+    /// Takes note of the health of the link and of the last moment that the link told. It is called before each act.
     fn sees(&mut self, health: LinkHealth, moment: Moment)
         ensures quiet { overruns self.new ≡ overruns self.old }
         ensures same { taken self.new ≡ taken self.old }
@@ -74,7 +74,7 @@ pub trait Book {
         ensures is_durable { is_durable self.new ≡ is_durable self.old }
         ensures form { text self.new ≡ text self.old };
 
-    /// Is told that this cycle was not done when the next was due.
+    /// Takes note that this cycle was not done when the next was due.
     fn overran(&mut self, cycle: u64)
         ensures told { Appends (overruns self.old) (overruns self.new) (cycle ∷ []) }
         ensures same { taken self.new ≡ taken self.old }

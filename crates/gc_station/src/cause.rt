@@ -1,4 +1,4 @@
-//! Causes: why a connection is closed, or a run ends, and the fault that the program tells then.
+//! Causes: why a connection is closed, or a run ends, and the fault that the program reports then.
 
 ghost use Rattle.std.specs.Prelude.{◌≡◌};
 ghost use Rattle.gc_station.specs.Causes.{fault_of};
@@ -17,7 +17,7 @@ pub enum Cause {
     Read,
     /// The other end closed the connection.
     End,
-    /// A write failed: `requests` requests of the cycle had gone out before, and only the first `bytes` bytes of this write.
+    /// A write failed: only its first `bytes` bytes went out. `requests` commands of the cycle were sent or passed over before it.
     Write { requests: usize, bytes: usize },
     /// The clock can't be read.
     Clock,

@@ -31,26 +31,26 @@ ghost use Rattle.gc_station.specs.Silences.{IsMuteFor};
 ghost use Rattle.gc_station.specs.Model.{opening, action_at, Runs};
 ghost use Rattle.gc_station.specs.Tries.{IsTried, IsEnding, AllTried};
 
-/// The records of a run, and behind them the requests that wait, are the commands that were sent: cycle by cycle, in
-/// order, each once; those that weren't sent among them, as skipped or missed. Where the run stopped nothing waits, and where it is
-/// done they are all commands of all cycles.
+/// The records of a run, and behind them the commands that wait, are the commands that had their turn, sent or not: cycle by cycle,
+/// in order, each once. Where the run stopped, the records alone are these, and where the run is done they are all commands of all
+/// cycles.
 pub fn each_command_once()
     ensures { (plan : Plan) (commands : List Task) (scope : Scope) (acts : List Act) → EachOnce plan commands scope acts }
 {}
 
-/// A line says one thing of a call at most. So the functions of which the laws speak, that tell what each reply says of its call,
+/// A line has at most one reading for a call. So all functions that give each reply's reading for its call, of which the laws speak,
 /// agree wherever a line reads.
 pub fn each_line_says_one_thing()
     ensures { OneReadingForALine }
 {}
 
-/// There is such a function: for each line that is a reply, it is what the catalogue's reader says of the reply and the call.
+/// Some function gives each line's reading for a call, wherever there is one: what the catalogue's reader says of the two.
 pub fn some_function_says_what_each_reply_says()
     ensures { SomeReadings }
 {}
 
 /// Each act of a run performs the action that was next, and the conditions of that action held. Where a command was sent, fewer
-/// requests were under way than the plan has it, fewer than seven waited in all, and the bytes are the line of the cycle's next
+/// requests were under way than the plan's width, fewer than seven waited in all, and the bytes are the line of the cycle's next
 /// command. Where a null procedure of a beginning was sent, nothing waited, the client was new, and the bytes are the line of the
 /// null procedure with the first id that wasn't answered. Where the station began anew, seven requests waited, all given up.
 pub fn each_act_is_due()
@@ -66,7 +66,8 @@ pub fn closes_for_a_cause()
 {}
 
 /// Where a connection is closed for a dead line, no line that reads as a reply came on it for twice the longest deadline by
-/// the clock, behind a moment that was told on it.
+/// the clock, behind a moment that was told on it. Since that moment no request went out, or one went out at once, so that its reply
+/// had all that time; or the clock went back to that moment.
 pub fn closes_a_dead_line_behind_no_reply()
     ensures { (plan : Plan) (commands : List Task) (scope : Scope) (acts : List Act) → Runs plan commands (opening plan scope) acts
         → action_at plan (stood plan commands scope acts) ≡ Close cause.Dead → IsMuteFor (patience_of plan) plan commands scope acts }
@@ -82,7 +83,7 @@ pub fn each_send_goes_on()
 
 /// A command of a chain that isn't its first goes out only behind the answer of the one before it, of the same cycle: that one went
 /// out, no connection was closed since, and its record is the last one, of a line that came in time with the id of that very
-/// request, with both codes 0 and values that read. Where each command's end is written down is `each_command_once`.
+/// request, with both codes 0 and values that read. That each command's end is written down, is `each_command_once`.
 pub fn each_chain_is_kept()
     ensures { (plan : Plan) (commands : List Task) (scope : Scope) (acts : List Act) → Runs plan commands (opening plan scope) acts
         → action_at plan (stood plan commands scope acts) ≡ Send → IsChained commands (stood plan commands scope acts) → IsLinked plan commands scope acts }
@@ -105,8 +106,8 @@ pub fn late_ones_came_late()
 {}
 
 /// Each lost record has a cause: its own request, of the same cycle and place, was put, and the act at which the record was written
-/// is one of three. It brought a line with the id of a later request that waited; or it read the clock while seven requests waited,
-/// all given up, and the station begins anew there; or it is the last act of the run, which stops there.
+/// is one of three. That act brought a line with the id of a later request that waited; or it read the clock while seven requests
+/// waited, all given up, and the station begins anew there; or it is the last act of the run, which stops there.
 pub fn lost_ones_are_lost_for_a_cause()
     ensures { (plan : Plan) (commands : List Task) (scope : Scope) (acts : List Act)
         → Runs plan commands (opening plan scope) acts → AllByRecursion (IsTrulyLost plan commands scope acts) (stood plan commands scope acts).records }
@@ -159,13 +160,13 @@ pub fn no_command_goes_out_before_the_last_answer()
 
 /// A run begins with eight null procedures, with ids 6, 5, 4, 3, 2, 1, 0 and 7. While it begins nothing waits, what goes out is the null
 /// procedure of the first of these ids that wasn't answered, and the next one is asked for where a reply with that id came, over closes
-/// too. It begins anew only where seven wait that are all given up.
+/// too. A run begins anew only where seven requests wait that are all given up.
 pub fn each_beginning_goes_on_by_its_answers()
     ensures { (plan : Plan) (commands : List Task) (scope : Scope) (acts : List Act) (act : Act)
         → Runs plan commands (opening plan scope) (acts ++ act ∷ []) → BeginsSo plan commands scope acts act }
 {}
 
-/// What is written down stays so.
+/// The records behind some acts of a run stay, in order and in front of the records of the acts that follow.
 pub fn records_stay()
     ensures { RecordsStay }
 {}
@@ -188,17 +189,18 @@ pub fn answered_well_is_both_codes_zero()
 {}
 
 /// Whatever the line, the instrument or a hand at it did: a record that is answered, of a command whose target stands somewhere, and that has
-/// a direction, is near it. One that is elsewhere has both codes 0, and a direction that isn't.
+/// a direction, is near it. One that is elsewhere has both codes 0, and a direction that isn't near it.
 pub fn answers_are_at_their_targets()
     ensures { AnswersAreAtTheirTargets }
 {}
 
-/// Each count of a tally is that of the records that ended so, up to 2^64 - 1.
+/// Each count of a tally is the number of the records that ended in its way, up to 2^64 - 1.
 pub fn tallies_count_the_records()
     ensures { TalliesCountRecords }
 {}
 
-/// Where a request goes out, fewer are under way than the plan's width, or none is; and fewer than seven wait in all.
+/// Where a command goes out, or a null procedure behind commands that are all given up, fewer requests are under way than the plan's
+/// width, or none is; and fewer than seven wait in all.
 pub fn each_request_has_room()
     ensures { RequestsHaveRoom }
 {}
@@ -209,21 +211,24 @@ pub fn cycles_begin_when_due()
     ensures { CyclesBeginWhenDue }
 {}
 
-/// Where a command goes out, its cycle began before the next one was due: nothing of a missed cycle is sent.
+/// Where the plan's `every` is above 0 and the clock doesn't go back: where a command goes out, its cycle began before the next one was
+/// due. So nothing of a missed cycle is sent.
 pub fn missed_cycles_are_not_sent()
     ensures { SentOnlyInTime }
 {}
 
-/// Each record of a missed or skipped command is justified, and the command wasn't sent. Missed: its cycle began when the next one was
-/// due, or later, and the record has the moment at which its cycle was due. Skipped: its cycle wasn't missed, it isn't the first of its
-/// chain, and the one before it wasn't answered well, or since that went out a connection was closed or the station began anew.
+/// Where the plan's `every` is above 0 and the clock doesn't go back, each record of a missed or skipped command is justified, and has no
+/// moment of sending. Missed: its cycle began when the next one was due, or later, and the record has the moment at which its cycle was
+/// due. Skipped: its cycle wasn't missed, it isn't the first of its chain, and the one before it wasn't answered well, or since that went
+/// out a connection was closed or the station began anew.
 pub fn unsent_ones_are_so_for_a_cause()
     ensures { UnsentForACause }
 {}
 
 /// How failures in a row are counted. Each takes one try, and one without a try left ends the run. The pause after the first is the
 /// quiet time, and after each further one twice the pause before it, up to a minute and never below the quiet time. A read that
-/// settles a command gives all tries back and resets the pause. Nothing else changes the tries or the pause.
+/// settles a command gives all tries back and makes the pause 0; bytes that settle none change neither. A close while no connection is
+/// wanted takes no try, and makes a pause of 0 the quiet time. No act but an opening, a read or a close changes the tries or the pause.
 pub fn tries_and_pauses_are_counted()
     ensures { TriesAndPausesAreCounted }
 {}

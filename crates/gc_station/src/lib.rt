@@ -3,6 +3,7 @@
 
 mod book;
 mod cause;
+mod kept;
 pub mod laws;
 mod mark;
 mod pace;
@@ -16,6 +17,7 @@ mod writing;
 
 pub use book::{Book, LinkHealth};
 pub use cause::Cause;
+pub use kept::Kept;
 pub use plan::Plan;
 pub use run::run_station;
 pub use tally::Tally;

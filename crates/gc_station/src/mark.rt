@@ -12,7 +12,7 @@ pub(crate) struct Mark {
     pub cycle: u64,
     /// The command's place among the commands of a cycle, counted from 0.
     pub place: usize,
-    /// The moment that was told last before it was sent, in milliseconds since 1970-01-01, UTC.
+    /// The last moment that the link told before the command was sent, in milliseconds since 1970-01-01, UTC.
     pub sent: u64,
     /// Where the command's target stands, where the text says so.
     pub near: Option<Near>,

@@ -1,5 +1,5 @@
-//! Pace: how long a read waits, and when a cycle is told that isn't done in time. No record, and nothing that goes out, rests on
-//! it.
+//! Pace: how long a read waits, and which cycle is reported as overrun, because it wasn't done in time. No record, and nothing that
+//! goes out, rests on either.
 
 ghost use Rattle.std.specs.Prelude.{◌≡◌, ℕ, Option};
 ghost use Rattle.std.specs.Option.{option_to_list};
@@ -14,7 +14,7 @@ use crate::progressing::later;
 use crate::station::Station;
 
 impl Progress {
-    // The moment from which on the line counts as dead.
+    // The moment from which on the line counts as dead, if no reply line comes until then.
     fn dead_at(&self, plan: &Plan) -> u64
         ensures { result ≡ dead_at plan.now self.now }
     {
@@ -41,7 +41,7 @@ impl Progress {
         }
     }
 
-    // When a read in this phase ends at the latest if nothing comes, leaving out the deadlines of the requests that wait.
+    // The moment at which a read in this phase ends if nothing comes, leaving out the deadlines of the requests that wait.
     fn ends(&self, plan: &Plan) -> u64
         ensures { result ≡ ends_in self.now.phase plan.now self.now }
     {
@@ -58,7 +58,7 @@ impl Progress {
         }
     }
 
-    // As `ends`; but a read that only waits for the next cycle (`Until::Due`) ends when that is due.
+    // As `ends`, except that a read that only waits for the next cycle (`Until::Due`) ends when that cycle is due.
     fn ends_without_deadline(&self, plan: &Plan, until: Until) -> u64
         ensures { result ≡ ends_without_deadline plan.now self.now until }
     {
@@ -68,7 +68,7 @@ impl Progress {
         }
     }
 
-    // When a read ends at the latest if nothing comes: at `ends_without_deadline`, or at the next deadline of a request if that is
+    // The moment at which a read ends if nothing comes: `ends_without_deadline`, or the next deadline of a request if that is
     // earlier.
     fn ends_at(&self, plan: &Plan, until: Until, deadline: Option<u64>) -> u64
         ensures { result ≡ ends_at plan.now self.now until deadline }
@@ -79,15 +79,15 @@ impl Progress {
         }
     }
 
-    // The number of the cycle that began last.
+    // The number of the cycle that began last, counted from 1; 0 before the first.
     fn cycle(&self, plan: &Plan) -> u64
         ensures { result ≡ cycle_of plan.now self.now }
     {
         plan.cycles.saturating_sub(self.left)
     }
 
-    // The number of the current cycle, where it wasn't done when the next was due and that wasn't told yet: `told` is the last cycle
-    // of which it was.
+    // The number of the cycle that began last, if it has overrun and that wasn't reported yet: it isn't missed, and it wasn't done
+    // when the next one was due. `told` is the last cycle that was reported.
     fn overrun(&self, plan: &Plan, told: u64) -> Option<u64>
         ensures { result ≡ overrun plan.now self.now told }
     {
@@ -105,7 +105,7 @@ impl Progress {
 }
 
 impl Station {
-    // How many milliseconds to wait for bytes.
+    // How many milliseconds the next read waits for bytes: until `ends_at`, but at least 1 and at most a minute.
     pub(crate) fn patience(&self, plan: &Plan, until: Until) -> u64
         ensures { (deadline : Option ℕ) × IsEarliest (deadlines self.now.client.ids.waiting) deadline
             × (result ≡ patience plan.now self.now.progress until deadline) }
@@ -118,7 +118,7 @@ impl Station {
             .min(60_000)
     }
 
-    // The health of the link, as a book is told it before each act.
+    // The health of the link, which a book takes note of before each act.
     fn health(&self, plan: &Plan) -> LinkHealth {
         match self.progress.phase {
             Phase::Down | Phase::Pausing if self.progress.is_idle(plan) => LinkHealth::Idle,
@@ -135,8 +135,8 @@ impl Station {
         self.progress.unsent == 0 && self.commands() == 0
     }
 
-    // Tells a book the health of the link and, once for each cycle, that the current cycle wasn't done when the next was due.
-    // Returns the last cycle of which that was told.
+    // Reports to a book the health of the link and, once for each cycle, that the cycle wasn't done when the next was due. `told` is
+    // the last cycle that was reported before. Returns the last one that was reported by then.
     pub(crate) fn tell_overrun<B: Book>(&self, book: &mut B, plan: &Plan, told: u64) -> u64
         ensures told { result ≡ told_then told (overrun plan.now self.now.progress told) }
         ensures tells { Appends (B.overruns book.old) (B.overruns book.new) (option_to_list (overrun plan.now self.now.progress told)) }

@@ -3,21 +3,21 @@
 /// What an operator chooses. Times are in milliseconds.
 #[derive(Clone, Copy, Debug, PartialEq, Eq)]
 pub struct Plan {
-    /// How many requests may be under way that aren't given up: 1 to 7. Below and above, the nearest of these.
+    /// How many requests that aren't given up may be under way: 1 to 7. A number outside counts as the nearest of these.
     pub width: u8,
-    /// The longest time that a request waits before it is given up. A null procedure waits so long, and a command as its task has
-    /// it. A null procedure of a beginning goes out again then. A line is dead after twice as long without a reply line.
+    /// The longest time that a request waits before it is given up. A null procedure waits so long, and a command as long as its
+    /// task says. A null procedure of a beginning goes out again after it. A line is dead after twice as long without a reply line.
     pub deadline: u64,
     /// How far apart the cycles are due, counted from when the first one begins. 0: each begins when the one before it is done.
-    /// One that can't begin before the next is due is missed.
+    /// A cycle that can't begin before the next is due is missed.
     pub every: u64,
     /// How many cycles are measured or missed.
     pub cycles: u64,
-    /// How long it pauses before it connects again, twice as long at each further failure, up to a minute; and how long nothing
-    /// may come on a new connection within a run before a command goes out on it. A beginning waits for neither.
+    /// How long the station pauses before it connects again, twice as long at each further failure, up to a minute; and how long
+    /// nothing may come on a new connection before a command goes out on it. A beginning doesn't wait for such a quiet connection.
     pub quiet: u64,
-    /// How many times in a row it connects anew without a reply that settles a command's request. A connection that ends
-    /// once a cycle is done and before the next is due takes none, and the next is made when that cycle is due; one that
-    /// can't be made always takes one.
+    /// How many tries the station has to connect anew before the run ends. A reply that settles a command gives all of them back. A
+    /// connection that ends once a cycle is done and before the next is due takes no try, and the next connection is made when that
+    /// cycle is due. An attempt that failed always takes one.
     pub retries: u32,
 }

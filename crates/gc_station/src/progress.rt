@@ -1,29 +1,30 @@
 //! Progress: how far a station is, and what it does next. All decisions are made here, by looking at nothing else.
 //!
-//! The table has the actions that may come in each phase, the first that fits, and the phase behind each. In all phases but `Closing` and
-//! `Over` two come first: where no turn is left, `Close(Turns)`, or without a connection `Stop(Turns)`; and where something was done since a
-//! moment was told (`stale`), `ReadClock`, which gives up what has reached its deadline. It changes no phase.
+//! The table lists the actions that may be next in each phase, of which the first that fits is taken, and the phase behind each. In all
+//! phases but `Closing` and `Over` two come first: where no turn is left, `Close(Turns)`, or without a connection `Stop(Turns)`; and where
+//! something went out, or a connection was closed or couldn't be made, since a moment was told (`stale`), `ReadClock`, which gives up the
+//! requests whose deadline has come, and changes no phase.
 //!
-//! | Phase | Where | Action | It | Next phase |
+//! | Phase | Where | Action | What the action does | Next phase |
 //! |---|---|---|---|---|
 //! | `Down` | | `Open` | makes a connection | `Clearing`; where none could be made, as behind `Close(Open)` |
 //! | `Pausing` | | `Read(Limit)` | waits | `Down`, once the pause is over and a connection is wanted |
-//! | `Clearing` | | `Clear` | sends a lone line feed | `Draining`; `Ready` where it begins |
+//! | `Clearing` | | `Clear` | sends a lone line feed | `Draining`; `Ready` where the station begins |
 //! | `Draining` | | `Read(Limit)` | drops what comes | `Ready`, once nothing came for the quiet time |
-//! | `Ready`: it begins | no command is unsent, and no cycle is left | `Close(Done)` | closes the connection | `Over(Done)` |
+//! | `Ready`: the station begins | no command is unsent, and no cycle is left | `Close(Done)` | closes the connection | `Over(Done)` |
 //! | | the cycle is done, and the next isn't due | `Read(Due)` | hears what comes | `Ready` |
 //! | | the line is dead | `Close(Dead)` | closes the connection | as below |
-//! | | the null procedure of the first id that isn't answered is to go out, for the first time or since its deadline passed | `Ask` | sends it | `Ready` |
-//! | | else | `Read(Limit)` | hears what comes | `Ready`; it has begun once the eighth is answered |
-//! | `Ready`: it has begun | a command is unsent, and not `next_is_chained` | with room `Send`, else as where it waits | sends the next command | `Ready` |
-//! | | commands wait, and all that waits is given up | with room `Flush`, else as where it waits | sends a null procedure behind them | `Ready` |
-//! | | commands wait, and something isn't given up | as where it waits | | |
-//! | | no command waits, one is unsent, and may go | with room `Send`, else as where it waits | sends the next command | `Ready` |
+//! | | the null procedure of the first id that isn't answered is to go out, for the first time or again at its deadline | `Ask` | sends it | `Ready` |
+//! | | else | `Read(Limit)` | hears what comes | `Ready`; the station has begun once the eighth is answered |
+//! | `Ready`: the station has begun | a command is unsent, and not `next_is_chained` | with room `Send`, else as where the station waits | sends the next command | `Ready` |
+//! | | commands wait, and all that waits is given up | with room `Flush`, else as where the station waits | sends a null procedure behind them | `Ready` |
+//! | | commands wait, and something isn't given up | as where the station waits | | |
+//! | | no command waits, one is unsent, and may go | with room `Send`, else as where the station waits | sends the next command | `Ready` |
 //! | | no command waits, one is unsent, and may not go | `Skip` | reads the clock, and writes the command down | `Ready` |
 //! | | no command waits or is unsent, and no cycle is left | `Close(Done)` | closes the connection | `Over(Done)` |
 //! | | no command waits or is unsent, and the next cycle is due | `Begin` | reads the clock, and begins the cycle | `Ready` |
 //! | | no command waits or is unsent, and the next cycle isn't due | `Read(Due)` | hears what comes | `Ready` |
-//! | it waits | the line is dead | `Close(Dead)` | closes the connection | as below |
+//! | the station waits | the line is dead | `Close(Dead)` | closes the connection | as below |
 //! | | all that wait are given up | `Renew` | reads the clock, and begins anew: all that wait are lost | the same |
 //! | | else | `Read(Limit)` | hears what comes | the same |
 //! | `Closing` | | `Close` for its cause | closes the connection | for `Done`, `Clock` and `Turns`: `Over` for that cause. Else `Over(Done)` where nothing is left to be sent and no command waits, `Pausing` where a try is left or none is needed, and else `Over` for that cause |
@@ -61,7 +62,7 @@ pub(crate) enum Phase {
     Over(Cause),
 }
 
-/// What a station does next. Each is one call of its link.
+/// What a station does next. Each but `Stop` is one call of its link.
 #[derive(Clone, Copy)]
 pub(crate) enum Action {
     /// To read the clock.
@@ -74,7 +75,7 @@ pub(crate) enum Action {
     Open,
     /// To send a lone line feed.
     Clear,
-    /// To send the null procedure of its beginning that is asked for, for the first time or again.
+    /// To send the null procedure of the first id of the beginning that isn't answered, for the first time or again.
     Ask,
     /// To send the next command.
     Send,
@@ -90,7 +91,7 @@ pub(crate) enum Action {
     Stop(Cause),
 }
 
-/// How long a read lasts at most that brings nothing.
+/// When a read that brings nothing ends.
 #[derive(Clone, Copy)]
 pub(crate) enum Until {
     /// Until something may have to be done: a deadline is reached, a pause or a drain is over, the line is dead, or
@@ -100,39 +101,43 @@ pub(crate) enum Until {
     Due,
 }
 
-/// How many requests wait, and how the command ended that was written down last.
+/// How many requests wait, and whether the command that was written down last was answered well.
 #[derive(Clone, Copy)]
 pub(crate) struct Waiting {
-    /// In all.
+    /// All requests that wait.
     pub all: usize,
-    /// Of these, that aren't given up.
+    /// Those of them that aren't given up.
     pub current: usize,
-    /// Of these, commands of the cycle. The others are null procedures.
+    /// Those of them that are commands of the cycle. The others are null procedures.
     pub commands: usize,
-    /// Whether the command that was written down last was answered well: with both codes 0 and values that read.
+    /// Whether the command that was written down last was answered well, as `is_well` says.
     pub well: bool,
 }
 
 /// How far a station is.
 #[derive(Drop)]
 pub(crate) struct Progress {
-    /// Where it is.
+    /// Where the station is.
     pub phase: Phase,
-    /// Which null procedures of its beginning are answered. Once all are, it has begun.
+    /// Which null procedures of the beginning are answered. Once all are, the station has begun.
     pub word: Beginning,
-    /// The deadline of the null procedure that is asked for, where it went out on this connection: then it goes out again. Else 0.
+    /// The deadline of the null procedure of the first id that isn't answered, where that went out on this connection: then it goes
+    /// out again. Else 0.
     pub again: u64,
-    /// Whether something was done since the moment was told.
+    /// Whether something went out, or a connection was closed or couldn't be made, since `moment` was told.
     pub stale: bool,
-    /// The moment that was told last.
+    /// The last moment that the link told.
     pub moment: Moment,
-    /// The moment behind the last bytes that came or went, or behind the last close or failed connect.
+    /// From when a pause and the quiet time count: the last moment that was told otherwise than behind a read that gave
+    /// nothing, or an earlier one where the clock went back since.
     pub since: u64,
-    /// When the last reply line came, or the first request behind it went out, or else the connection was drained.
+    /// From when a dead line counts: the latest of the moments at which the last reply line came, the first request behind it
+    /// or on this connection went out, and a connection was last drained; an earlier one where the clock went back since.
     pub alive: u64,
-    /// Whether a request went out behind the last reply line.
+    /// Whether a request went out on this connection, and no reply line came since.
     pub asked: bool,
-    /// When the cycle began.
+    /// The moment that counts as the beginning of the cycle: its due moment, or where it has none, as the first, the one at which it
+    /// began.
     pub began: u64,
     /// Whether the cycle was done before the next was due.
     pub early: bool,
@@ -142,28 +147,28 @@ pub(crate) struct Progress {
     pub missed: bool,
     /// How many cycles haven't begun.
     pub left: u64,
-    /// How many commands of the cycle were neither sent nor skipped.
+    /// How many commands of the cycle were neither sent nor passed over.
     pub unsent: usize,
     /// Whether the next of them goes out only once the command before it was answered well.
     pub next_is_chained: bool,
-    /// Whether the command before it went out, and since then no connection was closed and it didn't begin anew.
+    /// Whether the command before it went out, and since then no connection was closed and the station didn't begin anew.
     pub chain_unbroken: bool,
-    /// How many times more it may connect anew.
+    /// How many tries to connect anew are left.
     pub tries: u32,
-    /// How long it pauses, or paused last, before it connects again. 0: a reply settled a command since.
+    /// The length of the current pause, or of the last one. 0: there was none yet, or a reply settled a command since.
     pub pause: u64,
     /// How many turns are left.
     pub turns: u64,
 }
 
-// How many requests may be under way.
+// How many requests that aren't given up may be under way: the plan's width, brought into 1 to 7.
 pub(crate) fn width(plan: &Plan) -> u8
     ensures { result ≡ width_of plan.now }
 {
     plan.width.max(1).min(7)
 }
 
-// How long no reply line has to come before the line is dead.
+// After how long without a reply line the line is dead: twice the longest deadline.
 pub(crate) fn patience_of(plan: &Plan) -> u64
     ensures { result ≡ patience_of plan.now }
 {
@@ -230,14 +235,14 @@ impl Progress {
         }
     }
 
-    // Whether `wait` milliseconds have passed since bytes last came or went, or a connection was closed or couldn't be made.
+    // Whether at least `wait` milliseconds lie between `since` and the last moment that was told.
     pub(crate) fn is_past(&self, wait: u64) -> bool
         ensures { result ≡ is_past wait self.now }
     {
         wait <= self.moment.elapsed.saturating_sub(self.since)
     }
 
-    // Whether the plan's quiet time has passed without an event that `is_past` counts from.
+    // Whether at least the plan's quiet time lies between `since` and the last moment that was told.
     pub(crate) fn is_quiet(&self, plan: &Plan) -> bool
         ensures { result ≡ is_quiet plan.now self.now }
     {
@@ -251,7 +256,8 @@ impl Progress {
         self.word.has_begun()
     }
 
-    // Whether something waits, or the null procedure that is asked for went out, and no reply line came for too long.
+    // Whether the line is dead: a request waits, or a null procedure of the beginning went out on this connection, and no reply line
+    // came for `patience_of`.
     fn is_dead(&self, plan: &Plan, waiting: Waiting) -> bool
         ensures { result ≡ is_dead plan.now self.now waiting }
     {
@@ -259,7 +265,7 @@ impl Progress {
             && patience_of(plan) <= self.moment.elapsed.saturating_sub(self.alive)
     }
 
-    // Whether the next cycle may begin.
+    // Whether the next cycle is due: the first at once, and each other one `every` milliseconds after the one before it began.
     pub(crate) fn is_due(&self, plan: &Plan) -> bool
         ensures { result ≡ is_due plan.now self.now }
     {
@@ -269,7 +275,7 @@ impl Progress {
         plan.every <= self.moment.elapsed.saturating_sub(self.began)
     }
 
-    // Whether more is asked at once: a command of the cycle is left to be sent, or the next cycle is due.
+    // Whether commands are left that needn't wait for a due moment: some of this cycle, or the next cycle is due.
     pub(crate) fn goes_on(&self, plan: &Plan) -> bool
         ensures { result ≡ goes_on plan.now self.now }
     {
@@ -323,15 +329,15 @@ impl Progress {
         }
     }
 
-    // Whether no command of any cycle is left to be sent, and none waits.
+    // Whether no command of any cycle is left to be sent, and none waits: `commands` is how many wait.
     pub(crate) fn is_finished(&self, commands: usize) -> bool
         ensures { result ≡ is_finished commands self.now }
     {
         self.left == 0 && self.unsent == 0 && commands == 0
     }
 
-    // The next action while the station begins: to send the null procedure that is asked for, the first time or since its
-    // deadline passed. Between cycles nothing goes out, nor where nothing is left to be asked behind it.
+    // The next action while the station begins: to send the null procedure of the first id that isn't answered, for the first time
+    // or again at its deadline. Nothing goes out between cycles, nor where no command is left to be sent behind the beginning.
     fn action_beginning(&self, plan: &Plan, waiting: Waiting) -> Action
         ensures { result ≡ action_beginning plan.now self.now waiting }
     {
@@ -394,7 +400,7 @@ impl Progress {
         waiting.well && self.chain_unbroken
     }
 
-    // This action, which sends a request, if there is room for one; else the action of a station that waits.
+    // `action`, which sends a request, if there is room for one; else the action of a station that waits.
     fn action_room(&self, plan: &Plan, waiting: Waiting, action: Action) -> Action
         ensures { result ≡ action_room plan.now self.now waiting action }
     {
@@ -433,7 +439,7 @@ impl Progress {
 }
 
 impl Waiting {
-    // Whether another request may go out: fewer are under way than the plan has it, and fewer wait in all than the window is wide.
+    // Whether another request may go out: fewer are under way than `width` allows, and fewer wait in all than the window has places.
     pub(crate) fn has_room(self, plan: &Plan) -> bool
         ensures { result ≡ has_room plan.now self }
     {

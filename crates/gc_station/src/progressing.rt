@@ -22,7 +22,8 @@ pub(crate) fn later(moment: u64, wait: u64) -> u64
     moment.saturating_add(wait)
 }
 
-// A read until the next cycle is due shows that this one was done before that.
+// Whether the cycle counts as done early behind a read. A read `Until::Due` shows that it was, because only a done cycle has such a
+// read; behind any other read it counts as before (`early`).
 fn early_behind(until: Until, early: bool) -> bool
     ensures { result ≡ early_behind until early }
 {
@@ -42,7 +43,7 @@ fn reads(line: &[u8]) -> bool
     }
 }
 
-// Whether a line was a reply: then the line is alive.
+// Whether the line that the client heard was a reply.
 pub(crate) fn is_reply(hearing: Hearing) -> bool
     ensures { (old new : ById) (line : List ℕ) (settlements : List Settlement) → HearsInto old line hearing settlements new → result ≡ is_reply line }
 {
@@ -54,16 +55,16 @@ pub(crate) fn is_reply(hearing: Hearing) -> bool
 }
 
 impl Progress {
-    // Counts a turn.
+    // Takes one of the turns that are left.
     pub(crate) fn turn(&mut self)
         ensures { self.new ≡ turned self.old }
     {
         self.turns = self.turns.saturating_sub(1);
     }
 
-    // Notes the moment that was read behind bytes that went or came, or behind a connection that was closed or couldn't be
-    // made: the quiet time begins now. Where the clock went back, the cycle is taken to have begun now at the latest, so
-    // that the next one isn't put off, and the line to have been alive now at the latest.
+    // Notes a moment that the link told, unless it is that of a read that gave nothing: the quiet time begins now. Where the
+    // clock went back, the cycle is taken to have begun now at the latest, so that the next one isn't put off, and the line to
+    // have been alive now at the latest.
     pub(crate) fn tell(&mut self, moment: Moment)
         ensures { self.new ≡ told moment self.old }
     {
@@ -86,7 +87,7 @@ impl Progress {
         }
     }
 
-    // Whether a cycle that would begin at this moment is missed: the one behind it is due by now.
+    // Whether a cycle that would begin at this moment is missed: the one behind it is due by then.
     fn is_missing(&self, plan: &Plan, moment: Moment) -> bool
         ensures { result ≡ is_missing plan.now moment self.now }
     {
@@ -102,7 +103,7 @@ impl Progress {
         moment.utc.saturating_sub(late)
     }
 
-    // Begins a cycle of `commands` commands at this moment. Where the cycle is missed, none of them goes out.
+    // Begins a cycle of `count` commands at this moment. Where the cycle is missed, none of them goes out.
     pub(crate) fn begin(&mut self, plan: &Plan, count: usize, moment: Moment)
         ensures { self.new ≡ begun plan.now count moment self.old }
     {
@@ -120,8 +121,8 @@ impl Progress {
         self.chain_unbroken = false;
     }
 
-    // The moment in the record of a command that isn't sent: where its cycle is missed, the moment at which that was due;
-    // else this moment.
+    // The moment in the record of a command that isn't sent: where its cycle is missed, the moment at which the cycle was due;
+    // else `moment`.
     pub(crate) fn skipped_at(&self, moment: Moment) -> u64
         ensures { result ≡ skipped_at moment self.now }
     {
@@ -139,7 +140,7 @@ impl Progress {
         self.chain_unbroken = false;
     }
 
-    // Notes why the run can't go on: its connection is to be closed, and without a connection the run is over.
+    // Notes the cause of a failure: a connection is to be closed for it next, and without a connection the run is over for it.
     pub(crate) fn fail(&mut self, cause: Cause)
         ensures { self.new ≡ failing cause self.old }
     {
@@ -189,8 +190,8 @@ impl Progress {
         }
     }
 
-    // The length of the next pause: the quiet time behind a first failure, and behind each further one twice the last pause,
-    // up to a minute and never below the quiet time. Where no connection is wanted the last pause stays.
+    // The length of the next pause: the quiet time behind a first failure, and behind each further one twice the last pause, up
+    // to a minute. Where no connection is wanted it is the last pause. It is never below the quiet time.
     fn pause_again(&self, plan: &Plan, cause: Cause) -> u64
         ensures { result ≡ pause_again plan.now cause self.now }
     {
@@ -201,7 +202,8 @@ impl Progress {
         }
     }
 
-    // Notes that a connection was closed, or couldn't be made: the next attempt takes a try, unless it is spared.
+    // Notes that a connection was closed, or couldn't be made: the phase is `phase_again`, the pause `pause_again`, and a try
+    // is taken unless the next attempt is spared.
     pub(crate) fn try_again(&mut self, plan: &Plan, commands: usize, cause: Cause)
         ensures { self.new ≡ again plan.now commands cause self.old }
     {
@@ -229,7 +231,7 @@ impl Progress {
         self.stale = true;
     }
 
-    // Notes that a request went out. The time of a dead line begins with the first one behind a reply line.
+    // Notes that a request went out. The time after which the line is dead begins with the first one behind a reply line.
     pub(crate) fn ask(&mut self)
         ensures { self.new ≡ asking self.old }
     {
@@ -240,7 +242,7 @@ impl Progress {
         self.stale = true;
     }
 
-    // Notes that the null procedure that is asked for went out: it goes out again at its deadline.
+    // Notes that the null procedure of the first id that isn't answered went out: it goes out again at its deadline.
     pub(crate) fn ask_null(&mut self, plan: &Plan)
         ensures { self.new ≡ null_sent plan.now self.old }
     {
@@ -248,8 +250,8 @@ impl Progress {
         self.again = later(self.moment.elapsed, plan.deadline);
     }
 
-    // Begins anew at this moment. Where nothing more is asked before the next cycle is due, the time of a dead line begins
-    // with the first null procedure.
+    // Notes that the station begins anew at this moment. Where nothing goes out before the next cycle is due, the time after which
+    // the line is dead begins with the first null procedure.
     pub(crate) fn renew(&mut self, plan: &Plan, moment: Moment)
         ensures { self.new ≡ renewed plan.now moment self.old }
     {
@@ -260,7 +262,7 @@ impl Progress {
         self.chain_unbroken = false;
     }
 
-    // Hears a line while the station begins. Where it answers, the next null procedure goes out at once.
+    // Hears a line while the station begins. Where it answers the first null procedure that is left, the next one goes out at once.
     pub(crate) fn hear(&mut self, line: &[u8])
         requires { length line.now ≤ 512 }
         ensures { self.new ≡ line_asked self.old line.now }
@@ -313,7 +315,7 @@ impl Progress {
         }
     }
 
-    // Ends the draining of a connection that was quiet for long enough: requests go out at once.
+    // Ends the draining of a connection that was quiet for long enough: requests may go out.
     fn end_drain(&mut self)
         ensures { self.new ≡ drained self.old }
     {
@@ -322,7 +324,7 @@ impl Progress {
         self.asked = false;
     }
 
-    // Ends a pause, or a draining, in which nothing came for long enough.
+    // Ends a pause that was long enough, where a connection is wanted, or a draining in which nothing came for the quiet time.
     fn quiet(&mut self, plan: &Plan)
         ensures { self.new ≡ quieted plan.now self.old.phase self.old }
     {
@@ -350,7 +352,7 @@ impl Progress {
         self.early = early_behind(until, self.early);
     }
 
-    // Notes that a read gave nothing until this moment.
+    // Notes that a read gave nothing until this moment, which may end a pause or a draining.
     pub(crate) fn be_silent(&mut self, plan: &Plan, until: Until, moment: Moment)
         ensures { self.new ≡ silent plan.now until moment self.old }
     {
@@ -366,7 +368,8 @@ impl Progress {
         self.early = self.early || (commands == 0 && self.unsent == 0 && !self.is_due(plan));
     }
 
-    // Notes that the connection was closed: for `Done`, `Clock` and `Turns` no other one is made.
+    // Notes that the connection was closed: for `Done`, `Clock` and `Turns` the run is over, and for any other cause goes on as
+    // `try_again` says.
     pub(crate) fn close(&mut self, plan: &Plan, waiting: Waiting, cause: Cause)
         ensures { self.new ≡ closed plan.now waiting cause self.old }
     {

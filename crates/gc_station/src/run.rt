@@ -4,11 +4,13 @@ ghost use Rattle.std.specs.Prelude.{◌≡◌, true, ℕ, List, OnOk};
 ghost use Rattle.gc_catalogue.specs.declared.answer.Reading.{Reading};
 ghost use Rattle.gc_catalogue.specs.declared.call.Call.{Call};
 ghost use Rattle.gc_lines.specs.Ports.{FailsWith};
+ghost use Rattle.gc_station.specs.Keeping.{KeepsUp, closing, closing_at};
 ghost use Rattle.gc_station.specs.Runs.{EndsAs, Ran, FailsAtOutput, LastsBut};
 ghost use Rattle.gc_station.specs.Scopes.{AreReadings, ForReadings};
 
 use crate::book::Book;
 use crate::cause::Cause;
+use crate::kept::Kept;
 use crate::plan::Plan;
 use crate::progress::Action;
 use crate::station::Station;
@@ -17,25 +19,30 @@ use gc_lines::PortFailed;
 use gc_links::Link;
 use gc_texts::{RunFault, Task};
 
-// Runs a station, and says for which cause it stopped. `Err`: the book failed.
+// Runs a station until no act is next. Returns why it stopped, and how many commands ended how. `Err`: the book failed, and the
+// link was closed.
 pub(crate) fn run<L: Link, B: Book>(
     link: &mut L,
     book: &mut B,
     commands: &[Task],
     plan: &Plan,
     max_turns: u64,
+    kept: &mut Kept,
 ) -> Result<(Cause, Tally), PortFailed>
     ensures ran { (reads : Call → List ℕ → Reading) → AreReadings reads
         → EndsAs plan.now commands.now (record { turns = max_turns; reads = reads }) (B.text book.old) (L.acts link.old) (L.acts link.new) (B.taken book.old) (B.taken book.new) result }
+    ensures keeps { (reads : Call → List ℕ → Reading) → AreReadings reads
+        → KeepsUp plan.now commands.now (record { turns = max_turns; reads = reads }) (B.text book.old) (L.acts link.old) (L.acts link.new) (B.taken book.old) kept.old.turns kept.new.turns (closing result) }
     ensures is_durable { OnOk result (B.is_durable book.new ≡ true) }
     ensures fails { FailsWith result (B.failed book.old) (B.failed book.new) }
     ensures form { B.text book.new ≡ B.text book.old }
 {
     let mut station = Station::new(plan, max_turns);
-    // The last cycle of which it was told that it wasn't done when the next was due.
+    // The last cycle whose overrun was reported to the book; 0 where none was.
     let mut told = 0;
     loop {
-        // No act is made while a record may be lost with the program, or the machine, that was meant to outlast it.
+        // No act is made before all records last: through a crash of the program, or of the machine, as far as the book is meant for
+        // that.
         if let Err(unsynced) = book.sync() {
             link.close();
             return Err(unsynced);
@@ -45,6 +52,7 @@ pub(crate) fn run<L: Link, B: Book>(
             return Ok((cause, station.tally));
         }
         told = station.tell_overrun(book, plan, told);
+        *kept = kept.and(link, book);
         if let Err(failed) = station.step(link, book, plan, commands, action) {
             link.close();
             return Err(failed);
@@ -52,54 +60,62 @@ pub(crate) fn run<L: Link, B: Book>(
     }
 }
 
-/// Sends the commands over a link, in cycles, as the plan has it, and writes into a book how each request ended.
+/// Sends the commands over a link, in cycles, by the plan, and writes into a book how each command ended.
 ///
-/// What it does next is a function of what the link told: `action_at`. It connects, sends a lone line feed, and begins: eight null
-/// procedures go out one after the other, with ids 6, 5, 4, 3, 2, 1, 0 and 7. One that isn't answered by its deadline goes out again
-/// with its id, also on the next connection; a reply with that id answers it, whatever it says, and all else is dropped. Behind the
-/// eighth answer the client is new, with next id 0, and the commands of a cycle go out, each once, while fewer are under way than the plan
-/// has it, and fewer than seven wait in all. A moment gives up what has reached its deadline before the bytes that came
-/// before that moment are heard. What is given up keeps its id and no longer holds up the others: its own reply settles it
-/// as late, and the reply to a later request as lost. Where all commands of the cycle were sent, and all that wait are given
-/// up, a null procedure goes out behind them, so that its reply settles them; it is in no record. A command is never sent
-/// again in its cycle.
+/// What a station does next is a function of what its link told: `action_at`. It connects, sends a lone line feed, and begins: eight
+/// null procedures go out one after the other, with ids 6, 5, 4, 3, 2, 1, 0 and 7. One that isn't answered by its deadline goes out
+/// again with the same id, also on the next connection. Any reply with that id answers it; all other bytes are dropped. Behind the
+/// eighth answer the client is new, with next id 0. Then the commands of a cycle go out, each once, while fewer requests are under
+/// way than the plan's width, and fewer than seven wait in all. Each moment gives up the requests whose deadline has come, before the
+/// bytes that came with it are heard. A request that is given up keeps its id and no longer holds up the others: its own reply
+/// settles it as late, and the reply to a later request as lost. Where no command may go out before those that wait are settled, and
+/// all that wait are given up, a null procedure goes out behind them. Its reply settles them; it is in no record. A command is never
+/// sent again in its cycle.
 ///
-/// A connection that failed, ended or is dead is closed, and what waits goes on waiting on the next one, with ids that go on.
-/// Before that it pauses: for the quiet time, at each further failure twice as long, up to a minute. Once a cycle is done it
-/// connects again only when the next is due. Each connection is cleared by a line feed, and what comes on it is dropped until nothing
-/// came for the quiet time, unless a beginning goes on with it. It begins anew where seven wait that are all given up: then all that
-/// wait are lost, and the null procedures go out on the same connection. A beginning that was cut goes on with the next connection.
+/// A connection that failed, ended or is dead is closed. The requests that wait go on waiting on the next connection, and the ids go
+/// on. Before each new attempt to connect the station pauses: for the quiet time, at each further failure twice as long, up to a
+/// minute. Once a cycle is done it connects again only when the next is due. Each connection is cleared by a line feed. Unless a
+/// beginning goes on with it, bytes on it are then dropped until none came for the quiet time. The station begins anew where seven
+/// requests wait that are all given up: all of them are lost, and the null procedures go out on the same connection. A beginning
+/// whose connection was lost goes on with the next one.
 ///
-/// `Ok`: each command of each cycle is settled, and the tally counts how. Where the clock can't be read it is over, and where
-/// no try is left: `Clock` comes where the clock can't be read, `Read` where a read failed, `Mute` where the line was
-/// dead, `Write` where a write was cut, with the cycle's requests that had gone out (0 before the first cycle),
-/// `LinkClosed` where the other end closed the connection, and `Socket` where no connection could be made. `TooManyReads`
-/// comes where `max_turns` acts were made; a connection that stands then is closed by one more. In all of these the
-/// connection is closed, and what waited is written as lost. `Output` comes where the book failed at a record of the last
-/// act: it has all records of the acts before, and of that act's those in front of the one that failed, whole, and a first
-/// part of that one; or where the records couldn't be made to last, and then it has all of them. Nothing is sent afterwards:
-/// the link is closed, and what waits isn't written.
+/// `Ok`: each command of each cycle is settled, and the tally counts how. The run fails with `Clock` as soon as the clock can't be
+/// read; and, once no try is left, with `Read` where a read failed, `Mute` where the line was dead, `Write` where a write was cut
+/// (with the number of the cycle's commands before it, 0 before the first cycle), `LinkClosed` where the other end closed the
+/// connection, and `Socket` where no connection could be made. It fails with `TooManyReads` where `max_turns` acts were made; a
+/// connection that is open then is closed by one act more. In all of these cases the connection is closed, and the commands that
+/// waited are written as lost. The run fails with `Output` where the book failed. Where it failed at a record of the last act, it has
+/// all records of the acts before, those of the last act in front of that record, and a first part of that record. Where the records
+/// couldn't be made to last, it has all of them. Then nothing more is sent: the link is closed, and the commands that wait aren't
+/// written.
 ///
-/// Before each act the records of all acts before it last as far as the book is meant for that.
+/// Before each act all records of the acts before outlast what the book is meant to outlast. What is seen of the link and the book then
+/// is noted in `kept`.
 pub fn run_station<L: Link, B: Book>(
     link: &mut L,
     book: &mut B,
     commands: &[Task],
     plan: &Plan,
     max_turns: u64,
+    kept: &mut Kept,
 ) -> Result<Tally, RunFault>
-    // What the link told, what the book took, and why it ended, for whatever function says what each reply says of its call, and for
-    // one that there is.
+    // What the link told, what the book took and how the run ended are as the model has them, for whatever function says what
+    // each reply says of its call; and there is such a function.
     ensures ran { ForReadings (λ reads.
         Ran plan.now commands.now (record { turns = max_turns; reads = reads }) (B.text book.old) (L.acts link.old) (L.acts link.new) (B.taken book.old) (B.taken book.new) result) }
 
-    // At each end but that of the book all records last.
+    // At each act what the acts before it settled is in the book, and lasts. Where the book failed one act is made all the same: the
+    // connection is closed.
+    ensures keeps { ForReadings (λ reads.
+        KeepsUp plan.now commands.now (record { turns = max_turns; reads = reads }) (B.text book.old) (L.acts link.old) (L.acts link.new) (B.taken book.old) kept.old.turns kept.new.turns (closing_at result)) }
+
+    // Unless the book failed, all records last at the end.
     ensures is_durable { LastsBut (B.is_durable book.new) result }
 
-    // The book failed exactly where that is the fault.
+    // Where the fault is `Output` the book has failed; else whether it has failed is as before.
     ensures output { FailsAtOutput (B.failed book.old) (B.failed book.new) result }
 {
-    match run(link, book, commands, plan, max_turns) {
+    match run(link, book, commands, plan, max_turns, kept) {
         Ok((cause, tally)) => match cause.fault() {
             None => Ok(tally),
             Some(fault) => Err(fault),

@@ -54,7 +54,7 @@ pub(crate) struct Station {
     pub(crate) tally: Tally,
     // Whether the command that was written down last was answered well.
     pub(crate) well: bool,
-    // What was settled last.
+    // The settlements of the last line or restart, which `write` writes down.
     pub(crate) settled: ArrayVec<Settlement, WINDOW>,
 }
 
@@ -74,7 +74,7 @@ impl Station {
         }
     }
 
-    // How many requests wait.
+    // How many requests wait, and whether the command that was written down last was answered well.
     fn waiting(&self) -> Waiting
         ensures { result ≡ waiting_in self.now }
     {
@@ -93,7 +93,7 @@ impl Station {
         commands_in(self.marks.as_slice())
     }
 
-    // What is next.
+    // The next action.
     pub(crate) fn action(&self, plan: &Plan) -> Action
         ensures action { (s : Model) → Refines self.now s → AreReadings s.reads → result ≡ action_at plan.now s }
         ensures room { IsFitting self.now.progress (length self.now.client.ids.waiting) result }
@@ -102,7 +102,7 @@ impl Station {
         self.progress.action(plan, self.waiting())
     }
 
-    // How many commands of the cycle were sent.
+    // The place of the next command, counted from 0: how many commands of the cycle were sent or passed over.
     fn place(&self, commands: &[Task]) -> usize
         ensures { result ≡ place_next commands.now self.now.progress }
     {
@@ -131,14 +131,15 @@ impl Station {
         }
     }
 
-    // Whether the command behind the next one goes out only once that was answered well.
+    // Whether the command behind the next one goes out only once the next one was answered well. In a missed cycle, where none
+    // goes out, this holds of each command.
     fn is_chained_behind_next(&self, commands: &[Task]) -> bool
         ensures { result ≡ is_chained_behind_next commands.now self.now.progress }
     {
         self.progress.missed || is_chained(commands, self.place(commands).saturating_add(1))
     }
 
-    // How many requests of the cycle went out: none before the first cycle.
+    // How many commands of the cycle were sent or passed over: 0 before the first cycle. The fault of a cut write has this number.
     fn requests_out(&self, plan: &Plan, commands: &[Task]) -> usize
         ensures { result ≡ requests_out plan.now commands.now self.now.progress }
     {
@@ -148,7 +149,8 @@ impl Station {
         self.place(commands)
     }
 
-    // Reads the clock.
+    // Reads the clock, and gives up the requests whose deadline has come. Where the clock can't be read, that is noted as the
+    // cause to close for.
     fn read_clock<L: Link>(&mut self, link: &mut L, plan: &Plan)
         ensures { (commands : List Task) (text : Record → List ℕ) (known : Option (List ℕ))
             → Does plan.now commands ReadClock (seen (L.acts link.old) text known self.old) (seen (L.acts link.new) text known self.new) }
@@ -164,7 +166,8 @@ impl Station {
         }
     }
 
-    // Reads the clock, and begins anew.
+    // Reads the clock, and begins anew: `end` writes down as lost what waits. A clock that can't be read is noted, as by
+    // `read_clock`.
     fn renew<L: Link>(&mut self, link: &mut L, plan: &Plan)
         ensures { (commands : List Task) (text : Record → List ℕ) (known : Option (List ℕ))
             → Does plan.now commands Renew (seen (L.acts link.old) text known self.old) (seen (L.acts link.new) text known self.new) }
@@ -179,7 +182,7 @@ impl Station {
         }
     }
 
-    // Reads the clock, and begins a cycle.
+    // Reads the clock, and begins a cycle. A clock that can't be read is noted, as by `read_clock`.
     fn begin<L: Link>(&mut self, link: &mut L, plan: &Plan, commands: &[Task])
         ensures { (text : Record → List ℕ) (known : Option (List ℕ))
             → Does plan.now commands.now Begin (seen (L.acts link.old) text known self.old) (seen (L.acts link.new) text known self.new) }
@@ -193,7 +196,7 @@ impl Station {
         }
     }
 
-    // Makes a connection.
+    // Makes a connection, or notes that none could be made.
     fn open<L: Link>(&mut self, link: &mut L, plan: &Plan)
         ensures { (commands : List Task) (text : Record → List ℕ) (known : Option (List ℕ))
             → Does plan.now commands Open (seen (L.acts link.old) text known self.old) (seen (L.acts link.new) text known self.new) }
@@ -205,7 +208,8 @@ impl Station {
         }
     }
 
-    // Reads the clock, and writes the next command down without sending it.
+    // Reads the clock, and writes the next command down without sending it. A clock that can't be read is noted, as by
+    // `read_clock`, and nothing is written. `Err`: the book failed.
     fn skip<L: Link, B: Book>(
         &mut self,
         link: &mut L,
@@ -278,7 +282,7 @@ impl Station {
         Ok(())
     }
 
-    // Writes the records of what was settled, and takes out the marks of the requests that those settle, the oldest first.
+    // Writes the records of `settled`, and takes out the marks of the requests that were settled, the oldest first.
     fn write<B: Book>(&mut self, book: &mut B) -> Result<(), PortFailed>
         requires { All (λ s. IsWellRead s.call s.outcome) self.old.settled.items }
         ensures wrote { WritesNews (B.text book.old) (B.taken book.old) (B.taken book.new) (λ reads. records_of reads self.old.progress.moment.utc self.old.marks.items (map settlement_seen self.old.settled.items)) result }
@@ -305,7 +309,7 @@ impl Station {
         )
     }
 
-    // Closes the connection. What waits goes on waiting.
+    // Closes the connection, and drops half a line that came on it. Requests that wait go on waiting.
     fn close<L: Link>(&mut self, link: &mut L, plan: &Plan, cause: Cause)
         ensures { (commands : List Task) (text : Record → List ℕ) (known : Option (List ℕ))
             → Does plan.now commands (Close cause) (seen (L.acts link.old) text known self.old) (seen (L.acts link.new) text known self.new) }
@@ -316,7 +320,8 @@ impl Station {
         self.progress.close(plan, waiting, cause);
     }
 
-    // Makes the one call of an action, and takes in what came of it.
+    // Makes the one call of an action, and takes in what came of it; for `Stop` does nothing. `Err`: the book failed at a
+    // record.
     fn perform<L: Link, B: Book>(
         &mut self,
         link: &mut L,
@@ -376,7 +381,7 @@ impl Station {
         }
     }
 
-    // Writes all requests that wait down as lost, where the station begins anew or no act follows.
+    // Writes down all commands that wait as lost, where the station begins anew or no act follows; else does nothing.
     fn end<B: Book>(&mut self, book: &mut B) -> Result<(), PortFailed>
         ensures ends { (s : Model) (start : Option (List ℕ)) → Refines self.old s → Took (B.text book.old) start (B.taken book.old) s
             → ComesTo (B.text book.old) s.records self.new start (B.taken book.new) (ended s) result }
@@ -390,8 +395,8 @@ impl Station {
         self.write(book)
     }
 
-    // Takes a turn: makes the one call of an action, does what comes of it, and writes down what is lost. Until it ends, what was
-    // written before it lasts as far as the book is meant for that.
+    // Takes a turn: makes the one call of an action, does what comes of it, and writes down what is lost. Before it begins, all
+    // records so far must be durable.
     pub(crate) fn step<L: Link, B: Book>(
         &mut self,
         link: &mut L,

@@ -9,17 +9,17 @@ use gc_texts::Ending;
 /// How many commands ended how. A count stops at 2^64 - 1.
 #[derive(Clone, Copy, Debug, PartialEq, Eq)]
 pub struct Tally {
-    /// A reply came in time. Where both its codes are 0, its values read.
+    /// A reply came in time, and it is neither `unreadable` nor `elsewhere`.
     pub answered: u64,
     /// A reply came after the request was given up.
     pub late: u64,
     /// No reply came, or none will be taken.
     pub lost: u64,
-    /// It wasn't sent: the one before it in its chain wasn't answered well.
+    /// The command wasn't sent: the one before it in its chain wasn't answered well, or the connection was lost since.
     pub skipped: u64,
     /// A reply came in time, with both codes 0, whose values don't read.
     pub unreadable: u64,
-    /// It wasn't sent: its cycle couldn't begin before the next was due.
+    /// The command wasn't sent: its cycle couldn't begin before the next was due.
     pub missed: u64,
     /// A reply came in time, with both codes 0, whose direction isn't near where its target stands.
     pub elsewhere: u64,
@@ -41,7 +41,7 @@ impl Tally {
         }
     }
 
-    /// Counts a command by its ending: that count grows by one, unless it is the greatest `u64`.
+    /// Counts a command by its ending: the count of this ending grows by one, unless it is the greatest `u64`.
     pub fn count(&mut self, ending: Ending<'_>)
         ensures { self.new ≡ counted (ending_seen ending.entry) self.old }
     {

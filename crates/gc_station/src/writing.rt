@@ -23,7 +23,7 @@ use gc_client::{Outcome, Settlement, WINDOW};
 use gc_lines::{Line, PortFailed};
 use gc_texts::{Command, Ending, Near, Stamp, is_elsewhere};
 
-// Takes out the mark of the oldest request that waits.
+// Takes out the mark of the oldest request that waits. `None`: that request is a null procedure, or none waits.
 fn take_mark(marks: &mut ArrayVec<Option<Mark>, WINDOW>) -> Option<Mark>
     ensures goes { marks.new.items ≡ drop 1 marks.old.items }
     ensures records { (reads : Call → List ℕ → Reading) (utc : ℕ) (settlement : Rule.Settlement)
@@ -35,7 +35,8 @@ fn take_mark(marks: &mut ArrayVec<Option<Mark>, WINDOW>) -> Option<Mark>
     }
 }
 
-// The ending of a command whose reply has this answer.
+// The ending of a command whose reply, this line, has this answer: elsewhere where the answer's direction isn't near where the
+// target stands (`near`), else answered.
 fn value_ending<'a>(near: Option<Near>, answer: &'a Answer, line: &'a Line) -> Ending<'a>
     ensures { ending_seen result ≡ value_as (is_elsewhere near answer.now) answer.now line.now.items }
 {
@@ -46,7 +47,7 @@ fn value_ending<'a>(near: Option<Near>, answer: &'a Answer, line: &'a Line) -> E
     }
 }
 
-// The ending of a command whose request had this outcome, and whose target stands there, where that was said.
+// The ending of a command whose request had this outcome. `near`: where its target stands, where the text says so.
 fn ending_of(near: Option<Near>, outcome: &Outcome) -> Ending<'_>
     ensures { (reads : Call → List ℕ → Reading) (call : Call) → AreReadings reads → IsWellRead call outcome.now
         → ending_seen result ≡ end_of reads near call (outcome_seen outcome.now) }
@@ -60,7 +61,8 @@ fn ending_of(near: Option<Near>, outcome: &Outcome) -> Ending<'_>
     }
 }
 
-// Whether it was answered well: with both codes 0 and values that read, and not elsewhere.
+// Whether a command whose request had this outcome was answered well: with both codes 0 and values that read, and not
+// elsewhere.
 fn is_well(near: Option<Near>, outcome: &Outcome) -> bool
     ensures { (reads : Call → List ℕ → Reading) (call : Call) → AreReadings reads → IsWellRead call outcome.now
         → result ≡ is_well reads call (end_of reads near call (outcome_seen outcome.now)) }
@@ -71,7 +73,8 @@ fn is_well(near: Option<Near>, outcome: &Outcome) -> bool
     }
 }
 
-// Writes how a request with this mark ended. A null procedure has none, and isn't written.
+// Writes how a request with this mark ended, counts its ending, and notes in `well` whether it was answered well. A null
+// procedure has no mark: nothing is written or counted of it. `Err`: the book failed.
 fn write_one<B: Book>(
     book: &mut B,
     tally: &mut Tally,
@@ -111,7 +114,9 @@ fn write_one<B: Book>(
     Ok(())
 }
 
-// Writes the records of settlements of the oldest requests that wait, and takes out the marks of these.
+// Writes and counts the records of these settlements, which are those of the oldest requests that wait, and takes out the marks
+// of these requests. `well` becomes whether the last command written was answered well, and stays where none was. `Err`: the
+// book failed at a record, and none behind it was written.
 pub(crate) fn write_settlements<B: Book>(
     book: &mut B,
     tally: &mut Tally,

@@ -5,7 +5,7 @@ ghost use Rattle.gc_station.specs.Runs.{Ran};
 ghost use Rattle.gc_station.specs.Scopes.{ForReadings};
 
 use gc_links::{Link, Telling};
-use gc_station::{Book, Plan, Tally, run_station};
+use gc_station::{Book, Kept, Plan, Tally, run_station};
 use gc_texts::{RunFault, Task};
 
 /// Runs a station over a link that tells its acts, so that what `run_station` promises of the acts told holds of this run.
@@ -19,5 +19,5 @@ pub fn run_telling<L: Link, B: Book>(
     ensures { ForReadings (λ reads.
         Ran plan.now commands.now (record { turns = max_turns; reads = reads }) (B.text book.old) (Some link.old.history.acts) (Some link.new.history.acts) (B.taken book.old) (B.taken book.new) result) }
 {
-    run_station(link, book, commands, plan, max_turns)
+    run_station(link, book, commands, plan, max_turns, &mut Kept::new())
 }

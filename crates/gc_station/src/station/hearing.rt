@@ -21,7 +21,7 @@ use gc_lines::{Lent, Line, PortFailed};
 use gc_links::{Came, Link, Moment};
 
 impl Station {
-    // Takes the line of a frame, if it is one, and writes down what it settles.
+    // Hears the line of a frame, if the frame is a line, and writes down what the line settles.
     fn hear<B: Book>(&mut self, book: &mut B, frame: Lent<'_>) -> Result<(), PortFailed>
         requires { IsLineWithin frame }
         ensures hears { (s : Model) (start : Option (List ℕ)) → Refines self.old s → Took (B.text book.old) start (B.taken book.old) s
@@ -40,7 +40,7 @@ impl Station {
         Ok(())
     }
 
-    // Takes the lines of a piece.
+    // Hears the lines of a piece, in order, and writes down what they settle.
     fn listen<B: Book>(&mut self, book: &mut B, piece: &[u8]) -> Result<(), PortFailed>
         ensures listens { (s : Model) (start : Option (List ℕ)) → Refines self.old s → Took (B.text book.old) start (B.taken book.old) s
             → ComesTo (B.text book.old) s.records self.new start (B.taken book.new) (piece_came piece.now s) result }
@@ -82,7 +82,7 @@ impl Station {
         }
     }
 
-    // Takes the lines of a piece where they are heard.
+    // Hears the lines of a piece: as those of a beginning, or as the client's. In a phase in which nothing is heard it drops them.
     fn take_lines<B: Book>(&mut self, book: &mut B, piece: &[u8]) -> Result<(), PortFailed>
         ensures takes { (s : Model) (start : Option (List ℕ)) → Refines self.old s → Took (B.text book.old) start (B.taken book.old) s
             → ComesTo (B.text book.old) s.records self.new start (B.taken book.new) (came (is_heard s.progress.phase) s.progress.word piece.now s) result }
@@ -99,7 +99,7 @@ impl Station {
         self.listen(book, piece)
     }
 
-    // Takes a piece, and the moment that was read behind it.
+    // Takes a piece and the moment that was read behind it: requests whose deadline has come are given up, then the piece is heard.
     fn take_piece<B: Book>(
         &mut self,
         book: &mut B,
@@ -125,7 +125,8 @@ impl Station {
         Ok(())
     }
 
-    // Reads once, and takes what came.
+    // Reads once, and takes what came: a piece, or a silence, in which deadlines may have come. The end of the connection, a
+    // failed read and a clock that can't be read are noted as the cause to close for. `Err`: the book failed at a record.
     pub(super) fn read<L: Link, B: Book>(
         &mut self,
         link: &mut L,

@@ -33,7 +33,7 @@ fn null_command() -> Command
 }
 
 impl Station {
-    // Notes, where a write was cut, that the connection is to be closed.
+    // Notes, where a write was cut, that the connection is to be closed. `requests`: as `requests_out` counts them.
     fn cut(&mut self, put: Result<(), usize>, requests: usize)
         ensures { self.new ≡ record self.old { progress = cut_progress put requests self.old.progress } }
     {
@@ -42,7 +42,7 @@ impl Station {
         }
     }
 
-    // Sends a lone line feed.
+    // Sends the lone line feed that clears a new connection.
     pub(super) fn clear<L: Link>(&mut self, link: &mut L, plan: &Plan, commands: &[Task])
         ensures { (text : Record → List ℕ) (known : Option (List ℕ))
             → Does plan.now commands.now Clear (seen (L.acts link.old) text known self.old) (seen (L.acts link.new) text known self.new) }
@@ -53,7 +53,8 @@ impl Station {
         self.cut(put, requests);
     }
 
-    // Sends a request, which has this mark.
+    // Sends a request, which has this mark and waits for `wait` milliseconds. `Err`: the write was cut, with the number of
+    // bytes that went out.
     fn ask<L: Link>(
         &mut self,
         link: &mut L,
@@ -89,7 +90,8 @@ impl Station {
         link.put(text.as_slice())
     }
 
-    // Sends the line of the null procedure that is asked for.
+    // Puts the line of the null procedure of the first id that isn't answered. `Err`: the write was cut, with the number of
+    // bytes that went out.
     fn put_null<L: Link>(&self, link: &mut L) -> Result<(), usize>
         requires { has_begun self.now.progress ≡ false }
         ensures tells { Tells (L.acts link.old) (L.acts link.new) (put_as result (null_text self.now.progress.word) ∷ []) }
@@ -104,7 +106,7 @@ impl Station {
         link.put(text.as_slice())
     }
 
-    // Sends the null procedure of its beginning that is asked for.
+    // Sends the null procedure of the first id that isn't answered, and notes its deadline.
     pub(super) fn ask_null<L: Link>(&mut self, link: &mut L, plan: &Plan, commands: &[Task])
         requires { has_begun self.old.progress ≡ false }
         ensures { (text : Record → List ℕ) (known : Option (List ℕ))

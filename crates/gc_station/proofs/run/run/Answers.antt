@@ -8,6 +8,7 @@ use Rattle.gc_station.specs.Scopes.{Scope}
 use Rattle.gc_station.specs.Model.{opening}
 use Rattle.gc_station.proofs.Readings.{stood_reads, are_same}
 use Rattle.gc_station.proofs.Going.{on_call, went_nothing, went_same, went_kept, went_left, went_on, went_wrong, went_nearer, somewhere_on}
+use Rattle.gc_station.proofs.Noting.{noted_nothing, noted_kept, noted_same, noted_on, noted_end, noted_left, noted_wrong}
 use Rattle.gc_station.proofs.run.run.Goals as goal
 
 pub returns-in-Err : goal.returns-in-Err
@@ -24,6 +25,12 @@ returns-in-Err g c =
           (g.B.Book.taken c.sync.new.self) c.loop-unsynced.station c.sync.ensures.same (c.loop-unsynced.invariant.went reads are) in
           inr (went_left plan commands scope text told (g.L.Link.acts c.loop-unsynced.link) (g.L.Link.acts c.close.new.self) taken
           (g.B.Book.taken c.sync.new.self) c.loop-unsynced.station w c.close.ensures);
+      keeps = λ reads are.
+          let scope : Scope = record { turns = c.args.max_turns; reads = reads } in
+          let n = noted_kept plan commands scope text told taken (g.L.Link.acts c.loop-unsynced.link) (g.B.Book.taken c.loop-unsynced.book)
+          (g.B.Book.taken c.sync.new.self) c.loop-unsynced.station c.args.kept.now.turns c.loop-unsynced.kept.turns c.sync.ensures.same (c.loop-unsynced.invariant.noted reads are) in
+          noted_left plan commands scope text told taken (g.L.Link.acts c.loop-unsynced.link) (g.L.Link.acts c.close.new.self) (g.B.Book.taken c.sync.new.self)
+          c.loop-unsynced.station c.args.kept.now.turns c.loop-unsynced.kept.turns n c.close.ensures;
       is_durable = tt;
       fails = c.in-Err.ensures.fails;
       form = c.sync.ensures.form ∙ c.loop-unsynced.invariant.form;
@@ -51,6 +58,22 @@ returns-in-Err-step g c =
           (c.action-action.ensures.action s w.stands same)
           (on_call c.action-action.result _ c.in_default-action.not-Stop (rw (c.tell_overrun-told.ensures.form ∙ c.sync.ensures.form ∙ c.loop-unsynced.invariant.form) at c.in-Err-step.ensures.does))
           c.close-in-Err-step.ensures are);
+      keeps = λ reads are.
+          let scope : Scope = record { turns = c.args.max_turns; reads = reads } in
+          let text = g.B.Book.text c.args.book.now in
+          let m = noted_kept plan commands scope text told taken (g.L.Link.acts c.loop-unsynced.link) (g.B.Book.taken c.loop-unsynced.book)
+          (g.B.Book.taken c.sync.new.self) c.loop-unsynced.station c.args.kept.now.turns c.loop-unsynced.kept.turns c.sync.ensures.same (c.loop-unsynced.invariant.noted reads are) in
+          let n = noted_same plan commands scope text told taken (g.L.Link.acts c.loop-unsynced.link) (g.B.Book.taken c.sync.new.self)
+          (g.B.Book.taken c.tell_overrun-told.new.book) c.loop-unsynced.station c.args.kept.now.turns c.loop-unsynced.kept.turns c.tell_overrun-told.ensures.taken m in
+          let s = stood plan commands scope n.went.acts in
+          let same = are_same s.reads reads (stood_reads plan commands scope n.went.acts) are in
+          noted_wrong plan commands scope text told taken (g.L.Link.acts c.loop-unsynced.link) (g.L.Link.acts c.step.new.link)
+          (g.L.Link.acts c.close-in-Err-step.new.self) (g.B.Book.taken c.tell_overrun-told.new.book)
+          (g.B.Book.taken c.step.new.book) (g.B.Book.is_durable c.tell_overrun-told.new.book) c.loop-unsynced.station c.action-action.result
+          c.args.kept.now.turns c.loop-unsynced.kept.turns c.and.result.turns n
+          (c.action-action.ensures.action s n.went.stands same)
+          (on_call c.action-action.result _ c.in_default-action.not-Stop (rw (c.tell_overrun-told.ensures.form ∙ c.sync.ensures.form ∙ c.loop-unsynced.invariant.form) at c.in-Err-step.ensures.does))
+          c.close-in-Err-step.ensures c.and.ensures (c.tell_overrun-told.ensures.is_durable ∙ c.in_default.ensures.is_durable);
       is_durable = tt;
       fails = c.in-Err-step.ensures.fails;
       form = c.in-Err-step.ensures.form ∙ c.tell_overrun-told.ensures.form ∙ c.sync.ensures.form ∙ c.loop-unsynced.invariant.form;
@@ -96,6 +119,20 @@ loop-unsynced-preserved g c =
           went_on plan commands scope (g.B.Book.text c.args.book.now) told (g.L.Link.acts c.loop-unsynced.link) (g.L.Link.acts c.step.new.link) taken
           (g.B.Book.taken c.tell_overrun-told.new.book) (g.B.Book.taken c.step.new.book) c.loop-unsynced.station c.step.new.self c.action-action.result w
           (c.action-action.ensures.action s w.stands same) makes are;
+      noted = λ reads are.
+          let scope : Scope = record { turns = c.args.max_turns; reads = reads } in
+          let text = g.B.Book.text c.args.book.now in
+          let m = noted_kept plan commands scope text told taken (g.L.Link.acts c.loop-unsynced.link) (g.B.Book.taken c.loop-unsynced.book)
+          (g.B.Book.taken c.sync.new.self) c.loop-unsynced.station c.args.kept.now.turns c.loop-unsynced.kept.turns c.sync.ensures.same (c.loop-unsynced.invariant.noted reads are) in
+          let n = noted_same plan commands scope text told taken (g.L.Link.acts c.loop-unsynced.link) (g.B.Book.taken c.sync.new.self)
+          (g.B.Book.taken c.tell_overrun-told.new.book) c.loop-unsynced.station c.args.kept.now.turns c.loop-unsynced.kept.turns c.tell_overrun-told.ensures.taken m in
+          let s = stood plan commands scope n.went.acts in
+          let same = are_same s.reads reads (stood_reads plan commands scope n.went.acts) are in
+          noted_on plan commands scope text told taken (g.L.Link.acts c.loop-unsynced.link) (g.L.Link.acts c.step.new.link)
+          (g.B.Book.taken c.tell_overrun-told.new.book) (g.B.Book.taken c.step.new.book) (g.B.Book.is_durable c.tell_overrun-told.new.book)
+          c.loop-unsynced.station c.step.new.self c.action-action.result
+          c.args.kept.now.turns c.loop-unsynced.kept.turns c.and.result.turns n
+          (c.action-action.ensures.action s n.went.stands same) makes are c.and.ensures (c.tell_overrun-told.ensures.is_durable ∙ c.in_default.ensures.is_durable);
       form = c.in_default-step.ensures.form ∙ c.tell_overrun-told.ensures.form ∙ c.sync.ensures.form ∙ c.loop-unsynced.invariant.form;
       failed = c.in_default-step.ensures.fails ∙ c.tell_overrun-told.ensures.failed ∙ c.in_default.ensures.fails ∙ c.loop-unsynced.invariant.failed;
     }
@@ -113,6 +150,8 @@ loop-unsynced-init g c =
       some = (opening plan start, stands);
       went = λ reads are. went_nothing plan commands (record { turns = c.args.max_turns; reads = reads }) (g.B.Book.text c.args.book.now)
           (g.L.Link.acts c.args.link.now) (g.B.Book.taken c.args.book.now) c.new-station.result (c.new-station.ensures reads);
+      noted = λ reads are. noted_nothing plan commands (record { turns = c.args.max_turns; reads = reads }) (g.B.Book.text c.args.book.now)
+          (g.L.Link.acts c.args.link.now) (g.B.Book.taken c.args.book.now) c.new-station.result c.args.kept.now.turns (c.new-station.ensures reads);
       form = refl;
       failed = refl;
     }
@@ -135,3 +174,14 @@ returns-in-Stop-clause-ran g c reads are =
       took = w.took;
       counts = w.stands.tally same;
     }
+
+pub returns-in-Stop-clause-keeps : goal.returns-in-Stop-clause-keeps
+returns-in-Stop-clause-keeps g c reads are =
+    let plan = c.args.plan.now in
+    let commands = c.args.commands.now in
+    let scope : Scope = record { turns = c.args.max_turns; reads = reads } in
+    let n = noted_kept plan commands scope (g.B.Book.text c.args.book.now) (g.L.Link.acts c.args.link.now) (g.B.Book.taken c.args.book.now) (g.L.Link.acts c.loop-unsynced.link)
+    (g.B.Book.taken c.loop-unsynced.book) (g.B.Book.taken c.sync.new.self) c.loop-unsynced.station c.args.kept.now.turns c.loop-unsynced.kept.turns c.sync.ensures.same
+    (c.loop-unsynced.invariant.noted reads are) in
+    noted_end plan commands scope (g.B.Book.text c.args.book.now) (g.L.Link.acts c.args.link.now) (g.B.Book.taken c.args.book.now) (g.L.Link.acts c.loop-unsynced.link)
+    (g.B.Book.taken c.sync.new.self) c.loop-unsynced.station c.args.kept.now.turns c.loop-unsynced.kept.turns n

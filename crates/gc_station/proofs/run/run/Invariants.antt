@@ -3,6 +3,7 @@ use Rattle.gc_catalogue.specs.declared.answer.Reading.{Reading}
 use Rattle.gc_catalogue.specs.declared.call.Call.{Call}
 use Rattle.gc_station.specs.Scopes.{AreReadings}
 use Rattle.gc_station.proofs.Going.{Went, Somewhere}
+use Rattle.gc_station.proofs.Noting.{Noted}
 use Rattle.gc_station.proofs.Turns.{left_to_do}
 use Rattle.gc_station.proofs.run.run.Given as goal
 
@@ -13,6 +14,9 @@ invariant-loop-unsynced g l = record {
   went : (reads : Call → List ℕ → Reading) → AreReadings reads
       → Went l.plan l.commands (record { turns = l.max_turns; reads = reads }) (g.B.Book.text l.initial.book) (g.L.Link.acts l.initial.link)
       (g.L.Link.acts l.link) (g.B.Book.taken l.initial.book) (g.B.Book.taken l.book) l.station;
+  noted : (reads : Call → List ℕ → Reading) → AreReadings reads
+      → Noted l.plan l.commands (record { turns = l.max_turns; reads = reads }) (g.B.Book.text l.initial.book) (g.L.Link.acts l.initial.link) (g.B.Book.taken l.initial.book)
+      (g.L.Link.acts l.link) (g.B.Book.taken l.book) l.station l.initial.kept.turns l.kept.turns;
   form : g.B.Book.text l.book ≡ g.B.Book.text l.initial.book;
   failed : g.B.Book.failed l.book ≡ g.B.Book.failed l.initial.book;
 }

@@ -4,6 +4,7 @@ use Rattle.gc_station.specs.Runs.{RanTo}
 use Rattle.gc_station.specs.Scopes.{Scope}
 use Rattle.gc_station.proofs.Faulty.{faulty}
 use Rattle.gc_station.proofs.Going.{none_done}
+use Rattle.gc_station.proofs.Noting.{faulty_keeps}
 use Rattle.gc_station.proofs.Readings.{for_readings}
 use Rattle.gc_station.proofs.run.run_station.Goals as goal
 
@@ -22,3 +23,13 @@ returns-in-Some-clause-ran g c =
 
 pub returns-in-Err-clause-ran : goal.returns-in-Err-clause-ran
 returns-in-Err-clause-ran g c = for_readings _ (λ reads are. c.in-Err.ensures.ran reads are)
+
+pub returns-in-None-clause-keeps : goal.returns-in-None-clause-keeps
+returns-in-None-clause-keeps g c = for_readings _ (λ reads are. c.in-Ok.ensures.keeps reads are)
+
+pub returns-in-Some-clause-keeps : goal.returns-in-Some-clause-keeps
+returns-in-Some-clause-keeps g c =
+    for_readings _ (λ reads are. faulty_keeps _ _ _ _ _ _ _ _ _ c.in-Ok.cause c.in-Some.fault (sym c.fault.ensures ∙ c.in-Some.is) (c.in-Ok.ensures.keeps reads are))
+
+pub returns-in-Err-clause-keeps : goal.returns-in-Err-clause-keeps
+returns-in-Err-clause-keeps g c = for_readings _ (λ reads are. c.in-Err.ensures.keeps reads are)

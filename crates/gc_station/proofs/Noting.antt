@@ -1,0 +1,141 @@
+-- A run on the way, with what was seen at each act: what the acts before it settled is in the book then, and lasts.
+use Rattle.std.proofs.Common.{◌≡◌, ℕ, Bool, true, List, [], ◌∷◌, ◌++◌, Option, Some, Err, sym, ap, ◌∙◌, subst, append-nil, append_assoc}
+use Rattle.std.specs.Io.KnownBytes.{Keeps}
+use Rattle.std.proofs.KnownBytes.{Keeps-refl}
+use Rattle.gc_texts.specs.declared.tasks.Task.{Task}
+use Rattle.gc_texts.specs.declared.fault.RunFault.{RunFault}
+use Rattle.gc_texts.specs.declared.fault.RunFault.TheVariants as fault
+use Rattle.gc_links.specs.Acts.{Act, Closed, Tells}
+use Rattle.gc_station.specs.declared.plan.Plan.{Plan}
+use Rattle.gc_station.specs.declared.cause.Cause.{Cause}
+use Rattle.gc_station.specs.declared.cause.Cause.TheVariants.{Done, Dead, Read, End, Write, Clock, Open, Turns}
+use Rattle.gc_station.specs.declared.progress.Action.{Action}
+use Rattle.gc_station.specs.declared.station.Station.{Station}
+use Rattle.gc_station.specs.Causes.{fault_of}
+use Rattle.gc_station.specs.Keeping.{Turn, IsKept, AreKept, KeepsUp, closing_at}
+use Rattle.gc_station.specs.Records.{Record}
+use Rattle.gc_station.specs.Runs.{stood}
+use Rattle.gc_station.specs.Model.{opening, action_at, Performs}
+use Rattle.gc_station.specs.Scopes.{Scope, AreReadings}
+use Rattle.gc_station.specs.Stations.{Refines, Makes, Breaks, stepped, seen}
+use Rattle.gc_station.specs.declared.tally.Tally.{Tally}
+use Rattle.gc_station.proofs.Going.{Went, went_nothing, went_kept, went_on, runs-append}
+use Rattle.gc_station.proofs.Hearing.{tells_more}
+
+module _ (plan : Plan) (commands : List Task) (scope : Scope) (text : Record → List ℕ) (told : Option (List Act)) (taken : Option (List ℕ)) where
+  -- what was done so far, and what was seen at each act
+  pub record Noted (told' : Option (List Act)) (taken' : Option (List ℕ)) (station : Station) (saw saw' : List Turn) : Type 0 where
+    pub went : Went plan commands scope text told told' taken taken' station
+    pub turns : List Turn
+    pub all : saw' ≡ saw ++ turns
+    pub kept : AreKept plan commands scope text told taken [] went.acts turns
+
+  -- `AreKept` lasts over one act more, if all that was done before the act was kept at it
+  kept_more : (done acts : List Act) (turns : List Turn) (act : Act) (turn : Turn) → AreKept plan commands scope text told taken done acts turns
+      → IsKept plan commands scope text told taken (done ++ acts) turn → AreKept plan commands scope text told taken done (acts ++ act ∷ []) (turns ++ turn ∷ [])
+  kept_more done [] [] act turn are is = (subst (λ (xs : List Act). IsKept plan commands scope text told taken xs turn) (append-nil done) is, tt)
+  kept_more done [] (t ∷ turns) act turn are is = absurd are
+  kept_more done (a ∷ acts) [] act turn are is = absurd are
+  kept_more done (a ∷ acts) (t ∷ turns) act turn are is = (
+    are.0,
+    kept_more (done ++ a ∷ []) acts turns act turn are.1
+        (subst (λ (xs : List Act). IsKept plan commands scope text told taken xs turn) (sym (append_assoc done (a ∷ []) acts)) is),
+  )
+
+  -- `Noted` holds where nothing was done
+  pub noted_nothing : (station : Station) (saw : List Turn) → Refines station (opening plan scope) → Noted told taken station saw saw
+  noted_nothing station saw stands = record { went = went_nothing plan commands scope text told taken station stands; turns = []; all = sym (append-nil saw); kept = tt }
+
+  -- `Noted` lasts where a book took nothing more, as far as that is known
+  pub noted_kept : (told' : Option (List Act)) (taken' taken'' : Option (List ℕ)) (station : Station) (saw saw' : List Turn) → Keeps taken' taken''
+      → Noted told' taken' station saw saw' → Noted told' taken'' station saw saw'
+  noted_kept told' taken' taken'' station saw saw' keeps n =
+      record { went = went_kept plan commands scope text told told' taken taken' taken'' station keeps n.went; turns = n.turns; all = n.all; kept = n.kept }
+
+  -- `Noted` lasts where a book took the same
+  pub noted_same : (told' : Option (List Act)) (taken' taken'' : Option (List ℕ)) (station : Station) (saw saw' : List Turn) → taken'' ≡ taken'
+      → Noted told' taken' station saw saw' → Noted told' taken'' station saw saw'
+  noted_same told' taken' taken'' station saw saw' same n =
+      noted_kept told' taken' taken'' station saw saw' (subst (λ (t : Option (List ℕ)). Keeps taken' t) (sym same) (Keeps-refl taken')) n
+
+  -- what was seen now, of a book all of which lasts
+  abbrev now : Option (List Act) → Option (List ℕ) → Bool → Turn
+  now told' taken' lasts = record { acts = told'; taken = taken'; lasts = lasts }
+
+  saw_more : (saw saw' saw'' turns : List Turn) (turn : Turn) → saw' ≡ saw ++ turns → saw'' ≡ saw' ++ turn ∷ [] → saw'' ≡ saw ++ (turns ++ turn ∷ [])
+  saw_more saw saw' saw'' turns turn all one = one ∙ ap (λ (xs : List Turn). xs ++ turn ∷ []) all ∙ append_assoc saw turns (turn ∷ [])
+
+  -- `Noted` lasts over one act more, before which the link and the book were seen
+  pub noted_on : (told' told'' : Option (List Act)) (taken' taken'' : Option (List ℕ)) (lasts : Bool) (station new : Station) (action : Action) (saw saw' saw'' : List Turn)
+      → (n : Noted told' taken' station saw saw')
+      → action ≡ action_at plan (stood plan commands scope n.went.acts)
+      → Makes commands action (stepped plan commands action) (seen told' text taken' station) (seen told'' text taken'' new)
+      → AreReadings scope.reads → saw'' ≡ saw' ++ now told' taken' lasts ∷ [] → lasts ≡ true → Noted told'' taken'' new saw saw''
+  noted_on told' told'' taken' taken'' lasts station new action saw saw' saw'' n is makes are one true_ =
+      record {
+        went = went_on plan commands scope text told told' told'' taken taken' taken'' station new action n.went is makes are;
+        turns = n.turns ++ now told' taken' lasts ∷ [];
+        all = saw_more saw saw' saw'' n.turns (now told' taken' lasts) n.all one;
+        kept = kept_more [] n.went.acts n.turns makes.act (now told' taken' lasts) n.kept (record { tells = n.went.tells; took = n.went.took; lasts = true_ });
+      }
+
+  -- a run that stopped has kept up, and no act follows
+  pub noted_end : (told' : Option (List Act)) (taken' : Option (List ℕ)) (station : Station) (saw saw' : List Turn)
+      → Noted told' taken' station saw saw' → KeepsUp plan commands scope text told told' taken saw saw' []
+  noted_end told' taken' station saw saw' n = record {
+    acts = n.went.acts;
+    tells = subst (λ (xs : List Act). Tells told told' xs) (sym (append-nil n.went.acts)) n.went.tells;
+    runs = n.went.runs;
+    turns = n.turns;
+    saw = n.all;
+    kept = n.kept;
+  }
+
+  -- a run whose records couldn't be made to last has kept up, but for the close of the connection behind it
+  pub noted_left : (told' told'' : Option (List Act)) (taken' : Option (List ℕ)) (station : Station) (saw saw' : List Turn)
+      → Noted told' taken' station saw saw' → Tells told' told'' (Closed ∷ []) → KeepsUp plan commands scope text told told'' taken saw saw' (Closed ∷ [])
+  noted_left told' told'' taken' station saw saw' n closed = record {
+    acts = n.went.acts;
+    tells = tells_more told told' told'' n.went.acts (Closed ∷ []) n.went.tells closed;
+    runs = n.went.runs;
+    turns = n.turns;
+    saw = n.all;
+    kept = n.kept;
+  }
+
+  -- a run whose book refused a record of its last act has kept up, but for the close of the connection behind it
+  pub noted_wrong : (told' told'' told''' : Option (List Act)) (taken' taken'' : Option (List ℕ)) (lasts : Bool) (station : Station) (action : Action) (saw saw' saw'' : List Turn)
+      → (n : Noted told' taken' station saw saw')
+      → action ≡ action_at plan (stood plan commands scope n.went.acts)
+      → Breaks commands action (stepped plan commands action) (seen told' text taken' station) told'' taken''
+      → Tells told'' told''' (Closed ∷ []) → saw'' ≡ saw' ++ now told' taken' lasts ∷ [] → lasts ≡ true
+      → KeepsUp plan commands scope text told told''' taken saw saw'' (Closed ∷ [])
+  noted_wrong told' told'' told''' taken' taken'' lasts station action saw saw' saw'' n is breaks closed one true_ =
+      let w = n.went in
+      let s = stood plan commands scope w.acts in
+      let obeys : Performs commands s (action_at plan s) breaks.act =
+      subst (λ (o : Action). Performs commands s o breaks.act) is (breaks.goes s taken w.stands (λ ok. w.took)).0 in
+      record {
+        acts = w.acts ++ breaks.act ∷ [];
+        tells = tells_more told told'' told''' (w.acts ++ breaks.act ∷ []) (Closed ∷ []) (tells_more told told' told'' w.acts (breaks.act ∷ []) w.tells breaks.tells) closed;
+        runs = runs-append plan commands (opening plan scope) w.acts (breaks.act ∷ []) w.runs (obeys, tt);
+        turns = n.turns ++ now told' taken' lasts ∷ [];
+        saw = saw_more saw saw' saw'' n.turns (now told' taken' lasts) n.all one;
+        kept = kept_more [] w.acts n.turns breaks.act (now told' taken' lasts) n.kept (record { tells = w.tells; took = w.took; lasts = true_ });
+      }
+
+  abbrev Up : Option (List Act) → List Turn → List Turn → List Act → Type 0
+  Up told' saw saw' others = KeepsUp plan commands scope text told told' taken saw saw' others
+
+  -- where a run stopped for a cause, that isn't a fault of the book: so it has kept up to its end
+  pub faulty_keeps : (told' : Option (List Act)) (saw saw' : List Turn) (cause : Cause) (why : RunFault) → fault_of cause ≡ Some why
+      → Up told' saw saw' [] → Up told' saw saw' (closing_at {X = Tally} (Err why))
+  faulty_keeps told' saw saw' Done why e up = absurd (cc)
+  faulty_keeps told' saw saw' Dead why e up = let same : fault.Mute ≡ why = cc in subst (λ (w : RunFault). Up told' saw saw' (closing_at {X = Tally} (Err w))) same up
+  faulty_keeps told' saw saw' Read why e up = let same : fault.Read ≡ why = cc in subst (λ (w : RunFault). Up told' saw saw' (closing_at {X = Tally} (Err w))) same up
+  faulty_keeps told' saw saw' End why e up = let same : fault.LinkClosed ≡ why = cc in subst (λ (w : RunFault). Up told' saw saw' (closing_at {X = Tally} (Err w))) same up
+  faulty_keeps told' saw saw' (Write requests bytes) why e up =
+      let same : fault.Write requests bytes ≡ why = cc in subst (λ (w : RunFault). Up told' saw saw' (closing_at {X = Tally} (Err w))) same up
+  faulty_keeps told' saw saw' Clock why e up = let same : fault.Clock ≡ why = cc in subst (λ (w : RunFault). Up told' saw saw' (closing_at {X = Tally} (Err w))) same up
+  faulty_keeps told' saw saw' Open why e up = let same : fault.Socket ≡ why = cc in subst (λ (w : RunFault). Up told' saw saw' (closing_at {X = Tally} (Err w))) same up
+  faulty_keeps told' saw saw' Turns why e up = let same : fault.TooManyReads ≡ why = cc in subst (λ (w : RunFault). Up told' saw saw' (closing_at {X = Tally} (Err w))) same up

@@ -1,0 +1,43 @@
+//! What is seen of a link and a book before each act of a run: a ghost value, which no code reads and which takes no memory.
+
+ghost use Rattle.std.specs.Prelude.{◌≡◌, [], ◌∷◌, ◌++◌, List};
+ghost use base.Fml.{ftrue};
+ghost use Rattle.gc_station.specs.Keeping.{Turn, turns_code};
+
+use crate::book::Book;
+use gc_links::Link;
+use std::marker::Model;
+
+/// What was seen so far, in order: at each moment what a link had told, what a book had taken, and whether that lasted.
+#[derive(Drop)]
+pub struct Kept {
+    pub ghost turns: { List Turn } by { turns_code },
+}
+
+impl Model for Kept {
+    ghost also_owns = { λ _. ftrue };
+}
+
+impl Kept {
+    /// Nothing was seen yet.
+    pub fn new() -> Kept
+        ensures { result.turns ≡ [] }
+    {
+        Kept {}
+    }
+
+    // What was seen so far, and this turn behind that. The turns are ghost, so there is nothing to copy.
+    fn then<L, B>(&self, _link: &L, _book: &B) -> Kept
+        ghost turn: { Turn }
+        ensures { result.turns ≡ self.now.turns ++ turn ∷ [] }
+    {
+        Kept {}
+    }
+
+    // What was seen so far, and behind that what the link has told and the book has taken by now, and whether that lasts.
+    pub(crate) fn and<L: Link, B: Book>(&self, link: &L, book: &B) -> Kept
+        ensures { result.turns ≡ self.now.turns ++ record { acts = L.acts link.now; taken = B.taken book.now; lasts = B.is_durable book.now } ∷ [] }
+    {
+        self.then(link, book)
+    }
+}
