@@ -33,17 +33,18 @@ use Rattle.gc_field.specs.Instrument.{AnyState}
 use Rattle.gc_field.specs.Runs.{IsOwnAnswer}
 use Rattle.gc_field.specs.Shown.{Stretch}
 use Rattle.gc_field.proofs.Joining.{run_faithful}
-use Rattle.gc_promise.specs.Rows.{table, column, Says, IsOwnRow, RowsAreTheirOwn}
+use Rattle.gc_promise.specs.Rows.{column, Says, IsOwnRow, RowsAreTheirOwn}
+use Rattle.gc_promise.specs.Tables.{table}
 
 -- a line with an id is a reply
-a_reply : (line : List ℕ) (id : ℕ) → heard line ≡ Some id → (r : ReplyFields) × IsReply line r
+pub a_reply : (line : List ℕ) (id : ℕ) → heard line ≡ Some id → (r : ReplyFields) × IsReply line r
 a_reply line id h = by_read (reply_at line) refl where
   by_read : (read : Result ReplyFields LineFault) → reply_at line ≡ read → (r : ReplyFields) × IsReply line r
   by_read (Ok r) e = (r, reply_found line r e)
   by_read (Err f) e = let none = ap id_in e in absurd (cc)
 
--- the line that answered a command is that of its row
-same_line : (end : End) (line : List ℕ) → answer_of end ≡ Some line → line_of end ≡ Some line
+-- the line that answered a command is the line of its row
+pub same_line : (end : End) (line : List ℕ) → answer_of end ≡ Some line → line_of end ≡ Some line
 same_line (Answered answer l) line e = e
 same_line (Unreadable l fault) line e = e
 same_line (Elsewhere l) line e = e
@@ -58,9 +59,12 @@ module _ (columns : Bool) (when : When) (name : List ℕ) (command : Command) (e
   by_line line =
       stamp_text when.run ∷ (when_fields when ++ (what_fields command name ++ ((word_of end ∷ fault_field (fault_of end) ∷ reply_fields line) ++ more_fields columns command.call end)))
 
-  two_fields : 1 < length (row_fields columns when name command end)
+  -- a row has more than one field
+  pub two_fields : 1 < length (row_fields columns when name command end)
   two_fields = omega arith
 
+  -- in the column of the communication code stands that of the line with which the command ended; below, so do the return code
+  -- and the values in theirs
   under_rc_com : (line : List ℕ) → line_of end ≡ Some line → column (codes "rc_com") (row_fields columns when name command end) ≡ com_of line
   under_rc_com line e = ap (λ o. column (codes "rc_com") (by_line o)) e
 
@@ -70,15 +74,17 @@ module _ (columns : Bool) (when : When) (name : List ℕ) (command : Command) (e
   under_values : (line : List ℕ) → line_of end ≡ Some line → column (codes "values") (row_fields columns when name command end) ≡ values_of line
   under_values line e = ap (λ o. column (codes "values") (by_line o)) e
 
--- a row of a table is that of its fields
-in_table : (columns : Bool) (when : When) (name : List ℕ) (command : Command) (end : End)
+-- the text of a record in a table is the row of its fields
+pub in_table : (columns : Bool) (when : When) (name : List ℕ) (command : Command) (end : End)
     → record_text (table columns) when name command end ≡ row_of (row_fields columns when name command end)
 in_table false when name command end = refl
 in_table true when name command end = refl
 
-abbrev fields_of : Layout → Bool → List Name → Record → List (List ℕ)
+-- the fields of a record's row
+abbrev pub fields_of : Layout → Bool → List Name → Record → List (List ℕ)
 fields_of layout columns names r = row_fields columns (when_of layout.run r) (name_text r.command.target names) r.command r.end
 
+-- the fields of an answer's row say what the record and the line that answered it say
 says : (layout : Layout) (columns : Bool) (names : List Name) (r : Record) (line : List ℕ) → answer_of r.end ≡ Some line
     → (reply : ReplyFields) × IsReply line reply → Says (fields_of layout columns names r) r line
 says layout columns names r line answered reply =
@@ -101,6 +107,7 @@ says layout columns names r line answered reply =
 
 module _ {State : Type 0} (ends : Ends State) (kept : State → Option KeptReply) (layout : Layout) (columns : Bool) (names : List Name) (form : layout.form ≡ table columns)
     (plan : Plan) (commands : List Task) (scope : Scope) (acts : List Act) (ps : List Part) (ss : List (Stretch State)) where
+  -- where a record is an answer, its row is its own
   one : (r : Record) → IsOwnAnswer ends AnyState kept commands ps ss r → IsTrueRecord plan commands scope acts r → IsOwnRow ends AnyState kept layout names commands ps ss r
   one r own came line answered =
       let true_one = came line answered in
@@ -116,6 +123,7 @@ module _ {State : Type 0} (ends : Ends State) (kept : State → Option KeptReply
         own = own line answered;
       }
 
+  -- the rows of all of these records are their own, where the records are answers
   each : (records : List Record) → AllByRecursion (IsOwnAnswer ends AnyState kept commands ps ss) records → AllByRecursion (IsTrueRecord plan commands scope acts) records
       → AllByRecursion (IsOwnRow ends AnyState kept layout names commands ps ss) records
   each [] own came = tt

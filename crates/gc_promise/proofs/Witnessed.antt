@@ -1,23 +1,72 @@
--- A row of a computed run is its own.
-use Rattle.std.proofs.Common.{List, [], false, refl, subst}
+-- The rows of a computed run are their own.
+use Rattle.std.proofs.Common.{ℕ, List, [], Some, Ok, false, refl, subst, sym}
+use Rattle.std.specs.Fmt.{digits}
 use Rattle.std.specs.List.{AllByRecursion}
+use Rattle.gc_catalogue.specs.declared.answer.Reading.{Reading}
+use Rattle.gc_catalogue.specs.declared.call.Call.{Call}
+use Rattle.gc_rows.specs.declared.record.Form.{Form}
+use Rattle.gc_rows.specs.declared.record.Form.TheVariants.{Json}
+use Rattle.gc_texts.specs.Stamps.{days_after}
+use Rattle.gc_station.specs.Keeping.{Turn}
 use Rattle.gc_station.specs.Model.{opening}
 use Rattle.gc_station.specs.Parts.{parts_of}
 use Rattle.gc_station.specs.Records.{Record}
-use Rattle.gc_field.specs.Begin.{none_under_way}
-use Rattle.gc_field.specs.Drifting.{acts, answer, commands, drifting, plan, runs, scope}
+use Rattle.gc_station.specs.Scopes.{AreReadings}
+use Rattle.gc_station.proofs.Readings.{for_readings}
+use Rattle.gc_measuring.specs.Measuring.{RunsBehind, text_in}
 use Rattle.gc_field.specs.Instrument.{AnyState, nothing}
 use Rattle.gc_field.specs.Shown.{stretches}
-use Rattle.gc_field.proofs.Drifting as computed
+use Rattle.gc_promise.specs.Eventful.{acts, before, commands, elsewhere, empty, measured, numbered, plan, pointed, runs, scope, tally, reporting}
 use Rattle.gc_promise.specs.Rows.{IsOwnRow}
-use Rattle.gc_promise.specs.Witness.{SomeRowIsItsOwn, in_a_table}
+use Rattle.gc_promise.specs.Tables.{table}
+use Rattle.gc_promise.specs.Witness.{HasOwnRows, SomeRowIsItsOwn, course, in_a_table, layout_in, places, taken}
+use Rattle.gc_promise.proofs.Eventful.{eventful, ran_whole}
 use Rattle.gc_promise.proofs.Owning.{rows_own}
+use Rattle.gc_promise.proofs.Tabled.{tables_own}
+use Rattle.gc_promise.proofs.Turned.{keeps_whole, turns}
+use Rattle.gc_promise.proofs.Typed.{of_types}
+use Rattle.gc_promise.proofs.Objected.{objects_own}
+use Rattle.gc_promise.specs.Objects.{AreOfBytes}
+
+abbrev AreOwn : (Call → List ℕ → Reading) → List Record → Type 0
+AreOwn reads = AllByRecursion (IsOwnRow reporting AnyState nothing in_a_table [] commands (parts_of plan commands (opening plan (scope reads)) acts) (stretches reporting before runs))
+
+-- what is seen at each of its acts, where its records are written in this form
+abbrev turns_in : Form → List Turn
+turns_in form = turns (text_in (layout_in form) [])
+
+-- in each form, the run is one as a station's contract has it
+is_measured : (form : Form) → RunsBehind (course form) (places [] [] []) (places acts (taken form) (turns_in form)) (Ok tally)
+is_measured form =
+    record {
+      between = Some [];
+      front = refl;
+      end = Ok tally;
+      is = refl;
+      ran = for_readings _ (ran_whole (text_in (layout_in form) []));
+      keeps = for_readings _ (keeps_whole (text_in (layout_in form) []));
+    }
+
+-- with every function that gives the readings the run has rows of its own
+own_rows : (reads : Call → List ℕ → Reading) → AreReadings reads → HasOwnRows reads
+unfolding digits days_after
+own_rows reads are =
+    let run = eventful reads are in
+    let all = rows_own reporting nothing run.is in_a_table false [] refl plan commands (scope reads) acts before runs run.field in
+    let each = subst (AreOwn reads) run.written all in
+    let answers = each.1.1.1.1.1.1.1.1.1.1.1.1.1.1 in
+    record {
+      run = run;
+      points = (refl, answers.0 pointed refl);
+      chained = (refl, answers.1.0 measured refl);
+      elsewhere = (refl, answers.1.1.0 elsewhere refl);
+      number = (refl, answers.1.1.1.0 numbered refl);
+      unreadable = (refl, answers.1.1.1.1.0 empty refl);
+      tables = λ columns. tables_own reporting nothing run.is (course (table columns)) columns refl (places [] [] []) (places acts (taken (table columns)) (turns_in (table columns))) (Ok tally)
+          (is_measured (table columns)) acts [] refl refl refl reads are before runs run.field;
+      objects = objects_own reporting nothing run.is (course Json) refl (places [] [] []) (places acts (taken Json) (turns_in Json)) (Ok tally)
+          (is_measured Json) acts [] refl refl refl reads are before runs run.field (subst (AreOfBytes (course Json)) (sym run.written) of_types);
+    }
 
 pub witnessed : SomeRowIsItsOwn
-witnessed =
-    let run = computed.answered in
-    let all = rows_own drifting nothing run.is in_a_table false [] refl plan commands scope acts (none_under_way 5) runs run.field in
-    let two = subst
-    (λ (records : List Record). AllByRecursion (IsOwnRow drifting AnyState nothing in_a_table [] commands (parts_of plan commands (opening plan scope) acts) (stretches drifting (none_under_way 5) runs)) records)
-    run.records all in
-    record { run = run; row = two.1.0 answer refl }
+witnessed = record { own = for_readings HasOwnRows own_rows; measured = λ form. (turns_in form, is_measured form) }

@@ -1,7 +1,6 @@
 -- The rows of a station in the field, this project's own: what stands in the columns of a row of an answer was made by the instrument on
 -- executing the very request of that row's cycle and place.
-use Rattle.std.specs.Prelude.{◌≡◌, ℕ, Bool, true, false, List, [], ◌∷◌, ◌++◌, map, Option, Some, nat_eq, if◌then◌else◌, codes}
-use Rattle.std.specs.Cmp.Lexicographic.{pointwise}
+use Rattle.std.specs.Prelude.{◌≡◌, ℕ, Bool, List, [], ◌++◌, map, Option, Some, codes}
 use Rattle.std.specs.Fmt.{decimal}
 use Rattle.std.specs.List.{AllByRecursion}
 use Rattle.csv.specs.Machine.{next_record}
@@ -17,8 +16,6 @@ use Rattle.gc_texts.specs.declared.name.Name.{Name}
 use Rattle.gc_texts.specs.declared.tasks.Task.{Task}
 use Rattle.gc_rows.specs.Records as rows
 use Rattle.gc_rows.specs.Rows.{row_of}
-use Rattle.gc_rows.specs.declared.record.Form.{Form}
-use Rattle.gc_rows.specs.declared.record.Form.TheVariants.{Csv, Columns}
 use Rattle.gc_links.specs.Acts.{Act}
 use Rattle.gc_station.specs.Answers.{answer_of}
 use Rattle.gc_station.specs.Model.{opening}
@@ -35,23 +32,15 @@ use Rattle.gc_field.specs.Beginnings.{Run}
 use Rattle.gc_field.specs.Instrument.{IsAnInstrument, AnyState}
 use Rattle.gc_field.specs.Runs.{IsInField, IsItsOwn}
 use Rattle.gc_field.specs.Shown.{Stretch, stretches}
-
--- the form of a table, with a column for each quantity or without
-abbrev pub table : Bool → Form
-table false = Csv
-table true = Columns
-
--- the field that stands under a name, in a row whose fields stand under these names; none where there is no such name
-abbrev pub under : List ℕ → List (List ℕ) → List (List ℕ) → List ℕ
-under name [] fields = []
-under name (n ∷ names) [] = []
-under name (n ∷ names) (field ∷ fields) = if pointwise nat_eq n name then field else under name names fields
+use Rattle.gc_promise.specs.Fields.{under}
+use Rattle.gc_promise.specs.Tables.{table}
 
 -- the field of a row in one of the first thirteen columns
 abbrev pub column : List ℕ → List (List ℕ) → List ℕ
 column name fields = under name rows.names fields
 
--- what the fields of a row say of the record, and of the line of its reply
+-- the fields of a row say the record's cycle, place, target, procedure and outcome, and the codes and parameters of the line of
+-- its reply
 pub record Says (fields : List (List ℕ)) (r : Record) (line : List ℕ) : Type 0 where
   pub cycle : column (codes "cycle") fields ≡ decimal r.cycle
   pub place : column (codes "place") fields ≡ decimal r.place
@@ -65,8 +54,9 @@ pub record Says (fields : List (List ℕ)) (r : Record) (line : List ℕ) : Type
   pub values : column (codes "values") fields ≡ reply.params
 
 module _ {State : Type 0} (ends : Ends State) (Good : State → Type 0) (kept : State → Option KeptReply) where
-  -- a row in a table: a reader of comma-separated values gives it back as its fields, whatever stands behind it; these say what the line of the
-  -- record's reply says; and that line was made by the instrument on executing the request of the record's cycle and place
+  -- the row of a record in a table is its own: a reader of comma-separated values gives it back as its fields, whatever stands
+  -- behind it; the fields say what the line of the record's reply says; and that line was made by the instrument on executing
+  -- the request of the record's cycle and place
   pub record IsRowOwn (layout : Layout) (names : List Name) (commands : List Task) (ps : List Part) (ss : List (Stretch State)) (r : Record) (line : List ℕ) : Type 0 where
     pub fields : List (List ℕ)
     pub row : text_in layout names r ≡ row_of fields
@@ -74,12 +64,12 @@ module _ {State : Type 0} (ends : Ends State) (Good : State → Type 0) (kept : 
     pub says : Says fields r line
     pub own : IsItsOwn ends Good kept commands ps ss r line
 
-  -- a record, where it is an answer
+  -- where the record is an answer, its row is its own
   abbrev pub IsOwnRow : Layout → List Name → List Task → List Part → List (Stretch State) → Record → Type 0
   IsOwnRow layout names commands ps ss r = (line : List ℕ) → answer_of r.end ≡ Some line → IsRowOwn layout names commands ps ss r line
 
--- for any instrument, every layout of a table, all names of targets, every plan, all commands, every run of the station, and all that the line
--- and the instrument may do meanwhile
+-- the row of each record that is an answer is its own: for any instrument, every layout of a table, all names of targets, every plan, all
+-- commands, every run of the station, and all that the line and the instrument may do meanwhile
 abbrev pub RowsAreTheirOwn : Type 0 → Type 0
 RowsAreTheirOwn State =
     (ends : Ends State) (kept : State → Option KeptReply) → IsAnInstrument ends AnyState kept →

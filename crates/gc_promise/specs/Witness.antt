@@ -1,28 +1,94 @@
--- A run in the field with a row of an answer: all that is asked in the law on rows holds of it at once.
-use Rattle.std.specs.Prelude.{[], pos, Some, true}
-use Rattle.gc_catalogue.specs.declared.answer.Answer.TheVariants.{Long}
-use Rattle.gc_catalogue.specs.declared.call.Call.TheVariants.{InstrumentNo}
-use Rattle.gc_texts.specs.Endings as end
-use Rattle.gc_rows.specs.declared.record.Form.TheVariants.{Csv}
+-- A run in the field with rows of answers: all that is asked in the law on rows holds of it at once.
+use Rattle.std.specs.Prelude.{◌≡◌, ℕ, Bool, true, false, List, [], Some, None, Ok, codes}
+use Rattle.gc_catalogue.specs.declared.answer.Reading.{Reading}
+use Rattle.gc_catalogue.specs.declared.call.Call.{Call}
+use Rattle.gc_rows.specs.declared.record.Form.{Form}
+use Rattle.gc_rows.specs.declared.record.Form.TheVariants.{Csv, Json}
+use Rattle.gc_links.specs.Acts.{Act}
+use Rattle.gc_station.specs.Keeping.{Turn}
 use Rattle.gc_station.specs.Model.{opening}
 use Rattle.gc_station.specs.Parts.{parts_of}
-use Rattle.gc_station.specs.Records.{Record}
+use Rattle.gc_station.specs.Records.{Record, texts_of}
+use Rattle.gc_station.specs.Scopes.{ForReadings}
 use Rattle.gc_words.specs.declared.layout.Layout.{Layout}
-use Rattle.gc_field.specs.Drifting.{IsAnsweredByDrifting, acts, answer, commands, drifting, plan, runs, scope}
-use Rattle.gc_field.specs.Begin.{none_under_way}
+use Rattle.gc_measuring.specs.Measuring.{Course, Places, RunsBehind, text_in}
 use Rattle.gc_field.specs.Instrument.{AnyState, nothing}
 use Rattle.gc_field.specs.Shown.{stretches}
+use Rattle.gc_promise.specs.Eventful.{IsEventful, acts, before, commands, plan, records, reporting, runs, scope, tally}
+use Rattle.gc_promise.specs.Eventful.{chained_record, elsewhere, elsewhere_record, empty, measured, number_record, numbered, pointed, points_record, unreadable_record}
 use Rattle.gc_promise.specs.Rows.{IsRowOwn}
+use Rattle.gc_promise.specs.Objects.{AreOwnObjects}
+use Rattle.gc_promise.specs.Tables.{IsOwnTable, table}
 
--- a table behind a header
+-- records in this form, with no header in front of them, of a run that began at moment 0
+abbrev pub layout_in : Form → Layout
+layout_in form = record { form = form; headed = true; run = 0 }
+
+-- a table whose header stands already
 abbrev pub in_a_table : Layout
-in_a_table = record { form = Csv; headed = true; run = 200 }
+in_a_table = layout_in Csv
 
--- the second of the run's two records
-abbrev pub answered : Record
-answered = record { sent = Some 320; utc = 360; cycle = 1; place = 1; command = record { target = 8; call = InstrumentNo }; end = end.Answered (Some (Long (pos 31))) answer }
+-- the row of command 0 in the third cycle, in `in_a_table`
+abbrev pub points_row : List ℕ
+points_row = codes "1970-01-01T00:00:00.000Z,1970-01-01T00:00:00.385Z,1970-01-01T00:00:00.390Z,3,0,7,,9027,answered,,0,0,\n"
 
--- it is a run in the field, over an instrument that changes by itself; and the row of its answer is its own
+-- the row of command 1 in the third cycle, in `in_a_table`
+abbrev pub chained_row : List ℕ
+chained_row = codes "1970-01-01T00:00:00.000Z,1970-01-01T00:00:00.390Z,1970-01-01T00:00:00.415Z,3,1,7,,2108,answered,,0,0,\"2.25,1.625,110.0625\"\n"
+
+-- the row of command 2 in the third cycle, in `in_a_table`
+abbrev pub elsewhere_row : List ℕ
+elsewhere_row = codes "1970-01-01T00:00:00.000Z,1970-01-01T00:00:00.390Z,1970-01-01T00:00:00.415Z,3,2,8,,2108,elsewhere,,0,0,\"0.5,1.5,87.25\"\n"
+
+-- the row of command 3 in the third cycle, in `in_a_table`
+abbrev pub number_row : List ℕ
+number_row = codes "1970-01-01T00:00:00.000Z,1970-01-01T00:00:00.390Z,1970-01-01T00:00:00.415Z,3,3,1,,5003,answered,,0,0,31\n"
+
+-- the row of command 4 in the third cycle, in `in_a_table`
+abbrev pub unreadable_row : List ℕ
+unreadable_row = codes "1970-01-01T00:00:00.000Z,1970-01-01T00:00:00.390Z,1970-01-01T00:00:00.415Z,3,4,2,,5003,unreadable,15,0,0,\n"
+
+-- the run as a station measures it: its commands by its plan, written in this form
+abbrev pub course : Form → Course
+course form = record { plan = plan; tasks = commands; turns = 200; layout = layout_in form; names = [] }
+
+-- what a sink takes of that run
+abbrev pub taken : Form → List ℕ
+taken form = texts_of (text_in (layout_in form) []) records
+
+-- what is seen of the ports of a station whose link told these acts, whose sink took these bytes, and with this seen at each act
+abbrev pub places : List Act → List ℕ → List Turn → Places
+places told taken turns =
+    record { input = record { remaining = None; reads = 0; ended = true; failed = false }; acts = Some told; taken = Some taken; messages = None; turns = turns }
+
+module _ (reads : Call → List ℕ → Reading) where
+  -- the row of a record is this text, and its own, with this line as its reply
+  abbrev pub IsOwn : Record → List ℕ → List ℕ → Type 0
+  IsOwn r row line =
+      (text_in in_a_table [] r ≡ row)
+      × IsRowOwn reporting AnyState nothing in_a_table [] commands (parts_of plan commands (opening plan (scope reads)) acts)
+      (stretches reporting before runs) r line
+
+  -- the run is eventful, and the row of each command that a reply in time settled is its own: of both commands of the chain, of the one that
+  -- was measured elsewhere, of a number, and of one whose values don't read
+  pub record HasOwnRows : Type 0 where
+    pub run : IsEventful reads
+    pub points : IsOwn points_record points_row pointed
+    pub chained : IsOwn chained_record chained_row measured
+    pub elsewhere : IsOwn elsewhere_record elsewhere_row elsewhere
+    pub number : IsOwn number_record number_row numbered
+    pub unreadable : IsOwn unreadable_record unreadable_row empty
+    -- and so is the table that its sink took, with a column for each quantity or without
+    pub tables : (columns : Bool)
+        → IsOwnTable reporting AnyState nothing (course (table columns)) columns reads acts (parts_of plan commands (opening plan (scope reads)) acts) (stretches reporting before runs)
+        (Ok tally) [] (Some (taken (table columns)))
+    -- and so are its lines of JSON
+    pub objects :
+        AreOwnObjects reporting AnyState nothing (course Json) reads acts (parts_of plan commands (opening plan (scope reads)) acts) (stretches reporting before runs)
+        (Ok tally) [] (Some (taken Json))
+
+-- `HasOwnRows` holds for every function that gives what each reply says of its call, and there is such a function. In each form
+-- the run is one as a station's contract has it: its link told these acts, and its sink took the texts of its records
 pub record SomeRowIsItsOwn : Type 0 where
-  pub run : IsAnsweredByDrifting
-  pub row : IsRowOwn drifting AnyState nothing in_a_table [] commands (parts_of plan commands (opening plan scope) acts) (stretches drifting (none_under_way 5) runs) answered answer
+  pub own : ForReadings HasOwnRows
+  pub measured : (form : Form) → (turns : List Turn) × RunsBehind (course form) (places [] [] []) (places acts (taken form) turns) (Ok tally)

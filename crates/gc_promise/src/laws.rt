@@ -1,17 +1,57 @@
 //! What is proved of the rows of a station in the field. The functions have no effect: their contracts are the laws.
 
+ghost use Rattle.gc_promise.specs.Lasting.{AppendsAreRuns, RowsOutlastCrashes, RowsOutlastFailures};
 ghost use Rattle.gc_promise.specs.Rows.{RowsAreTheirOwn};
+ghost use Rattle.gc_promise.specs.Tables.{TablesAreTheirOwn};
+ghost use Rattle.gc_promise.specs.Objects.{ObjectsAreTheirOwn};
 ghost use Rattle.gc_promise.specs.Witness.{SomeRowIsItsOwn};
 
-/// For any instrument, every run of a station in the field, and each of its records that is an answer: its row in a table reads back as
-/// fields, under whose names stand the record's cycle, place, target and procedure, and the codes and values of a reply's line. That line
-/// was made by the instrument on executing the request of that record's very cycle and place.
+use gc_lines::{Sink, Source};
+use gc_messages::Followed;
+use std::fs::File;
+use std::rt::Files;
+
+/// For any instrument, and every run of a station in the field: a row of an answer has in its columns what a reply's line says, and the
+/// instrument made that line on executing the request of that row's very cycle and place.
 pub fn rows_are_their_own<State>()
-    ensures { RowsAreTheirOwn State }
+    // Of the bytes that a sink took of a run, as `measure_at` and `append_at` have it: a reader of comma-separated values gives the header, and
+    // the run's records as rows, one for one and in order. Under the names of the header each row has its record's cycle, place, target,
+    // procedure and outcome. Where the outcome is that of a reply, it has the codes, the values and the quantities of such a line.
+    ensures tables { TablesAreTheirOwn State }
+
+    // The same of lines of JSON: a reader of JSON gives each line as an object, whose members have under these names what a row has.
+    ensures objects { ObjectsAreTheirOwn State }
+
+    // Of each record of a run that is an answer, however much of it was written: its row in a table reads back as fields, under whose names
+    // stand the record's cycle, place, target and procedure, and the codes and values of such a line.
+    ensures records { RowsAreTheirOwn State }
 {}
 
-/// Some row is: of a run that meets all that the law asks for, with two commands, a beginning that goes on over a second connection, a
-/// lost reply, a request that is given up, a start of the instrument, which changes by itself, and a third connection.
+/// Some run meets all that the law asks for, with every function that gives what replies say, and rows of it are their own. Its beginning
+/// goes on over a second connection, among lines of before. In one cycle the reply to the first command of a chain is lost and its request
+/// given up, so the second command is skipped; then seven requests are given up, a dead line is connected again, and the station begins
+/// anew, with requests and a reply of before under way. One cycle is missed. In another both commands of the chain are answered, the
+/// instrument, which changes by itself, starts anew, a request is cut, and a fifth connection is made. Commands end in each of the seven
+/// ways. The rows of the five that have a reply in time are written out, and are their own. In each form the run is one as the contract of
+/// `measure_at` has it.
 pub fn some_row_is_its_own()
     ensures { SomeRowIsItsOwn }
+{}
+
+/// What clause `told` of `append_at` says of the file that it hands back is a run as the next two laws speak of; or no act was made.
+pub fn appends_are_runs_of_files<'a, S: Source, K, E, R: Files<File = File> + 'a>()
+    ensures { AppendsAreRuns S.Source ⟦<Followed<'a, R> as Sink>⟧ K E }
+{}
+
+/// Where a run that appends to a file with `sync` is killed at any moment, or the machine crashes, the next start makes of the file the table
+/// that was there before, rows of earlier runs, and behind them each row that the acts before this run's last act settled. Further rows may
+/// follow, but none that isn't the run's.
+pub fn rows_outlast_crashes<R>()
+    ensures { RowsOutlastCrashes R }
+{}
+
+/// What `rows_outlast_crashes` says holds also where a sync of the run fails, in a file that wasn't in doubt before, and whatever happens
+/// to the file after that.
+pub fn rows_outlast_failures<R>()
+    ensures { RowsOutlastFailures R }
 {}

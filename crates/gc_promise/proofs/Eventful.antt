@@ -1,0 +1,288 @@
+-- The eventful run, computed. What replies say is a variable here: of the five replies that answer commands `patched` says it, and no other is asked.
+use Rattle.std.proofs.Common.{◌≡◌, inl, inr, ℕ, zero, suc, List, [], ◌∷◌, ◌++◌, Option, Some, None, true, false, refl, sym, subst, ap, arith, lit<}
+use Rattle.std.specs.Prelude.{codes, map, option_map, take, drop}
+use Rattle.std.specs.Fmt.{digits}
+use Rattle.gc_lines.specs.Readers.{header_at, reply_at}
+use Rattle.gc_lines.proofs.Written.{reply_back}
+use Rattle.gc_values.specs.Decimals.{rounded}
+use Rattle.gc_values.specs.Directions.{is_near}
+use Rattle.gc_catalogue.specs.declared.answer.Reading.{Reading}
+use Rattle.gc_catalogue.specs.declared.call.Call.{Call}
+use Rattle.gc_client.specs.Beginning.{IsSubsequence, the_word}
+use Rattle.gc_client.specs.OneForOne.{Step}
+use Rattle.gc_client.specs.Rule.{ById, id_in}
+use Rattle.gc_client.specs.declared.window.TheConstants.{WINDOW}
+use Rattle.gc_texts.specs.Nears.{is_elsewhere}
+use Rattle.gc_links.specs.Acts.{Act, Told}
+use Rattle.gc_station.specs.Beginnings.{IsAnew}
+use Rattle.gc_station.specs.Links.{AreChained}
+use Rattle.gc_station.specs.Model.{Runs, near_first, opening}
+use Rattle.gc_station.specs.Parts as part
+use Rattle.gc_station.specs.Parts.{Part, nothing, parts_of}
+use Rattle.gc_station.specs.Records.{Record, texts_of}
+use Rattle.gc_station.specs.Runs.{RanTo, stood}
+use Rattle.gc_station.specs.Scopes.{AreReadings, Scope}
+use Rattle.gc_station.specs.Tallies.{none_yet, tallied}
+use Rattle.gc_station.specs.declared.cause.Cause.TheVariants.{Done}
+use Rattle.gc_world.specs.Clients.{by_ids}
+use Rattle.gc_world.specs.World.{World}
+use Rattle.gc_field.specs.Begin.{AreTurns, begins}
+use Rattle.gc_field.specs.Begun.{WasMadeOn, ids_begun}
+use Rattle.gc_field.specs.ChainWitness.{points}
+use Rattle.gc_field.specs.Field.{ArePossible, Move, moved, moves, seen}
+use Rattle.gc_field.specs.Instrument.{IsAnInstrument, AnyState}
+use Rattle.gc_field.specs.Instrument as instrument
+use Rattle.gc_field.specs.Shown.{AreShownAs, shown}
+use Rattle.gc_field.specs.Witness.{at, replies}
+use Rattle.gc_field.proofs.Witness.{asked_each, run_on, units}
+use Rattle.gc_promise.specs.Eventful.{IsEventful, acts, anew_acts, anew_turns, before, begins_acts, begins_turns, breaks_acts, breaks_moves}
+use Rattle.gc_promise.specs.Eventful.{chain_acts, chain_moves, commands, first_stretch, front, last_stretch, left, plan, pointed, records, reporting, runs, scope, tally}
+use Rattle.gc_promise.proofs.TrueReadings.{patched, patched_same}
+
+true_is_not : true ≡ false → ⊥
+true_is_not e = cc
+
+-- `reporting` is an instrument
+is : IsAnInstrument reporting AnyState instrument.nothing
+is =
+    record {
+      hears = λ line. refl;
+      replies = λ s id call good small. ap id_in (reply_back (record { rc_com = 0; id = Some id; rc = 0; params = s }) (record { rc_com = lit< tt; id = small; rc = lit< tt }));
+      repeats = λ s id call good small not. absurd (true_is_not not);
+      keeps = λ s id call good small. inl refl;
+      starts = λ s good. inl refl;
+      stays_good = λ s id call good small. tt;
+      starts_good = λ s good. tt;
+    }
+
+-- What the station sees of the line.
+
+-- what the turns of the first beginning show to the station
+abbrev begins_shown : List part.Turn
+begins_shown = part.Asks ∷ part.Hears (codes "%R1Q,0,6:") ∷ part.Hears (codes "%R1P,0,0:0,4") ∷ asked_each replies
+
+-- what the turns of the second beginning show to the station
+abbrev anew_shown : List part.Turn
+anew_shown =
+    part.Asks
+    ∷ part.Hears (codes "%R1P,0,2:0,27")
+    ∷ part.Hears (codes "%R1P,0,6:0,27")
+    ∷ part.Asks
+    ∷ part.Hears (codes "%R1P,0,0:0")
+    ∷ part.Hears (codes "%R1P,0,6:0")
+    ∷ part.Hears (codes "%R1P,0,5:0")
+    ∷ part.Asks
+    ∷ asked_each (drop 2 replies)
+
+-- a part with requests of this cycle: each request by the place of its command and the moment at which it went out, and a null
+-- procedure by none
+abbrev part_of_cycle : ℕ → List part.Turn → List Step → List (Option (ℕ × ℕ)) → Part
+part_of_cycle cycle turns steps sent =
+    record { turns = turns; steps = steps; marks = map (option_map (λ x. record { cycle = cycle; place = x.0; sent = x.1; near = near_first (drop x.0 commands) })) sent }
+
+-- the parts of the run: until it begins anew, from there on, and behind its end
+abbrev all_parts : List Part
+all_parts =
+    part_of_cycle 1 begins_shown (seen breaks_moves) (Some (0, 40) ∷ None ∷ (map (λ place. Some (place, 95)) (2 ∷ 3 ∷ 4 ∷ 5 ∷ 6 ∷ []) ++ None ∷ None ∷ []))
+    ∷ part_of_cycle 3 anew_shown (seen chain_moves) (Some (0, 385) ∷ (map (λ place. Some (place, 390)) (1 ∷ 2 ∷ 3 ∷ 4 ∷ 5 ∷ 6 ∷ []) ++ None ∷ []))
+    ∷ nothing
+    ∷ []
+
+-- the turns of both beginnings show these
+begins_are : shown reporting begins_turns (begins before) ≡ begins_shown
+unfolding is_elsewhere is_near header_at reply_at digits rounded
+begins_are = refl
+
+anew_are : shown reporting anew_turns (begins left) ≡ anew_shown
+unfolding is_elsewhere is_near header_at reply_at digits rounded
+anew_are = refl
+
+-- What happens on the line is possible.
+
+-- the turns of the first beginning are possible
+begins_possible : AreTurns reporting AnyState instrument.nothing begins_turns (begins before)
+unfolding is_elsewhere is_near header_at reply_at digits rounded
+begins_possible = (tt, (refl, (tt, (tt, (tt, (tt, (tt, (tt, (tt, (tt, (tt, (tt, ((tt, refl), units 24)))))))))))))
+
+-- the turns of the second beginning are possible
+anew_possible : AreTurns reporting AnyState instrument.nothing anew_turns (begins left)
+unfolding is_elsewhere is_near header_at reply_at digits rounded
+anew_possible = (tt, (tt, (tt, (tt, (tt, ((tt, refl), units 26))))))
+
+abbrev PossibleFrom : World ById (List ℕ) → List (Move (List ℕ)) → Type 0
+PossibleFrom w ms = ArePossible reporting AnyState instrument.nothing (by_ids WINDOW reporting) ms w
+
+-- possible moves, with moves behind them that are possible in the world that they leave, are possible as one list
+possible_on : (w : World ById (List ℕ)) (earlier later : List (Move (List ℕ))) → PossibleFrom w earlier → PossibleFrom (moved reporting (by_ids WINDOW reporting) earlier w) later
+    → PossibleFrom w (earlier ++ later)
+possible_on w [] later h g = g
+possible_on w (m ∷ earlier) later h g = (h.0, possible_on (moves reporting (by_ids WINDOW reporting) w m) earlier later h.1 g)
+
+-- the moves of the first cycle are possible
+breaks_possible : PossibleFrom (ids_begun first_stretch.from) breaks_moves
+unfolding is_elsewhere is_near header_at reply_at digits rounded
+breaks_possible = (tt, (tt, (tt, (tt, (tt, (tt, (tt, (tt, (tt, (tt, ((9, _, refl), (tt, ((tt, refl), units 28)))))))))))))
+
+-- the moves of the third cycle are possible
+chain_possible : PossibleFrom (ids_begun last_stretch.from) chain_moves
+unfolding is_elsewhere is_near header_at reply_at digits rounded
+chain_possible =
+    possible_on (ids_begun last_stretch.from) (take 27 chain_moves) (drop 27 chain_moves)
+    (tt, (tt, (tt, (tt, (tt, (tt, (tt, (tt, (tt, (tt, (tt, (tt, (tt, (tt, (tt, ((8, _, refl), units 11))))))))))))))))
+    (possible_on (moved reporting (by_ids WINDOW reporting) (take 27 chain_moves) (ids_begun last_stretch.from)) (take 16 (drop 27 chain_moves)) (drop 43 chain_moves)
+    ((tt, refl), (tt, ((tt, refl), (tt, ((tt, refl), (tt, (tt, (tt, (tt, (tt, (tt, (tt, (tt, (tt, (refl, ((8, _, refl), tt))))))))))))))))
+    ((9, _, refl), ((10, _, refl), ((11, _, refl), ((11, _, refl), ((12, _, refl), (tt, (tt, (tt, ((tt, refl), (tt, (tt, (tt, (tt, ((13, _, refl), ((15, _, refl), tt))))))))))))))))
+
+-- The word isn't a subsequence of the ids under way at the start, which are two zeros.
+
+-- two equal numbers aren't 6 and 0
+six : (n m : ℕ) → n ≡ m → n ≡ 6 → m ≡ 0 → ⊥
+six n m e a b = omega (arith, e, a, b)
+
+-- the word isn't a subsequence of two ids 0
+none_here : IsSubsequence the_word (0 ∷ 0 ∷ []) → ⊥
+none_here (inl h) = six 6 0 h.0 refl refl
+none_here (inr (inl h)) = six 6 0 h.0 refl refl
+none_here (inr (inr h)) = h
+
+-- What the run shows.
+
+-- command 1 is chained to command 0
+chained : AreChained commands 0 1
+chained zero above upto = absurd (omega (arith, above))
+chained (suc zero) above upto = refl
+chained (suc (suc p)) above upto = absurd (omega (arith, upto))
+
+-- the request of command 0 is the client's first one, and reaches the instrument at the fourth move
+made : WasMadeOn WINDOW reporting first_stretch.from breaks_moves 8 points pointed
+unfolding is_elsewhere is_near header_at reply_at digits rounded
+made = record { front = take 3 breaks_moves; later = drop 4 breaks_moves; split = refl; id = 0; rest = []; reaches = refl; executed = refl; reply = refl }
+
+-- The station's part.
+
+module _ (reads : Call → List ℕ → Reading) where
+  -- the scope in which `patched` says what replies say
+  abbrev told : Scope
+  told = scope (patched reads)
+
+  -- behind the earlier acts, the later ones are a run
+  abbrev RunsBehind : List Act → List Act → Type 0
+  RunsBehind earlier later = Runs plan commands (stood plan commands told earlier) later
+
+  -- behind the acts in front of them, the acts of each stretch are a run
+  begins_runs : RunsBehind [] (take 16 begins_acts)
+  unfolding is_elsewhere is_near header_at reply_at digits rounded
+  begins_runs = (tt, (tt, (tt, (tt, (refl, (tt, (refl, (tt, (tt, (tt, (refl, (tt, (tt, (tt, (refl, (tt, tt))))))))))))))))
+
+  -- behind these, the acts by which all eight null procedures are answered are a run
+  answers_eight : RunsBehind (take 16 begins_acts) (drop 16 begins_acts)
+  unfolding is_elsewhere is_near header_at reply_at digits rounded
+  answers_eight =
+      (refl, (tt, (tt, (refl, (tt, (tt, (refl, (tt, (tt, (refl, (tt, (tt, (refl, (tt, (tt, (refl, (tt, (tt, (refl, (tt, (tt, (refl, (tt, (tt, tt))))))))))))))))))))))))
+
+  -- behind the beginning, the acts until command 1 is skipped are a run
+  breaks_runs : RunsBehind begins_acts (take 8 breaks_acts)
+  unfolding is_elsewhere is_near header_at reply_at digits rounded
+  breaks_runs = (tt, (refl, (tt, (tt, (refl, (tt, (tt, (tt, tt))))))))
+
+  -- behind these, the acts until seven requests are given up are a run
+  gives_up_runs : RunsBehind (begins_acts ++ take 8 breaks_acts) (drop 8 breaks_acts)
+  unfolding is_elsewhere is_near header_at reply_at digits rounded
+  gives_up_runs =
+      (refl, (tt, (refl, (tt, (refl, (tt, (refl, (tt, (refl, (tt, (tt, (refl, (tt, (tt, (refl, (tt, (tt, (refl, (tt, (tt, (tt, (refl, (tt, (tt, (tt, tt)))))))))))))))))))))))))
+
+  -- behind these, the acts from there on, up to the fourth connection, are a run
+  anew_runs : RunsBehind front (take 16 anew_acts)
+  unfolding is_elsewhere is_near header_at reply_at digits rounded
+  anew_runs = (tt, (refl, (tt, (tt, (refl, (tt, (tt, (refl, (tt, (tt, (refl, (tt, (tt, (tt, (refl, (tt, tt))))))))))))))))
+
+  -- behind these, the acts by which the other six null procedures are answered are a run
+  answers_six : RunsBehind (front ++ take 16 anew_acts) (drop 16 anew_acts)
+  unfolding is_elsewhere is_near header_at reply_at digits rounded
+  answers_six = (refl, (tt, (tt, (refl, (tt, (tt, (refl, (tt, (tt, (refl, (tt, (tt, (refl, (tt, (tt, (refl, (tt, (tt, tt))))))))))))))))))
+
+  -- behind these, the acts by which the second cycle is missed and the third begins are a run
+  misses_runs : RunsBehind (front ++ anew_acts) (take 9 chain_acts)
+  unfolding is_elsewhere is_near header_at reply_at digits rounded
+  misses_runs = (tt, (tt, (tt, (tt, (tt, (tt, (tt, (tt, (tt, tt)))))))))
+
+  -- behind these, the acts of the third cycle until its connection is closed are a run
+  answers_runs : RunsBehind (front ++ (anew_acts ++ take 9 chain_acts)) (take 14 (drop 9 chain_acts))
+  unfolding is_elsewhere is_near header_at reply_at digits rounded
+  answers_runs =
+      (refl, (tt, (tt, (refl, (tt, (refl, (tt, (refl, (tt, (refl, (tt, (refl, (tt, ((refl, lit< tt), tt))))))))))))))
+
+  -- behind these, the acts until the end are a run
+  late_runs : RunsBehind (front ++ (anew_acts ++ take 23 chain_acts)) (drop 23 chain_acts)
+  unfolding is_elsewhere is_near header_at reply_at digits rounded
+  late_runs = (refl, (tt, (tt, (tt, (refl, (tt, (tt, (tt, (tt, (refl, (tt, (tt, (refl, tt)))))))))))))
+
+  -- all acts of the run are a run
+  pub all_run : RunsBehind [] acts
+  unfolding is_elsewhere is_near header_at reply_at digits rounded
+  all_run =
+      run_on plan commands (opening plan told) front (anew_acts ++ chain_acts)
+      (run_on plan commands (opening plan told) begins_acts breaks_acts
+      (run_on plan commands (opening plan told) (take 16 begins_acts) (drop 16 begins_acts) begins_runs answers_eight)
+      (run_on plan commands (stood plan commands told begins_acts) (take 8 breaks_acts) (drop 8 breaks_acts) breaks_runs gives_up_runs))
+      (run_on plan commands (stood plan commands told front) anew_acts chain_acts
+      (run_on plan commands (stood plan commands told front) (take 16 anew_acts) (drop 16 anew_acts) anew_runs answers_six)
+      (run_on plan commands (stood plan commands told (front ++ anew_acts)) (take 9 chain_acts) (drop 9 chain_acts) misses_runs
+      (run_on plan commands (stood plan commands told (front ++ (anew_acts ++ take 9 chain_acts))) (take 14 (drop 9 chain_acts)) (drop 23 chain_acts) answers_runs late_runs)))
+
+  -- the parts of the run are these
+  parts_are : parts_of plan commands (opening plan told) acts ≡ all_parts
+  unfolding is_elsewhere is_near header_at reply_at digits rounded
+  parts_are = refl
+
+  -- the records of the run are these
+  written : (stood plan commands told acts).records ≡ records
+  unfolding is_elsewhere is_near header_at reply_at digits rounded
+  written = refl
+
+  -- the station begins anew where seven requests are given up
+  begins_anew : IsAnew plan commands told front (Told (at 345))
+  unfolding is_elsewhere is_near header_at reply_at digits rounded
+  begins_anew = record { renews = refl; moment = at 345; told = refl; seven = refl; given_up = refl; word = refl; client = refl }
+
+  -- with the patched readings the run is eventful
+  computed : IsEventful (patched reads)
+  unfolding is_elsewhere is_near header_at reply_at digits rounded
+  computed =
+      record {
+        is = is;
+        field =
+            record {
+              runs = all_run;
+              lines = record { ids = (lit< tt, tt); good = tt };
+              none = none_here;
+              shown = subst (AreShownAs reporting before runs) (sym parts_are) (begins_are, refl, (anew_are, refl, (refl, refl, tt)));
+              possible = ((begins_possible, breaks_possible), ((anew_possible, chain_possible), ((tt, refl), tt)));
+            };
+        over = refl;
+        written = written;
+        counted = refl;
+        chained = chained;
+        made = made;
+        begins_anew = begins_anew;
+        up = refl;
+        down = refl;
+        starts = refl;
+        connected = refl;
+      }
+
+  -- with the patched readings it is a whole run, which ends as done with this tally, and whose records have these texts
+  computed_run : (text : Record → List ℕ) → RanTo plan commands (scope (patched reads)) text (Some []) (Some acts) (Some []) (Some (texts_of text records)) Done tally
+  unfolding is_elsewhere is_near header_at reply_at digits rounded
+  computed_run text =
+      record { acts = acts; tells = refl; runs = all_run; stops = refl; took = ap (texts_of text) (sym written); counts = ap (tallied none_yet) (sym written) }
+
+-- the run is eventful with every function that gives what replies say
+pub eventful : (reads : Call → List ℕ → Reading) → AreReadings reads → IsEventful reads
+eventful reads are = subst IsEventful (patched_same reads are) (computed reads)
+
+-- with every function that gives what replies say it is a whole run, which ends as done with this tally, and whose records have these texts
+pub ran_whole : (text : Record → List ℕ) (reads : Call → List ℕ → Reading) → AreReadings reads
+    → RanTo plan commands (scope reads) text (Some []) (Some acts) (Some []) (Some (texts_of text records)) Done tally
+ran_whole text reads are =
+    subst (λ r. RanTo plan commands (scope r) text (Some []) (Some acts) (Some []) (Some (texts_of text records)) Done tally) (patched_same reads are) (computed_run reads text)

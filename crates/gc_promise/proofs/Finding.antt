@@ -1,0 +1,458 @@
+-- What each member of an object has that was written of a record.
+use Rattle.std.proofs.Common.{◌≡◌, ℕ, ℤ, ◌==◌, Bool, true, false, cond, List, [], ◌∷◌, ◌++◌, Option, Some, None, refl, sym, ap, ◌∙◌, subst, arith}
+use Rattle.std.specs.Prelude.{codes, nat_eq, slice_get}
+use Rattle.std.specs.Cmp.Lexicographic.{pointwise}
+use Rattle.std.specs.Fmt.{decimal}
+use Rattle.std.specs.List.{AllByRecursion}
+use Rattle.std.specs.Str.{bytes_eq}
+use Rattle.std.proofs.lemmas.Bool.{cond_both, eqb-true}
+use Rattle.std.proofs.lemmas.Grind.{flat_map-append}
+use Rattle.json.specs.Find.{get_member, later_or}
+use Rattle.json.specs.Json as json
+use Rattle.gc_lines.specs.Numbers.{IsNumber}
+use Rattle.gc_values.specs.Digits.{AreDigits}
+use Rattle.gc_values.specs.Whole.{signed_text}
+use Rattle.gc_values.specs.Written.{written}
+use Rattle.gc_values.specs.WrittenForm.{HasDecimalForm, HasWholeForm, minus_where}
+use Rattle.gc_values.specs.declared.decimal.Decimal.{Decimal}
+use Rattle.gc_values.specs.declared.value.Value.TheVariants as value
+use Rattle.gc_values.proofs.OneText.{whole_text_once, decimal_text_once}
+use Rattle.gc_catalogue.specs.Answers.{answer_fields, IsAnswerOf}
+use Rattle.gc_catalogue.specs.Calls.{call_fields}
+use Rattle.gc_catalogue.specs.declared.answer.Answer.{Answer}
+use Rattle.gc_catalogue.specs.declared.answer.Answer.TheVariants.{Nothing, Short, Version, Long, Name, Date, Temperature, Place, Height, Angles, Measured, MeasuredMode}
+use Rattle.gc_catalogue.specs.declared.answer.Reading.TheVariants.{Value as Answers}
+use Rattle.gc_catalogue.specs.declared.call.Call.{Call}
+use Rattle.gc_catalogue.specs.declared.call.Call.TheVariants.{GetFace, GetPrism}
+use Rattle.gc_texts.specs.Endings.{End, Answered, Unreadable, Elsewhere, Late, Lost, Skipped, Missed, word_of, line_of}
+use Rattle.gc_texts.specs.Logs.{escape, escaped}
+use Rattle.gc_texts.specs.Stamps.{stamp_text}
+use Rattle.gc_texts.specs.declared.commands.Command.{Command}
+use Rattle.gc_rows.specs.JsonLines.{Member, Text, Number, ending_members, json_members, quantity_members, sent_members, values_members, what_members, when_members, without_zeros}
+use Rattle.gc_rows.specs.Laws.{members_read, record_read}
+use Rattle.gc_rows.specs.Quantities.{column_of, quantity_names, quantity_text}
+use Rattle.gc_rows.specs.Rows.{code_of, com_of, values_of}
+use Rattle.gc_rows.specs.Told.{names_from}
+use Rattle.gc_rows.specs.declared.when.When.{When}
+use Rattle.gc_rows.proofs.Told.{have_their_names}
+use Rattle.gc_promise.specs.Fields.{quantity_in, under}
+use Rattle.gc_promise.specs.Objects.{text_of}
+use Rattle.gc_promise.proofs.Names.{all_at, texts_of, word_plain}
+use Rattle.gc_promise.proofs.Plain.{decimal_plain, digits_plain}
+
+-- Members one behind the other: the last of a name is found.
+
+-- what is found under a name among members
+abbrev find : List ℕ → List Member → Option json.Json
+find key ms = get_member key (members_read ms)
+
+later_none : (o : Option json.Json) → o ≡ later_or o None
+later_none None = refl
+later_none (Some j) = refl
+
+later_three : (a b c : Option json.Json) → later_or (later_or a b) c ≡ later_or a (later_or b c)
+later_three None b c = refl
+later_three (Some j) b c = refl
+
+-- what is found under a name among members and others behind them is found among the later ones, if it stands there, and else
+-- among the first
+find_both : (key : List ℕ) (xs ys : List Member) → find key (xs ++ ys) ≡ later_or (find key ys) (find key xs)
+find_both key [] ys = later_none (find key ys)
+find_both key (Text name bytes ∷ xs) ys =
+    let this = cond (bytes_eq name key) (Some (json.string (escaped bytes))) None in
+    ap (λ (o : Option json.Json). later_or o this) (find_both key xs ys) ∙ later_three (find key ys) (find key xs) this
+find_both key (Number name digits ∷ xs) ys =
+    let this = cond (bytes_eq name key) (Some (json.number digits)) None in
+    ap (λ (o : Option json.Json). later_or o this) (find_both key xs ys) ∙ later_three (find key ys) (find key xs) this
+
+-- Which names the parts of a record's members have.
+
+-- no member has one of these names
+abbrev LacksAll : List Member → List (List ℕ) → Type 0
+LacksAll ms keys = AllByRecursion (λ (key : List ℕ). find key ms ≡ None) keys
+
+-- the names of members of a record that aren't quantities
+abbrev firsts : List (List ℕ)
+firsts = codes "cycle" ∷ codes "place" ∷ codes "target" ∷ codes "procedure" ∷ codes "outcome" ∷ codes "rc_com" ∷ codes "rc" ∷ codes "values" ∷ []
+
+-- no quantity of this answer has one of these names
+abbrev IsApart : Call → Answer → List ℕ → Type 0
+IsApart call answer came = LacksAll (values_members (column_of call answer) (answer_fields answer).values came) firsts
+
+-- a whole number's quantity has none of these names
+long_apart : (call : Call) (n : ℤ) (came : List ℕ) → IsApart call (Long n) came
+long_apart GetFace n came = (refl, (refl, (refl, (refl, (refl, (refl, (refl, (refl, tt))))))))
+long_apart GetPrism n came = (refl, (refl, (refl, (refl, (refl, (refl, (refl, (refl, tt))))))))
+long_apart call n came = (refl, (refl, (refl, (refl, (refl, (refl, (refl, (refl, tt))))))))
+
+-- an answer's quantities have none of these names
+answer_apart : (call : Call) (answer : Answer) (came : List ℕ) → IsApart call answer came
+answer_apart call Nothing came = (refl, (refl, (refl, (refl, (refl, (refl, (refl, (refl, tt))))))))
+answer_apart call (Short n) came = (refl, (refl, (refl, (refl, (refl, (refl, (refl, (refl, tt))))))))
+answer_apart call (Version release version subversion) came = (refl, (refl, (refl, (refl, (refl, (refl, (refl, (refl, tt))))))))
+answer_apart call (Long n) came = long_apart call n came
+answer_apart call (Name name) came = (refl, (refl, (refl, (refl, (refl, (refl, (refl, (refl, tt))))))))
+answer_apart call (Date d) came = (refl, (refl, (refl, (refl, (refl, (refl, (refl, (refl, tt))))))))
+answer_apart call (Temperature t) came = (refl, (refl, (refl, (refl, (refl, (refl, (refl, (refl, tt))))))))
+answer_apart call (Place s) came = (refl, (refl, (refl, (refl, (refl, (refl, (refl, (refl, tt))))))))
+answer_apart call (Height h) came = (refl, (refl, (refl, (refl, (refl, (refl, (refl, (refl, tt))))))))
+answer_apart call (Angles hz v) came = (refl, (refl, (refl, (refl, (refl, (refl, (refl, (refl, tt))))))))
+answer_apart call (Measured hz v distance) came = (refl, (refl, (refl, (refl, (refl, (refl, (refl, (refl, tt))))))))
+answer_apart call (MeasuredMode hz v distance mode) came = (refl, (refl, (refl, (refl, (refl, (refl, (refl, (refl, tt))))))))
+
+-- no member for a quantity has one of the names of `firsts`
+quantities_apart : (call : Call) (end : End) → LacksAll (quantity_members call end) firsts
+quantities_apart call (Answered (Some answer) line) = answer_apart call answer (values_of line)
+quantities_apart call (Answered None line) = (refl, (refl, (refl, (refl, (refl, (refl, (refl, (refl, tt))))))))
+quantities_apart call (Unreadable line fault) = (refl, (refl, (refl, (refl, (refl, (refl, (refl, (refl, tt))))))))
+quantities_apart call (Elsewhere line) = (refl, (refl, (refl, (refl, (refl, (refl, (refl, (refl, tt))))))))
+quantities_apart call Late = (refl, (refl, (refl, (refl, (refl, (refl, (refl, (refl, tt))))))))
+quantities_apart call Lost = (refl, (refl, (refl, (refl, (refl, (refl, (refl, (refl, tt))))))))
+quantities_apart call Skipped = (refl, (refl, (refl, (refl, (refl, (refl, (refl, (refl, tt))))))))
+quantities_apart call Missed = (refl, (refl, (refl, (refl, (refl, (refl, (refl, (refl, tt))))))))
+
+-- the members on how a command ended have neither the first four of these names nor one of a quantity
+ending_apart : (end : End) → LacksAll (ending_members end) (codes "cycle" ∷ codes "place" ∷ codes "target" ∷ codes "procedure" ∷ [])
+ending_apart (Answered answer line) = (refl, (refl, (refl, (refl, tt))))
+ending_apart (Unreadable line fault) = (refl, (refl, (refl, (refl, tt))))
+ending_apart (Elsewhere line) = (refl, (refl, (refl, (refl, tt))))
+ending_apart Late = (refl, (refl, (refl, (refl, tt))))
+ending_apart Lost = (refl, (refl, (refl, (refl, tt))))
+ending_apart Skipped = (refl, (refl, (refl, (refl, tt))))
+ending_apart Missed = (refl, (refl, (refl, (refl, tt))))
+
+-- no member on how a command ended has the name of a quantity
+ending_without : (end : End) → LacksAll (ending_members end) quantity_names
+ending_without (Answered answer line) =
+    (refl, (refl, (refl, (refl, (refl, (refl, (refl, (refl, (refl, (refl, (refl, (refl, (refl, (refl, (refl, (refl, (refl, (refl, (refl, (refl, (refl, (refl, (refl, (refl, tt))))))))))))))))))))))))
+ending_without (Unreadable line fault) =
+    (refl, (refl, (refl, (refl, (refl, (refl, (refl, (refl, (refl, (refl, (refl, (refl, (refl, (refl, (refl, (refl, (refl, (refl, (refl, (refl, (refl, (refl, (refl, (refl, tt))))))))))))))))))))))))
+ending_without (Elsewhere line) =
+    (refl, (refl, (refl, (refl, (refl, (refl, (refl, (refl, (refl, (refl, (refl, (refl, (refl, (refl, (refl, (refl, (refl, (refl, (refl, (refl, (refl, (refl, (refl, (refl, tt))))))))))))))))))))))))
+ending_without Late =
+    (refl, (refl, (refl, (refl, (refl, (refl, (refl, (refl, (refl, (refl, (refl, (refl, (refl, (refl, (refl, (refl, (refl, (refl, (refl, (refl, (refl, (refl, (refl, (refl, tt))))))))))))))))))))))))
+ending_without Lost =
+    (refl, (refl, (refl, (refl, (refl, (refl, (refl, (refl, (refl, (refl, (refl, (refl, (refl, (refl, (refl, (refl, (refl, (refl, (refl, (refl, (refl, (refl, (refl, (refl, tt))))))))))))))))))))))))
+ending_without Skipped =
+    (refl, (refl, (refl, (refl, (refl, (refl, (refl, (refl, (refl, (refl, (refl, (refl, (refl, (refl, (refl, (refl, (refl, (refl, (refl, (refl, (refl, (refl, (refl, (refl, tt))))))))))))))))))))))))
+ending_without Missed =
+    (refl, (refl, (refl, (refl, (refl, (refl, (refl, (refl, (refl, (refl, (refl, (refl, (refl, (refl, (refl, (refl, (refl, (refl, (refl, (refl, (refl, (refl, (refl, (refl, tt))))))))))))))))))))))))
+
+-- no member on a command has the name `cycle` or `place`
+what_apart : (command : Command) (name : List ℕ) → LacksAll (what_members command name) (codes "cycle" ∷ codes "place" ∷ [])
+what_apart command [] = (refl, (refl, tt))
+what_apart command (b ∷ bs) = (refl, (refl, tt))
+
+-- no member on a command has the name of a quantity
+what_without : (command : Command) (name : List ℕ) → LacksAll (what_members command name) quantity_names
+what_without command [] =
+    (refl, (refl, (refl, (refl, (refl, (refl, (refl, (refl, (refl, (refl, (refl, (refl, (refl, (refl, (refl, (refl, (refl, (refl, (refl, (refl, (refl, (refl, (refl, (refl, tt))))))))))))))))))))))))
+what_without command (b ∷ bs) =
+    (refl, (refl, (refl, (refl, (refl, (refl, (refl, (refl, (refl, (refl, (refl, (refl, (refl, (refl, (refl, (refl, (refl, (refl, (refl, (refl, (refl, (refl, (refl, (refl, tt))))))))))))))))))))))))
+
+-- no member on when and where has the name of a quantity
+moment_without : (sent : Option ℕ) (time cycle place : List ℕ)
+    → LacksAll (sent_members sent ++ (Text (codes "time") time ∷ Number (codes "cycle") cycle ∷ Number (codes "place") place ∷ [])) quantity_names
+moment_without None time cycle place =
+    (refl, (refl, (refl, (refl, (refl, (refl, (refl, (refl, (refl, (refl, (refl, (refl, (refl, (refl, (refl, (refl, (refl, (refl, (refl, (refl, (refl, (refl, (refl, (refl, tt))))))))))))))))))))))))
+moment_without (Some utc) time cycle place =
+    (refl, (refl, (refl, (refl, (refl, (refl, (refl, (refl, (refl, (refl, (refl, (refl, (refl, (refl, (refl, (refl, (refl, (refl, (refl, (refl, (refl, (refl, (refl, (refl, tt))))))))))))))))))))))))
+
+-- a record's cycle and place are found among the members on when and where
+moment_found : (sent : Option ℕ) (time cycle place : List ℕ) → let ms = sent_members sent ++ (Text (codes "time") time ∷ Number (codes "cycle") cycle ∷ Number (codes "place") place ∷ []) in
+    (find (codes "cycle") ms ≡ Some (json.number cycle)) × (find (codes "place") ms ≡ Some (json.number place))
+moment_found None time cycle place = (refl, refl)
+moment_found (Some utc) time cycle place = (refl, refl)
+
+-- the target and the procedure are found among the members on a command
+what_found : (command : Command) (name : List ℕ)
+    → (find (codes "target") (what_members command name) ≡ Some (json.number (decimal command.target)))
+    × (find (codes "procedure") (what_members command name) ≡ Some (json.number (decimal (call_fields command.call).number)))
+what_found command [] = (refl, refl)
+what_found command (b ∷ bs) = (refl, refl)
+
+-- the word of the ending is found under `outcome`
+outcome_found : (end : End) → find (codes "outcome") (ending_members end) ≡ Some (json.string (escaped (word_of end)))
+outcome_found (Answered answer line) = refl
+outcome_found (Unreadable line fault) = refl
+outcome_found (Elsewhere line) = refl
+outcome_found Late = refl
+outcome_found Lost = refl
+outcome_found Skipped = refl
+outcome_found Missed = refl
+
+-- the codes and parameters of this line are found among these members
+record IsFound (ms : List Member) (line : List ℕ) : Type 0 where
+  rc_com : find (codes "rc_com") ms ≡ Some (json.number (without_zeros (com_of line)))
+  rc : find (codes "rc") ms ≡ Some (json.number (without_zeros (code_of line)))
+  values : find (codes "values") ms ≡ Some (json.string (escaped (values_of line)))
+
+some_line : (x y : List ℕ) → Some x ≡ Some y → x ≡ y
+some_line x y e = cc
+
+-- the codes and parameters of the line that ended a command are found among the members on its ending
+line_found : (end : End) (line : List ℕ) → line_of end ≡ Some line → IsFound (ending_members end) line
+line_found (Answered answer l) line e = subst (IsFound (ending_members (Answered answer l))) (some_line l line e) (record { rc_com = refl; rc = refl; values = refl })
+line_found (Unreadable l fault) line e = subst (IsFound (ending_members (Unreadable l fault))) (some_line l line e) (record { rc_com = refl; rc = refl; values = refl })
+line_found (Elsewhere l) line e = subst (IsFound (ending_members (Elsewhere l))) (some_line l line e) (record { rc_com = refl; rc = refl; values = refl })
+line_found Late line e = cc
+line_found Lost line e = cc
+line_found Skipped line e = cc
+line_found Missed line e = cc
+
+-- A code without its zeros is the same number.
+
+-- a number without its leading zeros is the same number
+pub zeros_gone : (ds : List ℕ) (n : ℕ) → IsNumber ds n → IsNumber (without_zeros ds) n
+zeros_gone [] n is = is
+zeros_gone (b ∷ []) n is = is
+zeros_gone (b ∷ c ∷ rest) n is =
+    cond_both (b == 48) (without_zeros (c ∷ rest)) (b ∷ c ∷ rest) (λ (l : List ℕ). IsNumber l n)
+    (λ zero_first. zeros_gone (c ∷ rest) n (behind_zero (eqb-true b 48 zero_first) is)) (λ other. is) where
+      behind_zero : b ≡ 48 → IsNumber (b ∷ c ∷ rest) n → IsNumber (c ∷ rest) n
+      behind_zero e h =
+          let at_zero : IsNumber (48 ∷ c ∷ rest) n = subst (λ (x : ℕ). IsNumber (x ∷ c ∷ rest) n) e h in
+          record { some = omega arith; few = let few = at_zero.few in omega (arith, few); digits = at_zero.digits.1; value = at_zero.value; bound = at_zero.bound }
+
+-- Numbers stand as they are.
+
+-- escaping leaves two texts, one behind the other, if it leaves both
+plain_both : (xs ys : List ℕ) → escaped xs ≡ xs → escaped ys ≡ ys → escaped (xs ++ ys) ≡ xs ++ ys
+plain_both xs ys a b = flat_map-append escape xs ys ∙ ap (λ (l : List ℕ). l ++ escaped ys) a ∙ ap (λ (l : List ℕ). xs ++ l) b
+
+minus_plain : (negative : Bool) → escaped (minus_where negative) ≡ minus_where negative
+minus_plain true = refl
+minus_plain false = refl
+
+whole_plain : (text : List ℕ) → HasWholeForm text → escaped text ≡ text
+whole_plain text form =
+    subst (λ (t : List ℕ). escaped t ≡ t) (sym form.text_is)
+    (plain_both (minus_where form.negative) form.digits (minus_plain form.negative) (digits_plain form.digits form.digits_are.are_digits))
+
+point_plain : (ds : List ℕ) → AreDigits ds → escaped (46 ∷ ds) ≡ 46 ∷ ds
+point_plain ds are = ap (λ (l : List ℕ). 46 ∷ l) (digits_plain ds are)
+
+fraction_plain : (text : List ℕ) → HasDecimalForm text → escaped text ≡ text
+fraction_plain text form =
+    subst (λ (t : List ℕ). escaped t ≡ t) (sym form.text_is)
+    (plain_both (minus_where form.negative) (form.whole ++ 46 ∷ form.fraction) (minus_plain form.negative)
+    (plain_both form.whole (46 ∷ form.fraction) (digits_plain form.whole form.whole_is.are_digits) (point_plain form.fraction form.fraction_is.are_digits)))
+
+-- escaping leaves this text
+abbrev pub IsPlain : List ℕ → Type 0
+IsPlain text = escaped text ≡ text
+
+-- escaping leaves the text of a whole number
+pub signed_plain : (n : ℤ) → IsPlain (signed_text n)
+signed_plain n = whole_plain (signed_text n) ((whole_text_once n (signed_text n)).0 refl).0
+
+-- escaping leaves the text of a decimal
+pub double_plain : (d : Decimal) → IsPlain (quantity_text (value.Double d))
+double_plain d = fraction_plain (written d.digits d.scale) ((decimal_text_once d (written d.digits d.scale)).0 refl).0
+
+-- where escaping leaves all texts, it leaves the one under a name
+under_plain : (name : List ℕ) (names texts : List (List ℕ)) → AllByRecursion IsPlain texts → under name names texts ≡ escaped (under name names texts)
+under_plain name [] texts are = refl
+under_plain name (n ∷ names) [] are = refl
+under_plain name (n ∷ names) (t ∷ texts) are =
+    cond_both (pointwise nat_eq n name) t (under name names texts) (λ (x : List ℕ). x ≡ escaped x) (λ _. sym are.0) (λ _. under_plain name names texts are.1)
+
+-- The quantities of an answer.
+
+-- what stands in an answer's members under a name is what stands under it among these texts
+abbrev AreUnder : Call → Answer → List ℕ → List ℕ → Type 0
+AreUnder call answer came name =
+    text_of (find name (values_members (column_of call answer) (answer_fields answer).values came)) ≡ under name (names_from (column_of call answer) (answer_fields answer).values) (texts_of answer)
+
+long_under : (call : Call) (n : ℤ) (came : List ℕ) → AllByRecursion (AreUnder call (Long n) came) quantity_names
+long_under GetFace n came =
+    (refl, (refl, (refl, (refl, (refl, (refl, (refl, (refl, (refl, (refl, (refl, (refl, (refl, (refl, (refl, (refl, (refl, (refl, (refl, (refl, (refl, (refl, (refl, (refl, tt))))))))))))))))))))))))
+long_under GetPrism n came =
+    (refl, (refl, (refl, (refl, (refl, (refl, (refl, (refl, (refl, (refl, (refl, (refl, (refl, (refl, (refl, (refl, (refl, (refl, (refl, (refl, (refl, (refl, (refl, (refl, tt))))))))))))))))))))))))
+long_under call n came =
+    (refl, (refl, (refl, (refl, (refl, (refl, (refl, (refl, (refl, (refl, (refl, (refl, (refl, (refl, (refl, (refl, (refl, (refl, (refl, (refl, (refl, (refl, (refl, (refl, tt))))))))))))))))))))))))
+
+answer_under : (call : Call) (answer : Answer) (came : List ℕ) → ((name : List ℕ) → answer ≡ Name name → ⊥) → AllByRecursion (AreUnder call answer came) quantity_names
+answer_under call Nothing came other =
+    (refl, (refl, (refl, (refl, (refl, (refl, (refl, (refl, (refl, (refl, (refl, (refl, (refl, (refl, (refl, (refl, (refl, (refl, (refl, (refl, (refl, (refl, (refl, (refl, tt))))))))))))))))))))))))
+answer_under call (Long n) came other = long_under call n came
+answer_under call (Name name) came other = absurd (other name refl)
+answer_under call (Short n) came other =
+    (refl, (refl, (refl, (refl, (refl, (refl, (refl, (refl, (refl, (refl, (refl, (refl, (refl, (refl, (refl, (refl, (refl, (refl, (refl, (refl, (refl, (refl, (refl, (refl, tt))))))))))))))))))))))))
+answer_under call (Version release version subversion) came other =
+    (refl, (refl, (refl, (refl, (refl, (refl, (refl, (refl, (refl, (refl, (refl, (refl, (refl, (refl, (refl, (refl, (refl, (refl, (refl, (refl, (refl, (refl, (refl, (refl, tt))))))))))))))))))))))))
+answer_under call (Date d) came other =
+    (refl, (refl, (refl, (refl, (refl, (refl, (refl, (refl, (refl, (refl, (refl, (refl, (refl, (refl, (refl, (refl, (refl, (refl, (refl, (refl, (refl, (refl, (refl, (refl, tt))))))))))))))))))))))))
+answer_under call (Temperature t) came other =
+    (refl, (refl, (refl, (refl, (refl, (refl, (refl, (refl, (refl, (refl, (refl, (refl, (refl, (refl, (refl, (refl, (refl, (refl, (refl, (refl, (refl, (refl, (refl, (refl, tt))))))))))))))))))))))))
+answer_under call (Place s) came other =
+    (refl, (refl, (refl, (refl, (refl, (refl, (refl, (refl, (refl, (refl, (refl, (refl, (refl, (refl, (refl, (refl, (refl, (refl, (refl, (refl, (refl, (refl, (refl, (refl, tt))))))))))))))))))))))))
+answer_under call (Height h) came other =
+    (refl, (refl, (refl, (refl, (refl, (refl, (refl, (refl, (refl, (refl, (refl, (refl, (refl, (refl, (refl, (refl, (refl, (refl, (refl, (refl, (refl, (refl, (refl, (refl, tt))))))))))))))))))))))))
+answer_under call (Angles hz v) came other =
+    (refl, (refl, (refl, (refl, (refl, (refl, (refl, (refl, (refl, (refl, (refl, (refl, (refl, (refl, (refl, (refl, (refl, (refl, (refl, (refl, (refl, (refl, (refl, (refl, tt))))))))))))))))))))))))
+answer_under call (Measured hz v distance) came other =
+    (refl, (refl, (refl, (refl, (refl, (refl, (refl, (refl, (refl, (refl, (refl, (refl, (refl, (refl, (refl, (refl, (refl, (refl, (refl, (refl, (refl, (refl, (refl, (refl, tt))))))))))))))))))))))))
+answer_under call (MeasuredMode hz v distance mode) came other =
+    (refl, (refl, (refl, (refl, (refl, (refl, (refl, (refl, (refl, (refl, (refl, (refl, (refl, (refl, (refl, (refl, (refl, (refl, (refl, (refl, (refl, (refl, (refl, (refl, tt))))))))))))))))))))))))
+
+name_under : (call : Call) (bytes came : List ℕ)
+    → AllByRecursion (λ (name : List ℕ). text_of (find name (values_members 17 (value.Text bytes ∷ []) came)) ≡ escaped (under name (codes "instrument" ∷ []) (bytes ∷ []))) quantity_names
+name_under call bytes came =
+    (refl, (refl, (refl, (refl, (refl, (refl, (refl, (refl, (refl, (refl, (refl, (refl, (refl, (refl, (refl, (refl, (refl, (refl, (refl, (refl, (refl, (refl, (refl, (refl, tt))))))))))))))))))))))))
+
+texts_plain : (answer : Answer) → ((name : List ℕ) → answer ≡ Name name → ⊥) → AllByRecursion IsPlain (texts_of answer)
+texts_plain Nothing other = tt
+texts_plain (Short n) other = (signed_plain n, tt)
+texts_plain (Version release version subversion) other = (signed_plain release, (signed_plain version, (signed_plain subversion, tt)))
+texts_plain (Long n) other = (signed_plain n, tt)
+texts_plain (Name name) other = absurd (other name refl)
+texts_plain (Date d) other =
+    (signed_plain d.year, (decimal_plain d.month, (decimal_plain d.day, (decimal_plain d.hour, (decimal_plain d.minute, (decimal_plain d.second, tt))))))
+texts_plain (Temperature t) other = (double_plain t, tt)
+texts_plain (Place s) other = (double_plain s.e0, (double_plain s.n0, (double_plain s.h0, (double_plain s.hi, tt))))
+texts_plain (Height h) other = (double_plain h, tt)
+texts_plain (Angles hz v) other = (double_plain hz, (double_plain v, tt))
+texts_plain (Measured hz v distance) other = (double_plain hz, (double_plain v, (double_plain distance, tt)))
+texts_plain (MeasuredMode hz v distance mode) other = (double_plain hz, (double_plain v, (double_plain distance, (signed_plain mode, tt))))
+
+module _ (call : Call) (name : List ℕ) (k : ℕ) (is : slice_get quantity_names k ≡ Some name) where
+  abbrev IsUnder : Answer → List ℕ → Type 0
+  IsUnder answer came =
+      text_of (find name (values_members (column_of call answer) (answer_fields answer).values came))
+      ≡ escaped (under name (names_from (column_of call answer) (answer_fields answer).values) (texts_of answer))
+
+  number_under : (answer : Answer) (came : List ℕ) → ((bytes : List ℕ) → answer ≡ Name bytes → ⊥) → IsUnder answer came
+  number_under answer came other =
+      all_at (AreUnder call answer came) quantity_names (answer_under call answer came other) k name is
+      ∙ under_plain name (names_from (column_of call answer) (answer_fields answer).values) (texts_of answer) (texts_plain answer other)
+
+  is_under : (answer : Answer) (came : List ℕ) → IsUnder answer came
+  is_under (Name bytes) came =
+      all_at (λ (n : List ℕ). text_of (find n (values_members 17 (value.Text bytes ∷ []) came)) ≡ escaped (under n (codes "instrument" ∷ []) (bytes ∷ []))) quantity_names
+      (name_under call bytes came) k name is
+  is_under Nothing came = number_under Nothing came (λ bytes e. cc)
+  is_under (Short n) came = number_under (Short n) came (λ bytes e. cc)
+  is_under (Version release version subversion) came = number_under (Version release version subversion) came (λ bytes e. cc)
+  is_under (Long n) came = number_under (Long n) came (λ bytes e. cc)
+  is_under (Date d) came = number_under (Date d) came (λ bytes e. cc)
+  is_under (Temperature t) came = number_under (Temperature t) came (λ bytes e. cc)
+  is_under (Place s) came = number_under (Place s) came (λ bytes e. cc)
+  is_under (Height h) came = number_under (Height h) came (λ bytes e. cc)
+  is_under (Angles hz v) came = number_under (Angles hz v) came (λ bytes e. cc)
+  is_under (Measured hz v distance) came = number_under (Measured hz v distance) came (λ bytes e. cc)
+  is_under (MeasuredMode hz v distance mode) came = number_under (MeasuredMode hz v distance mode) came (λ bytes e. cc)
+
+  -- under the name of a quantity stands the answer's quantity of that name
+  pub member_stands : (answer : Answer) (line : List ℕ) → IsAnswerOf call answer → text_of (find name (quantity_members call (Answered (Some answer) line))) ≡ escaped (quantity_in call (Answers answer) name)
+  member_stands answer line of_call =
+      is_under answer (values_of line) ∙ ap (λ (names : List (List ℕ)). escaped (under name names (texts_of answer))) (have_their_names call answer of_call)
+
+-- All members of a record.
+
+module _ (when : When) (text : List ℕ) (command : Command) (end : End) where
+  abbrev quantities : List Member
+  quantities = quantity_members command.call end
+
+  abbrev ending : List Member
+  ending = ending_members end
+
+  abbrev what : List Member
+  what = what_members command text
+
+  abbrev moments : List Member
+  moments = when_members when
+
+  abbrev members_of : json.Members
+  members_of = record_read when.run (json_members when text command end)
+
+  -- the text under a name in the object of this record
+  abbrev pub at_member : List ℕ → List ℕ
+  at_member key = text_of (get_member key members_of)
+
+  abbrev started : List ℕ → Option json.Json
+  started key = cond (bytes_eq (codes "run") key) (Some (json.string (escaped (stamp_text when.run)))) None
+
+  -- what is found under a key in the object, by what is found there in each of its four groups of members
+  found_at : (key : List ℕ) (a b c d : Option json.Json) → find key quantities ≡ a → find key ending ≡ b → find key what ≡ c → find key moments ≡ d
+      → at_member key ≡ text_of (later_or (later_or (later_or (later_or a b) c) d) (started key))
+  found_at key a b c d ea eb ec ed =
+      ap (λ (o : Option json.Json). text_of (later_or o (started key)))
+      (find_both key moments (what ++ (ending ++ quantities))
+      ∙ ap (λ (o : Option json.Json). later_or o (find key moments))
+      (find_both key what (ending ++ quantities)
+      ∙ ap (λ (o : Option json.Json). later_or o (find key what)) (find_both key ending quantities ∙ ap (λ (o : Option json.Json). later_or o (find key ending)) ea ∙ ap (later_or a) eb)
+      ∙ ap (later_or (later_or a b)) ec)
+      ∙ ap (later_or (later_or (later_or a b) c)) ed)
+
+  abbrev apart : LacksAll quantities firsts
+  apart = quantities_apart command.call end
+
+  -- under `cycle` the object has the record's cycle
+  pub member_cycle : at_member (codes "cycle") ≡ decimal when.stamp.cycle
+  member_cycle =
+      found_at (codes "cycle") None None None (Some (json.number (decimal when.stamp.cycle))) apart.0 (ending_apart end).0 (what_apart command text).0
+      (moment_found when.stamp.sent (stamp_text when.stamp.utc) (decimal when.stamp.cycle) (decimal when.stamp.place)).0
+
+  -- under `place` the object has the record's place
+  pub member_place : at_member (codes "place") ≡ decimal when.stamp.place
+  member_place =
+      found_at (codes "place") None None None (Some (json.number (decimal when.stamp.place))) apart.1.0 (ending_apart end).1.0 (what_apart command text).1.0
+      (moment_found when.stamp.sent (stamp_text when.stamp.utc) (decimal when.stamp.cycle) (decimal when.stamp.place)).1
+
+  -- under `target` the object has the command's target
+  pub member_target : at_member (codes "target") ≡ decimal command.target
+  member_target =
+      found_at (codes "target") None None (Some (json.number (decimal command.target))) (find (codes "target") moments) apart.1.1.0 (ending_apart end).1.1.0
+      (what_found command text).0 refl
+
+  -- under `procedure` the object has the number of the command's procedure
+  pub member_procedure : at_member (codes "procedure") ≡ decimal (call_fields command.call).number
+  member_procedure =
+      found_at (codes "procedure") None None (Some (json.number (decimal (call_fields command.call).number))) (find (codes "procedure") moments) apart.1.1.1.0
+      (ending_apart end).1.1.1.0 (what_found command text).1 refl
+
+  -- under `outcome` the object has the word of the ending
+  pub member_outcome : at_member (codes "outcome") ≡ word_of end
+  member_outcome =
+      found_at (codes "outcome") None (Some (json.string (escaped (word_of end)))) (find (codes "outcome") what) (find (codes "outcome") moments) apart.1.1.1.1.0
+      (outcome_found end) refl refl
+      ∙ word_plain end
+
+  module _ (line : List ℕ) (is : line_of end ≡ Some line) where
+    pub member_rc_com : at_member (codes "rc_com") ≡ without_zeros (com_of line)
+    member_rc_com =
+        found_at (codes "rc_com") None (Some (json.number (without_zeros (com_of line)))) (find (codes "rc_com") what) (find (codes "rc_com") moments) apart.1.1.1.1.1.0
+        (line_found end line is).rc_com refl refl
+
+    pub member_rc : at_member (codes "rc") ≡ without_zeros (code_of line)
+    member_rc =
+        found_at (codes "rc") None (Some (json.number (without_zeros (code_of line)))) (find (codes "rc") what) (find (codes "rc") moments) apart.1.1.1.1.1.1.0
+        (line_found end line is).rc refl refl
+
+    pub member_values : at_member (codes "values") ≡ escaped (values_of line)
+    member_values =
+        found_at (codes "values") None (Some (json.string (escaped (values_of line)))) (find (codes "values") what) (find (codes "values") moments) apart.1.1.1.1.1.1.1.0
+        (line_found end line is).values refl refl
+
+  module _ (name : List ℕ) (k : ℕ) (is : slice_get quantity_names k ≡ Some name) where
+    not_started : started name ≡ None
+    not_started = all_at (λ (n : List ℕ). started n ≡ None) quantity_names none k name is where
+      none : AllByRecursion (λ (n : List ℕ). started n ≡ None) quantity_names
+      none =
+          (refl, (refl, (refl, (refl, (refl, (refl, (refl, (refl, (refl, (refl, (refl, (refl, (refl, (refl, (refl, (refl, (refl, (refl, (refl, (refl, (refl, (refl, (refl, (refl, tt))))))))))))))))))))))))
+
+    last_found : (o : Option json.Json) → later_or (later_or (later_or (later_or o None) None) None) None ≡ o
+    last_found None = refl
+    last_found (Some j) = refl
+
+    -- what stands under the name of a quantity stands among the quantities
+    pub member_quantity : at_member name ≡ text_of (find name quantities)
+    member_quantity =
+        found_at name (find name quantities) None None None refl
+        (all_at (λ (n : List ℕ). find n ending ≡ None) quantity_names (ending_without end) k name is)
+        (all_at (λ (n : List ℕ). find n what ≡ None) quantity_names (what_without command text) k name is)
+        (all_at (λ (n : List ℕ). find n moments ≡ None) quantity_names
+        (moment_without when.stamp.sent (stamp_text when.stamp.utc) (decimal when.stamp.cycle) (decimal when.stamp.place)) k name is)
+        ∙ ap (λ (o : Option json.Json). text_of (later_or (later_or (later_or (later_or (find name quantities) None) None) None) o)) not_started
+        ∙ ap text_of (last_found (find name quantities))

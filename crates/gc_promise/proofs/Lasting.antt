@@ -1,0 +1,258 @@
+-- The rows that are left of a run, by what its clauses say of its acts and by the laws on files of rows.
+use Rattle.std.proofs.Common.{◌≡◌, ◌⊎◌, ℕ, ◌≤◌, Bool, true, false, List, [], ◌∷◌, ◌++◌, take, Option, Some, None, Result, inl, inr, refl, sym, ◌∙◌, ap, subst, append_assoc, append-nil}
+use Rattle.std.proofs.lemmas.List.{append_cancel_left}
+use Rattle.std.specs.Prelude.{not, if◌then◌else◌}
+use Rattle.std.specs.Io.KnownBytes.{Appends}
+use Rattle.gc_catalogue.specs.declared.answer.Reading.{Reading}
+use Rattle.gc_catalogue.specs.declared.call.Call.{Call}
+use Rattle.gc_files.specs.Failing.{Sides, Event, Ran, Failed, feeds, settled, one, sides_after, runs_of, Occur, IsFound, is_trusted}
+use Rattle.gc_files.specs.Files.{Step, Life, content, MayLeave}
+use Rattle.gc_files.specs.Rows.{whole, table, cuts_none, appended}
+use Rattle.gc_files.specs.Runs.{synced, Run, lines, IsRun, life_after, rows_of, Counts, HasRows}
+use Rattle.gc_files.specs.Sinks.{steps_in, taken_in, is_durable}
+use Rattle.gc_files.proofs.Adding.{appended_two}
+use Rattle.gc_files.proofs.Failing.{tables_outlast_failures}
+use Rattle.gc_files.proofs.Lasting.{tables_last}
+use Rattle.gc_links.specs.Acts.{Act}
+use Rattle.gc_messages.specs.Following.{bytes_in}
+use Rattle.gc_station.specs.Keeping.{KeepsUp, closing_at}
+use Rattle.gc_station.specs.Records.{Record}
+use Rattle.gc_station.specs.Runs as runs
+use Rattle.gc_station.specs.Runs.{stood}
+use Rattle.gc_station.specs.Scopes.{Scope, AreReadings}
+use Rattle.gc_messages.specs.declared.following.Followed.{Followed}
+use Rattle.gc_station.specs.declared.tally.Tally.{Tally}
+use Rattle.gc_words.specs.Stations.{begun_at}
+use Rattle.gc_words.specs.Stations as words
+use Rattle.gc_words.specs.declared.station.Station.{Station}
+use Rattle.gc_measuring.specs.declared.stop.Stop.{Stop}
+use Rattle.gc_lines.specs.declared.ports.Source.{Ghosts as Source}
+use Rattle.gc_lines.specs.declared.ports.Sink.{Ghosts as Sink}
+use Rattle.gc_measuring.specs.Measuring.{Places, Measures, course_of, Course, text_in, front_text, RunsBehind}
+use Rattle.gc_promise.specs.Lasting.{RunOfFile, IsRunOfFile, AppendsAreRuns, Moment, IsMoment, rows_by, AreLeft, Opens, RowsOutlastCrashes, doubted_by, Ending, Stopped, Unsynced, Ends, sides_ended, doubt_of, sides_from, RowsOutlastFailures}
+use Rattle.gc_promise.proofs.Ended.{text_whole}
+use Rattle.gc_promise.proofs.Pieces.{pieces, rows_left, whole_rest}
+use Rattle.gc_promise.proofs.Seen.{At, kept_at, seen_at, Fronted, fronted, texts_whole}
+use Rattle.gc_promise.proofs.Staying.{run_by, is_run, happen_two, life_two, parted, cuts_first, occur_two, sides_two, runs_two}
+
+-- What the clauses say.
+
+-- nothing stands in front of the rows of a file
+between_is : (course : Course) (between : Option (List ℕ)) → course.layout.headed ≡ true → Appends (Some []) between (front_text course.layout) → between ≡ Some []
+between_is course None headed front = absurd front
+between_is course (Some bytes) headed front =
+    let none : front_text course.layout ≡ [] = rw (headed) refl in
+    ap (λ (l : List ℕ). Some l) (front ∙ none)
+
+-- What `append_at` tells is such a run.
+
+same_file : {A : Type 0} (x y : A) → ◌≡◌ {A = Option A} (Some x) (Some y) → x ≡ y
+same_file x y is = cc
+
+-- such a run between these places
+abbrev Found : (R : Type 0) → Places → Places → List Act → Followed R → Type 0
+Found R old new told file =
+    (new.turns ≡ old.turns)
+    ⊎ ((run : RunOfFile R) × IsRunOfFile run × (run.file ≡ file) × (run.told ≡ told) × (run.old.turns ≡ old.turns) × (run.new.turns ≡ new.turns))
+
+found : {R : Type 0} (station : Station) (given : List ℕ) (old new : Places) (end : Result Tally Stop) (told : List Act) (file : Followed R)
+    → station.layout.headed ≡ true → old.acts ≡ Some [] → new.acts ≡ Some told → old.taken ≡ Some [] → new.taken ≡ Some (bytes_in file)
+    → Measures given station 18446744073709551615 old new end → Found R old new told file
+found station given old new end told file headed none acts fresh took (inl (stop, is, refuses, unused)) = inl unused.turns
+found station given old new end told file headed none acts fresh took (inr (tasks, names, gives, inl front)) = inl front.turns
+found station given old new end told file headed none acts fresh took (inr (tasks, names, gives, inr behind)) = inr (
+  record { course = course_of station 18446744073709551615 tasks names; old = old; new = new; end = end; told = told; file = file },
+  record { headed = headed; none = none; acts = acts; fresh = fresh; took = took; ran = behind },
+  refl,
+  refl,
+  refl,
+  refl,
+)
+
+pub appends_are_runs : {S R : Type 0} (source : Source S) (sink : Sink (Followed R)) (K E : Type 0) → ((f : Followed R) → sink.taken f ≡ Some (bytes_in f)) → AppendsAreRuns source sink K E
+appends_are_runs source sink K E taken lasts shown has_log station old new file acts turns turns' status tells = elim tells.run.ran [
+  | inl ran ↦
+      let it = same_file file tells.ended.output tells.filed.left in
+      let m = ran.measured in
+      elim (found (begun_at m.0 (words.appended station)) m.1.0 _ _ tells.run.end ran.told file refl refl refl tells.filed.fresh
+      (subst (λ f. sink.taken f ≡ Some (bytes_in file)) it (taken file)) m.1.2) [
+        | inl none ↦ inl none
+        | inr some ↦ inr (some.0, some.1, some.2, ran.is ∙ ap (λ (l : List Act). Some l) (sym some.3), some.4, some.5)
+      ]
+  | inr unbegun ↦ inl unbegun.7
+]
+
+module _ {R : Type 0} (m : Moment R) (is : IsMoment m) (reads : Call → List ℕ → Reading) (are : AreReadings reads) where
+  abbrev scope : Scope
+  scope = record { turns = m.run.course.turns; reads = reads }
+
+  abbrev text : Record → List ℕ
+  text = text_in m.run.course.layout m.run.course.names
+
+  abbrev ran : RunsBehind m.run.course m.run.old m.run.new m.run.end
+  ran = is.run.ran
+
+  -- no bytes stood in front of the run's rows
+  none_between : ran.between ≡ Some []
+  none_between = between_is m.run.course ran.between is.run.headed (subst (λ (t : Option (List ℕ)). Appends t ran.between (front_text m.run.course.layout)) is.run.fresh ran.front)
+
+  -- the run kept up: at each of its turns, what the acts before it settled was kept
+  keeps : KeepsUp m.run.course.plan m.run.course.tasks scope text (Some []) (Some m.run.told) (Some []) m.run.old.turns m.run.new.turns (closing_at ran.end)
+  keeps = rw (← is.run.none, ← is.run.acts, ← none_between) (ran.keeps.0 reads are)
+
+  -- what the file took in the end is what the run wrote
+  took : runs.Ran m.run.course.plan m.run.course.tasks scope text (Some []) (Some m.run.told) (Some []) (Some (bytes_in m.run.file)) ran.end
+  took = rw (← is.run.none, ← is.run.acts, ← is.run.took, ← none_between) (ran.ran.0 reads are)
+
+  -- the moment's turn is one of the run's turns, and all that the acts before it settled was kept then
+  seen : At m.run.course.plan m.run.course.tasks scope text (Some []) (Some []) [] m.turn
+  seen =
+      let turns = append_cancel_left m.run.old.turns keeps.turns (is.seen.earlier ++ m.turn ∷ is.seen.later) (sym keeps.saw ∙ is.seen.among) in
+      kept_at m.run.course.plan m.run.course.tasks scope text (Some []) (Some []) [] keeps.acts is.seen.earlier is.seen.later m.turn (rw (← turns) keeps.kept)
+
+  -- what the file and those before it had taken at the turn are the rows of what the acts of `done` settled
+  settled_by : bytes_in m.was ≡ rows_by m.run.course reads m.done
+  settled_by = seen_at m.run.course.plan m.run.course.tasks scope text m.turn seen.front m.done (bytes_in m.was) seen.kept is.seen.done is.seen.taken
+
+  -- what the file took in the end is a front of all rows
+  end : Fronted m.run.course.plan m.run.course.tasks scope text m.run.told (bytes_in m.run.file)
+  end = fronted m.run.course.plan m.run.course.tasks scope text m.run.told (bytes_in m.run.file) ran.end took
+
+  -- the rows of any acts end in a line feed
+  rows_whole : (acts : List Act) → whole (rows_by m.run.course reads acts) ≡ rows_by m.run.course reads acts
+  rows_whole acts = texts_whole text (text_whole m.run.course.layout m.run.course.names) (stood m.run.course.plan m.run.course.tasks scope acts).records
+
+  -- The file.
+
+  abbrev earlier_bytes : List ℕ
+  earlier_bytes = appended m.was.left.steps
+
+  abbrev taken : List ℕ
+  taken = taken_in m.was.rows
+
+  abbrev since : List Step
+  since = is.reached.since
+
+  abbrev rest : List ℕ
+  rest = appended since ++ (appended is.reached.rest ++ end.own.rest)
+
+  taken_whole : whole taken ≡ taken
+  taken_whole = whole_rest earlier_bytes taken (rw (settled_by) (rows_whole m.done))
+
+  -- the calls of the file in the end are those at the turn, those since, and a rest
+  calls_are : steps_in m.run.file.rows ≡ (steps_in m.was.rows ++ since) ++ is.reached.rest
+  calls_are = is.reached.ends ∙ ap (λ (l : List Step). l ++ is.reached.rest) is.reached.begins
+
+  -- all rows that the run may write are those of earlier files, those that the file had taken at the turn, and a rest
+  all_is : rows_by m.run.course reads end.acts ≡ earlier_bytes ++ (taken ++ rest)
+  all_is =
+      let file : bytes_in m.run.file ≡ earlier_bytes ++ (taken ++ (appended since ++ appended is.reached.rest)) =
+      ap (λ (l : List Step). appended l ++ taken_in m.run.file.rows) is.reached.left
+      ∙ ap (λ (l : List ℕ). earlier_bytes ++ l)
+      (ap appended calls_are ∙ appended_two (steps_in m.was.rows ++ since) is.reached.rest
+      ∙ ap (λ (l : List ℕ). l ++ appended is.reached.rest) (appended_two (steps_in m.was.rows) since)
+      ∙ append_assoc taken (appended since) (appended is.reached.rest)) in
+      end.own.split ∙ ap (λ (l : List ℕ). l ++ end.own.rest) file ∙ append_assoc earlier_bytes (taken ++ (appended since ++ appended is.reached.rest)) end.own.rest
+      ∙ ap (λ (l : List ℕ). earlier_bytes ++ l)
+      (append_assoc taken (appended since ++ appended is.reached.rest) end.own.rest
+      ∙ ap (λ (l : List ℕ). taken ++ l) (append_assoc (appended since) (appended is.reached.rest) end.own.rest))
+
+  rest_whole : whole rest ≡ rest
+  rest_whole = whole_rest taken rest (whole_rest earlier_bytes (taken ++ rest) (subst (λ (l : List ℕ). whole l ≡ l) all_is (rows_whole end.acts)))
+
+  -- what the file had taken at the turn was all synced
+  kept : synced (steps_in m.was.rows) ≡ taken
+  kept =
+      let lasts : is_durable m.was.rows ≡ true = sym is.seen.lasts ∙ seen.kept.lasts in
+      let isnt : not m.was.rows.unkept ≡ true = subst (λ (b : Bool). (if b then not m.was.rows.unkept else true) ≡ true) is.seen.synced lasts in
+      m.was.rows.kept (not_true m.was.rows.unkept isnt)
+    where
+      not_true : (b : Bool) → not b ≡ true → b ≡ false
+      not_true true e = let wrong : false ≡ true = e in cc
+      not_true false e = refl
+
+  -- where at least the lines that were taken at the turn are left, `AreLeft` holds of as many lines as are left
+  left_of : (count : ℕ) → feeds taken ≤ count → AreLeft m reads (lines (take count (pieces (taken ++ rest))))
+  left_of count least =
+      let l = rows_left taken rest count taken_whole rest_whole least in
+      record {
+        settled = settled_by;
+        more = l.more;
+        has = l.has;
+        acts = end.acts;
+        others = end.others;
+        all = end.all;
+        own = record {
+          rest = l.own.rest;
+          split = all_is ∙ ap (λ (xs : List ℕ). earlier_bytes ++ xs) l.own.split ∙ sym (append_assoc earlier_bytes (taken ++ l.more) l.own.rest)
+              ∙ ap (λ (xs : List ℕ). xs ++ l.own.rest) (sym (append_assoc earlier_bytes taken l.more));
+        };
+      }
+
+  -- The run.
+
+  abbrev run : List Step → Run
+  run steps = run_by steps m.calls taken (taken ++ rest) None
+
+  -- the calls of a run of the file are those of a run
+  runs_so : (head held : List ℕ) (steps : List Step) → Opens head held steps → IsRun head held (run steps)
+  runs_so head held steps opens =
+      let none : cuts_none ((steps_in m.was.rows ++ since) ++ is.reached.rest) ≡ true = subst (λ (l : List Step). cuts_none l ≡ true) calls_are m.run.file.rows.only_appends in
+      subst (λ (calls : List Step). IsRun head held (run_by steps calls taken (taken ++ rest) None)) (sym is.reached.begins)
+      (is_run head held steps (steps_in m.was.rows) since rest opens kept taken_whole None rest_whole (cuts_first (steps_in m.was.rows ++ since) is.reached.rest none)
+      (record {
+        rest = appended is.reached.rest ++ end.own.rest;
+        split = ap (λ (l : List ℕ). taken ++ l) refl ∙ sym (append_assoc taken (appended since) (appended is.reached.rest ++ end.own.rest))
+            ∙ ap (λ (l : List ℕ). l ++ (appended is.reached.rest ++ end.own.rest)) (sym (appended_two (steps_in m.was.rows) since));
+      }))
+
+-- what a crash leaves of a run's rows is as the law says
+pub rows_outlast_crashes : {R : Type 0} → RowsOutlastCrashes R
+rows_outlast_crashes m is reads are head first heads earlier happen steps opens found may =
+    let life = life_after (settled first) earlier in
+    let one_run : Run = run m is reads are steps in
+    let now = runs_so m is reads are head (content life) steps opens in
+    let all = happen_two head (settled first) earlier (one_run ∷ []) happen (now, tt, tt) in
+    let there = subst (λ (l : Life). MayLeave l.start l.steps found) (sym (life_two (settled first) earlier (one_run ∷ []))) may in
+    let p = parted head (table head first) found earlier [] one_run (tables_last head first heads (earlier ++ one_run ∷ []) all found there) in
+    (p.counts, lines (take p.count one_run.rows), p.first, left_of m is reads are p.count p.least, p.is ∙ last p.counts' p.others _)
+  where
+    last : (counts : List ℕ) → Counts [] counts → (l : List ℕ) → l ++ rows_of [] counts ≡ l
+    last [] cs l = append-nil l
+    last (n ∷ counts) cs l = absurd cs
+
+-- how the run ends, as an event
+abbrev event_of : Run → Ending → Event
+event_of run Stopped = Ran run
+event_of run (Unsynced read disk) = Failed run read disk
+
+-- what a failed sync leaves of a run's rows is as the law says
+pub rows_outlast_failures : {R : Type 0} → RowsOutlastFailures R
+rows_outlast_failures m is reads are head first heads earlier occur trusted steps opens ending ends later then_ found is_found =
+    let sides = sides_from first earlier in
+    let one_run : Run = run m is reads are steps in
+    let event = event_of one_run ending in
+    let now = runs_so m is reads are head (content sides.read) steps opens in
+    let behind = occurs head sides (doubted_by false earlier) one_run ending later trusted now ends then_ in
+    let all = occur_two head (one (settled first)) false earlier (event ∷ later) occur behind in
+    let there = subst (λ (s : Sides). IsFound s found) (sym (sides_two (one (settled first)) earlier (event ∷ later) ∙ event_sides sides one_run ending later)) is_found in
+    let has = tables_outlast_failures head first heads (earlier ++ event ∷ later) all found there in
+    let p = parted head (table head first) found (runs_of earlier) (runs_of later) one_run
+    (subst (λ (rs : List Run). HasRows head (table head first) rs found) (runs_two earlier (event ∷ later) ∙ ap (λ (rs : List Run). runs_of earlier ++ rs) (event_runs one_run ending later)) has) in
+    (p.counts, lines (take p.count one_run.rows), p.counts', p.first, left_of m is reads are p.count p.least, p.others, p.is)
+  where
+    occurs : (head : List ℕ) (sides : Sides) (doubted : Bool) (run : Run) (ending : Ending) (later : List Event) → doubted ≡ false → IsRun head (content sides.read) run
+        → Ends sides run.steps ending → Occur is_trusted head (sides_ended sides run.steps ending) (doubt_of ending) later
+        → Occur is_trusted head sides doubted (event_of run ending ∷ later)
+    occurs head sides doubted run Stopped later trusted is ends then_ =
+        (trusted, is, subst (λ (d : Bool). Occur is_trusted head (sides_ended sides run.steps Stopped) d later) (sym trusted) then_)
+    occurs head sides doubted run (Unsynced read disk) later trusted is ends then_ = (trusted, is, ends.0, ends.1, then_)
+
+    event_sides : (sides : Sides) (run : Run) (ending : Ending) (later : List Event)
+        → sides_after sides (event_of run ending ∷ later) ≡ sides_after (sides_ended sides run.steps ending) later
+    event_sides sides run Stopped later = refl
+    event_sides sides run (Unsynced read disk) later = refl
+
+    event_runs : (run : Run) (ending : Ending) (later : List Event) → runs_of (event_of run ending ∷ later) ≡ run ∷ runs_of later
+    event_runs run Stopped later = refl
+    event_runs run (Unsynced read disk) later = refl

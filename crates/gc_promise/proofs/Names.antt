@@ -1,0 +1,253 @@
+-- What stands under a name in the row of a record.
+use Rattle.std.proofs.Common.{◌≡◌, ℕ, ℤ, zero, suc, Bool, true, false, List, [], ◌∷◌, ◌++◌, map, replicate, Option, Some, None, refl, ap, ◌∙◌, subst}
+use Rattle.std.specs.Prelude.{codes, slice_get}
+use Rattle.std.specs.Fmt.{decimal}
+use Rattle.std.specs.List.{AllByRecursion}
+use Rattle.gc_catalogue.specs.Answers.{answer_fields, IsAnswerOf}
+use Rattle.gc_catalogue.specs.Calls.{call_fields}
+use Rattle.gc_catalogue.specs.declared.answer.Answer.{Answer}
+use Rattle.gc_catalogue.specs.declared.answer.Answer.TheVariants.{Nothing, Short, Version, Long, Name, Date, Temperature, Place, Height, Angles, Measured, MeasuredMode}
+use Rattle.gc_catalogue.specs.declared.answer.Reading.TheVariants.{Value}
+use Rattle.gc_catalogue.specs.declared.call.Call.{Call}
+use Rattle.gc_catalogue.specs.declared.call.Call.TheVariants.{GetFace, GetPrism}
+use Rattle.gc_values.specs.ValueFault.{fault_number}
+use Rattle.gc_values.specs.declared.value.Value.TheVariants as value
+use Rattle.gc_texts.specs.Endings.{End, Answered, Unreadable, Elsewhere, Late, Lost, Skipped, Missed, word_of, fault_of, line_of}
+use Rattle.gc_texts.specs.Logs.{escaped}
+use Rattle.gc_texts.specs.Stamps.{stamp_text}
+use Rattle.gc_texts.specs.declared.commands.Command.{Command}
+use Rattle.gc_rows.specs.Quantities.{column_of, quantity_names, quantity_text}
+use Rattle.gc_rows.specs.Rows.{row_fields, moment_text, when_fields, what_fields, fault_field, reply_fields, more_fields, quantity_fields, com_of, code_of, values_of, spread}
+use Rattle.gc_rows.specs.Told.{names_from}
+use Rattle.gc_rows.specs.declared.when.When.{When}
+use Rattle.gc_rows.proofs.Told.{have_their_names}
+use Rattle.gc_promise.specs.Fields.{under, quantity_in}
+use Rattle.gc_promise.specs.Tables.{header}
+use Rattle.gc_promise.proofs.Plain.{decimal_plain}
+
+-- A row of a table.
+
+-- the word of an outcome stands in a field as it is
+pub word_plain : (end : End) → escaped (word_of end) ≡ word_of end
+word_plain (Answered answer line) = refl
+word_plain (Unreadable line fault) = refl
+word_plain (Elsewhere line) = refl
+word_plain Late = refl
+word_plain Lost = refl
+word_plain Skipped = refl
+word_plain Missed = refl
+
+module _ (when : When) (name : List ℕ) (command : Command) (end : End) where
+  -- the field of this row under a name
+  abbrev row_at : Bool → List ℕ → List ℕ
+  row_at columns field = under field (header columns) (map escaped (row_fields columns when name command end))
+
+  -- under `cycle` a row has the record's cycle
+  pub under_cycle : (columns : Bool) → row_at columns (codes "cycle") ≡ decimal when.stamp.cycle
+  under_cycle false = decimal_plain when.stamp.cycle
+  under_cycle true = decimal_plain when.stamp.cycle
+
+  -- under `place` a row has the record's place
+  pub under_place : (columns : Bool) → row_at columns (codes "place") ≡ decimal when.stamp.place
+  under_place false = decimal_plain when.stamp.place
+  under_place true = decimal_plain when.stamp.place
+
+  -- under `target` a row has the command's target
+  pub under_target : (columns : Bool) → row_at columns (codes "target") ≡ decimal command.target
+  under_target false = decimal_plain command.target
+  under_target true = decimal_plain command.target
+
+  -- under `procedure` a row has the number of the command's procedure
+  pub under_procedure : (columns : Bool) → row_at columns (codes "procedure") ≡ decimal (call_fields command.call).number
+  under_procedure false = decimal_plain (call_fields command.call).number
+  under_procedure true = decimal_plain (call_fields command.call).number
+
+  -- under `outcome` a row has the word of the ending
+  pub under_outcome : (columns : Bool) → row_at columns (codes "outcome") ≡ word_of end
+  under_outcome false = word_plain end
+  under_outcome true = word_plain end
+
+  -- the fields of a row, by the line of its reply
+  abbrev by_line : Bool → Option (List ℕ) → List (List ℕ)
+  by_line columns line =
+      stamp_text when.run ∷ (when_fields when ++ (what_fields command name ++ ((word_of end ∷ fault_field (fault_of end) ∷ reply_fields line) ++ more_fields columns command.call end)))
+
+  module _ (line : List ℕ) (is : line_of end ≡ Some line) where
+    pub under_rc_com : (columns : Bool) → row_at columns (codes "rc_com") ≡ escaped (com_of line)
+    under_rc_com false = ap (λ (o : Option (List ℕ)). under (codes "rc_com") (header false) (map escaped (by_line false o))) is
+    under_rc_com true = ap (λ (o : Option (List ℕ)). under (codes "rc_com") (header true) (map escaped (by_line true o))) is
+
+    pub under_rc : (columns : Bool) → row_at columns (codes "rc") ≡ escaped (code_of line)
+    under_rc false = ap (λ (o : Option (List ℕ)). under (codes "rc") (header false) (map escaped (by_line false o))) is
+    under_rc true = ap (λ (o : Option (List ℕ)). under (codes "rc") (header true) (map escaped (by_line true o))) is
+
+    pub under_values : (columns : Bool) → row_at columns (codes "values") ≡ escaped (values_of line)
+    under_values false = ap (λ (o : Option (List ℕ)). under (codes "values") (header false) (map escaped (by_line false o))) is
+    under_values true = ap (λ (o : Option (List ℕ)). under (codes "values") (header true) (map escaped (by_line true o))) is
+
+-- Quantities.
+
+-- what holds of each element of a list holds of the one at a place
+pub all_at : {X : Type 0} (P : X → Type 0) (xs : List X) → AllByRecursion P xs → (k : ℕ) (x : X) → slice_get xs k ≡ Some x → P x
+all_at P [] all zero x e = cc
+all_at P [] all (suc k) x e = cc
+all_at P (y ∷ ys) all zero x e = let same : y ≡ x = cc in subst P same all.0
+all_at P (y ∷ ys) all (suc k) x e = all_at P ys all.1 k x e
+
+-- behind the first thirteen columns stand those of quantities
+thirteen : (a b c d e f g h i j k l m : List ℕ) (others : List (List ℕ))
+    → AllByRecursion (λ (name : List ℕ). under name (header true) (a ∷ b ∷ c ∷ d ∷ e ∷ f ∷ g ∷ h ∷ i ∷ j ∷ k ∷ l ∷ m ∷ others) ≡ under name quantity_names others) quantity_names
+thirteen a b c d e f g h i j k l m others =
+    (refl, (refl, (refl, (refl, (refl, (refl, (refl, (refl, (refl, (refl, (refl, (refl, (refl, (refl, (refl, (refl, (refl, (refl, (refl, (refl, (refl, (refl, (refl, (refl, tt))))))))))))))))))))))))
+
+module _ (when : When) (text : List ℕ) (command : Command) where
+  -- under this name a row has what its quantities have
+  abbrev IsBehind : End → List ℕ → Type 0
+  IsBehind end name = under name (header true) (map escaped (row_fields true when text command end)) ≡ under name quantity_names (map escaped (quantity_fields command.call end))
+
+  by_parts : (word fault first code values : List ℕ) (others : List (List ℕ)) → AllByRecursion (λ (name : List ℕ).
+      under name (header true) (map escaped (stamp_text when.run ∷ (when_fields when ++ (what_fields command text ++ (word ∷ fault ∷ first ∷ code ∷ values ∷ others)))))
+      ≡ under name quantity_names (map escaped others)) quantity_names
+  by_parts word fault first code values others =
+      thirteen (escaped (stamp_text when.run)) (escaped (moment_text when.stamp.sent)) (escaped (stamp_text when.stamp.utc)) (escaped (decimal when.stamp.cycle))
+      (escaped (decimal when.stamp.place)) (escaped (decimal command.target)) (escaped text) (escaped (decimal (call_fields command.call).number))
+      (escaped word) (escaped fault) (escaped first) (escaped code) (escaped values) (map escaped others)
+
+  -- under each name of a quantity a row has what its quantities have, however the command ended
+  behind_others : (end : End) → AllByRecursion (IsBehind end) quantity_names
+  behind_others (Answered answer line) = by_parts (codes "answered") [] (com_of line) (code_of line) (values_of line) (quantity_fields command.call (Answered answer line))
+  behind_others (Unreadable line fault) = by_parts (codes "unreadable") (decimal (fault_number fault)) (com_of line) (code_of line) (values_of line) (replicate 24 [])
+  behind_others (Elsewhere line) = by_parts (codes "elsewhere") [] (com_of line) (code_of line) (values_of line) (replicate 24 [])
+  behind_others Late = by_parts (codes "late") [] [] [] [] (replicate 24 [])
+  behind_others Lost = by_parts (codes "lost") [] [] [] [] (replicate 24 [])
+  behind_others Skipped = by_parts (codes "skipped") [] [] [] [] (replicate 24 [])
+  behind_others Missed = by_parts (codes "missed") [] [] [] [] (replicate 24 [])
+
+-- the texts of an answer in their columns
+abbrev pub texts_of : Answer → List (List ℕ)
+texts_of answer = map quantity_text (answer_fields answer).values
+
+-- these texts stand under these names, from this column on
+abbrev Stand : ℕ → List (List ℕ) → List (List ℕ) → List ℕ → Type 0
+Stand first names texts name = under name quantity_names (map escaped (spread first texts)) ≡ escaped (under name names texts)
+
+-- where there are no texts, none stand under the names of quantities; and below, the texts of an answer of each shape stand
+-- under theirs
+none_stand : AllByRecursion (Stand 0 [] []) quantity_names
+none_stand =
+    (refl, (refl, (refl, (refl, (refl, (refl, (refl, (refl, (refl, (refl, (refl, (refl, (refl, (refl, (refl, (refl, (refl, (refl, (refl, (refl, (refl, (refl, (refl, (refl, tt))))))))))))))))))))))))
+
+two_stand : (a b : List ℕ) → AllByRecursion (Stand 0 (codes "hz_rad" ∷ codes "v_rad" ∷ []) (a ∷ b ∷ [])) quantity_names
+two_stand a b =
+    (refl, (refl, (refl, (refl, (refl, (refl, (refl, (refl, (refl, (refl, (refl, (refl, (refl, (refl, (refl, (refl, (refl, (refl, (refl, (refl, (refl, (refl, (refl, (refl, tt))))))))))))))))))))))))
+
+three_stand : (a b c : List ℕ) → AllByRecursion (Stand 0 (codes "hz_rad" ∷ codes "v_rad" ∷ codes "distance_m" ∷ []) (a ∷ b ∷ c ∷ [])) quantity_names
+three_stand a b c =
+    (refl, (refl, (refl, (refl, (refl, (refl, (refl, (refl, (refl, (refl, (refl, (refl, (refl, (refl, (refl, (refl, (refl, (refl, (refl, (refl, (refl, (refl, (refl, (refl, tt))))))))))))))))))))))))
+
+four_stand : (a b c d : List ℕ) → AllByRecursion (Stand 0 (codes "hz_rad" ∷ codes "v_rad" ∷ codes "distance_m" ∷ codes "mode" ∷ []) (a ∷ b ∷ c ∷ d ∷ [])) quantity_names
+four_stand a b c d =
+    (refl, (refl, (refl, (refl, (refl, (refl, (refl, (refl, (refl, (refl, (refl, (refl, (refl, (refl, (refl, (refl, (refl, (refl, (refl, (refl, (refl, (refl, (refl, (refl, tt))))))))))))))))))))))))
+
+place_stand : (a b c d : List ℕ) → AllByRecursion (Stand 4 (codes "easting_m" ∷ codes "northing_m" ∷ codes "height_m" ∷ codes "instrument_height_m" ∷ []) (a ∷ b ∷ c ∷ d ∷ [])) quantity_names
+place_stand a b c d =
+    (refl, (refl, (refl, (refl, (refl, (refl, (refl, (refl, (refl, (refl, (refl, (refl, (refl, (refl, (refl, (refl, (refl, (refl, (refl, (refl, (refl, (refl, (refl, (refl, tt))))))))))))))))))))))))
+
+reflector_stands : (a : List ℕ) → AllByRecursion (Stand 8 (codes "reflector_height_m" ∷ []) (a ∷ [])) quantity_names
+reflector_stands a =
+    (refl, (refl, (refl, (refl, (refl, (refl, (refl, (refl, (refl, (refl, (refl, (refl, (refl, (refl, (refl, (refl, (refl, (refl, (refl, (refl, (refl, (refl, (refl, (refl, tt))))))))))))))))))))))))
+
+face_stands : (a : List ℕ) → AllByRecursion (Stand 9 (codes "face" ∷ []) (a ∷ [])) quantity_names
+face_stands a =
+    (refl, (refl, (refl, (refl, (refl, (refl, (refl, (refl, (refl, (refl, (refl, (refl, (refl, (refl, (refl, (refl, (refl, (refl, (refl, (refl, (refl, (refl, (refl, (refl, tt))))))))))))))))))))))))
+
+prism_stands : (a : List ℕ) → AllByRecursion (Stand 10 (codes "prism_type" ∷ []) (a ∷ [])) quantity_names
+prism_stands a =
+    (refl, (refl, (refl, (refl, (refl, (refl, (refl, (refl, (refl, (refl, (refl, (refl, (refl, (refl, (refl, (refl, (refl, (refl, (refl, (refl, (refl, (refl, (refl, (refl, tt))))))))))))))))))))))))
+
+temperature_stands : (a : List ℕ) → AllByRecursion (Stand 11 (codes "temperature_c" ∷ []) (a ∷ [])) quantity_names
+temperature_stands a =
+    (refl, (refl, (refl, (refl, (refl, (refl, (refl, (refl, (refl, (refl, (refl, (refl, (refl, (refl, (refl, (refl, (refl, (refl, (refl, (refl, (refl, (refl, (refl, (refl, tt))))))))))))))))))))))))
+
+places_stand : (a : List ℕ) → AllByRecursion (Stand 12 (codes "places" ∷ []) (a ∷ [])) quantity_names
+places_stand a =
+    (refl, (refl, (refl, (refl, (refl, (refl, (refl, (refl, (refl, (refl, (refl, (refl, (refl, (refl, (refl, (refl, (refl, (refl, (refl, (refl, (refl, (refl, (refl, (refl, tt))))))))))))))))))))))))
+
+version_stands : (a b c : List ℕ) → AllByRecursion (Stand 13 (codes "release" ∷ codes "version" ∷ codes "subversion" ∷ []) (a ∷ b ∷ c ∷ [])) quantity_names
+version_stands a b c =
+    (refl, (refl, (refl, (refl, (refl, (refl, (refl, (refl, (refl, (refl, (refl, (refl, (refl, (refl, (refl, (refl, (refl, (refl, (refl, (refl, (refl, (refl, (refl, (refl, tt))))))))))))))))))))))))
+
+serial_stands : (a : List ℕ) → AllByRecursion (Stand 16 (codes "serial" ∷ []) (a ∷ [])) quantity_names
+serial_stands a =
+    (refl, (refl, (refl, (refl, (refl, (refl, (refl, (refl, (refl, (refl, (refl, (refl, (refl, (refl, (refl, (refl, (refl, (refl, (refl, (refl, (refl, (refl, (refl, (refl, tt))))))))))))))))))))))))
+
+name_stands : (a : List ℕ) → AllByRecursion (Stand 17 (codes "instrument" ∷ []) (a ∷ [])) quantity_names
+name_stands a =
+    (refl, (refl, (refl, (refl, (refl, (refl, (refl, (refl, (refl, (refl, (refl, (refl, (refl, (refl, (refl, (refl, (refl, (refl, (refl, (refl, (refl, (refl, (refl, (refl, tt))))))))))))))))))))))))
+
+date_stands : (a b c d e f : List ℕ) → AllByRecursion (Stand 18 (codes "year" ∷ codes "month" ∷ codes "day" ∷ codes "hour" ∷ codes "minute" ∷ codes "second" ∷ []) (a ∷ b ∷ c ∷ d ∷ e ∷ f ∷ [])) quantity_names
+date_stands a b c d e f =
+    (refl, (refl, (refl, (refl, (refl, (refl, (refl, (refl, (refl, (refl, (refl, (refl, (refl, (refl, (refl, (refl, (refl, (refl, (refl, (refl, (refl, (refl, (refl, (refl, tt))))))))))))))))))))))))
+
+-- the texts of an answer to this call stand under their names
+abbrev IsTold : Call → Answer → List ℕ → Type 0
+IsTold call answer = Stand (column_of call answer) (names_from (column_of call answer) (answer_fields answer).values) (texts_of answer)
+
+long_told : (call : Call) (n : ℤ) → AllByRecursion (IsTold call (Long n)) quantity_names
+long_told GetFace n = face_stands (quantity_text (value.Long n))
+long_told GetPrism n = prism_stands (quantity_text (value.Long n))
+long_told call n = serial_stands (quantity_text (value.Long n))
+
+-- the texts of each answer to each call stand under their names
+answer_told : (call : Call) (answer : Answer) → AllByRecursion (IsTold call answer) quantity_names
+answer_told call Nothing = none_stand
+answer_told call (Short n) = places_stand (quantity_text (value.Short n))
+answer_told call (Version release version subversion) = version_stands (quantity_text (value.Short release)) (quantity_text (value.Short version)) (quantity_text (value.Short subversion))
+answer_told call (Long n) = long_told call n
+answer_told call (Name name) = name_stands name
+answer_told call (Date d) =
+    date_stands (quantity_text (value.Short d.year)) (quantity_text (value.Byte d.month)) (quantity_text (value.Byte d.day))
+    (quantity_text (value.Byte d.hour)) (quantity_text (value.Byte d.minute)) (quantity_text (value.Byte d.second))
+answer_told call (Temperature t) = temperature_stands (quantity_text (value.Double t))
+answer_told call (Place s) = place_stand (quantity_text (value.Double s.e0)) (quantity_text (value.Double s.n0)) (quantity_text (value.Double s.h0)) (quantity_text (value.Double s.hi))
+answer_told call (Height h) = reflector_stands (quantity_text (value.Double h))
+answer_told call (Angles hz v) = two_stand (quantity_text (value.Double hz)) (quantity_text (value.Double v))
+answer_told call (Measured hz v distance) = three_stand (quantity_text (value.Double hz)) (quantity_text (value.Double v)) (quantity_text (value.Double distance))
+answer_told call (MeasuredMode hz v distance mode) = four_stand (quantity_text (value.Double hz)) (quantity_text (value.Double v)) (quantity_text (value.Double distance)) (quantity_text (value.Long mode))
+
+-- empty fields stand under all names of quantities where there is none
+blank : AllByRecursion (λ (name : List ℕ). under name quantity_names (map escaped (replicate 24 [])) ≡ []) quantity_names
+blank =
+    (refl, (refl, (refl, (refl, (refl, (refl, (refl, (refl, (refl, (refl, (refl, (refl, (refl, (refl, (refl, (refl, (refl, (refl, (refl, (refl, (refl, (refl, (refl, (refl, tt))))))))))))))))))))))))
+
+module _ (when : When) (text : List ℕ) (command : Command) (name : List ℕ) (k : ℕ) (is : slice_get quantity_names k ≡ Some name) where
+  -- the field of a row under this name of a quantity
+  abbrev field_of : End → List ℕ
+  field_of end = under name (header true) (map escaped (row_fields true when text command end))
+
+  behind : (end : End) → field_of end ≡ under name quantity_names (map escaped (quantity_fields command.call end))
+  behind end = all_at (IsBehind when text command end) quantity_names (behind_others when text command end) k name is
+
+  none : under name quantity_names (map escaped (replicate 24 [])) ≡ []
+  none = all_at (λ (n : List ℕ). under n quantity_names (map escaped (replicate 24 [])) ≡ []) quantity_names blank k name is
+
+  -- under the name of a quantity stands the answer's quantity of that name
+  pub quantity_stands : (answer : Answer) (line : List ℕ) → IsAnswerOf command.call answer → field_of (Answered (Some answer) line) ≡ escaped (quantity_in command.call (Value answer) name)
+  quantity_stands answer line of_call =
+      behind (Answered (Some answer) line)
+      ∙ all_at (IsTold command.call answer) quantity_names (answer_told command.call answer) k name is
+      ∙ ap (λ (names : List (List ℕ)). escaped (under name names (texts_of answer))) (have_their_names command.call answer of_call)
+
+  -- an answer without values has nothing under the name of a quantity
+  pub none_answered : (line : List ℕ) → field_of (Answered None line) ≡ []
+  none_answered line = behind (Answered None line) ∙ none
+
+  -- a command that isn't answered has nothing under the name of a quantity
+  pub none_else : (end : End) → ((answer : Option Answer) (line : List ℕ) → end ≡ Answered answer line → ⊥) → field_of end ≡ []
+  none_else (Answered answer line) other = absurd (other answer line refl)
+  none_else (Unreadable line fault) other = behind (Unreadable line fault) ∙ none
+  none_else (Elsewhere line) other = behind (Elsewhere line) ∙ none
+  none_else Late other = behind Late ∙ none
+  none_else Lost other = behind Lost ∙ none
+  none_else Skipped other = behind Skipped ∙ none
+  none_else Missed other = behind Missed ∙ none

@@ -1,0 +1,246 @@
+-- Lines of JSON that a station wrote of a run in the field: their members are their own.
+use Rattle.std.proofs.Common.{◌≡◌, ℕ, ◌<◌, ◌^◌, true, List, [], ◌∷◌, ◌++◌, map, Option, Some, None, Result, if◌then◌else◌, refl, sym, ap, ◌∙◌, subst, append-nil, arith}
+use Rattle.std.specs.Prelude.{codes, slice_get, All, Bool, false, ◌==◌}
+use Rattle.std.specs.List.{AllByRecursion, flat_map}
+use Rattle.std.proofs.lemmas.Bool.{cond_both}
+use Rattle.std.proofs.lemmas.List.{length-map}
+use Rattle.std.proofs.lemmas.List.Elements.{All-from_recursion}
+use Rattle.gc_lines.specs.Numbers.{IsNumber}
+use Rattle.gc_lines.specs.Replies.{ReplyFields, IsReply}
+use Rattle.gc_catalogue.specs.Readings.{IsReading}
+use Rattle.gc_catalogue.specs.declared.answer.Answer.{Answer}
+use Rattle.gc_catalogue.specs.declared.answer.Reading.{Reading}
+use Rattle.gc_catalogue.specs.declared.answer.Reading.TheVariants as reading
+use Rattle.gc_catalogue.specs.declared.call.Call.{Call}
+use Rattle.gc_catalogue.proofs.EachReply.{each_reply}
+use Rattle.gc_instrument.specs.State.{KeptReply}
+use Rattle.gc_texts.specs.Cuts.{Lacks}
+use Rattle.gc_texts.specs.Endings.{End, Answered, Unreadable, Elsewhere, Late, Lost, Skipped, Missed, word_of}
+use Rattle.gc_texts.specs.Logs.{escaped}
+use Rattle.gc_texts.specs.Names.{name_text}
+use Rattle.gc_texts.specs.Stamps.{stamp_text}
+use Rattle.gc_texts.specs.declared.commands.Command.{Command}
+use Rattle.gc_texts.specs.declared.name.Name.{Name}
+use Rattle.gc_rows.specs.JsonLines.{json_members, members_text, string_text}
+use Rattle.gc_rows.specs.Laws.{IsEnd, IsWhen, record_read}
+use Rattle.gc_rows.specs.Quantities.{quantity_names}
+use Rattle.gc_rows.specs.Records.{head_text, record_text}
+use Rattle.gc_rows.specs.Rows.{code_of, com_of}
+use Rattle.gc_rows.specs.declared.record.Form.{Form}
+use Rattle.gc_rows.specs.declared.record.Form.TheVariants.{Json}
+use Rattle.gc_rows.specs.declared.when.When.{When}
+use Rattle.gc_rows.proofs.Columns.{reply_columns}
+use Rattle.gc_rows.proofs.JsonLines.{front_of, reads_as}
+use Rattle.gc_rows.proofs.Members.{are_members}
+use Rattle.gc_links.specs.Acts.{Act}
+use Rattle.gc_station.specs.Answers.{answer_of, IsTrueRecord}
+use Rattle.gc_station.specs.Model.{opening}
+use Rattle.gc_station.specs.Parts.{Part, parts_of}
+use Rattle.gc_station.specs.Records.{Record, texts_of}
+use Rattle.gc_station.specs.Scopes.{AreReadings}
+use Rattle.gc_station.specs.declared.tally.Tally.{Tally}
+use Rattle.gc_station.proofs.Answers.{answers_true}
+use Rattle.gc_station.proofs.Ended.{IsRead, ended_read}
+use Rattle.gc_measuring.specs.Measuring.{Course, front_text, text_in, when_of}
+use Rattle.gc_measuring.specs.declared.stop.Stop.{Stop}
+use Rattle.gc_world.specs.World.{Ends}
+use Rattle.gc_field.specs.Begin.{UnderWay}
+use Rattle.gc_field.specs.Beginnings as field
+use Rattle.gc_field.specs.Instrument.{IsAnInstrument, AnyState}
+use Rattle.gc_field.specs.Runs.{IsInField, IsOwnAnswer}
+use Rattle.gc_field.specs.Shown.{Stretch, stretches}
+use Rattle.gc_field.proofs.Joining.{run_faithful}
+use Rattle.gc_promise.specs.Fields.{IsOwn, IsReplied, Says, quantity_in}
+use Rattle.gc_promise.specs.Objects.{AreOfBytes, AreOwnObjects, IsOwnObject, ObjectsAreTheirOwn, lines_text}
+use Rattle.gc_promise.specs.Tables.{acts_measured, records_in, scope_of}
+use Rattle.gc_promise.proofs.Finding.{at_member, member_cycle, member_outcome, member_place, member_procedure, member_quantity, member_rc, member_rc_com, member_stands, member_target, member_values, zeros_gone}
+use Rattle.gc_promise.proofs.Owning.{a_reply, same_line}
+use Rattle.gc_promise.proofs.Tabled.{all_front, all_written, at_map, line_in, not_answered, nothing_in, some_same}
+use Rattle.gc_promise.proofs.Taken.{Took, behind_took}
+use Rattle.gc_promise.proofs.Unbroken.{line_unbroken}
+
+-- Quantities.
+
+module _ (reads : Call → List ℕ → Reading) (when : When) (text : List ℕ) (command : Command) (name : List ℕ) (k : ℕ) (is : slice_get quantity_names k ≡ Some name) where
+  module _ (line : List ℕ) (reply : ReplyFields) (said : Reading) (is_reading : IsReading command.call reply said) (same : reads command.call line ≡ said) where
+    stands : (end : End) → answer_of end ≡ Some line → IsRead reads command.call end → word_of end ≡ codes "answered"
+        → at_member when text command end name ≡ escaped (quantity_in command.call said name)
+    stands (Answered (Some answer) l) answered read word =
+        let value : said ≡ reading.Value answer = sym same ∙ ap (reads command.call) (sym (some_same l line answered)) ∙ read.some answer l refl in
+        member_quantity when text command (Answered (Some answer) l) name k is
+        ∙ member_stands command.call name k is answer l (subst (IsReading command.call reply) value is_reading).2.of_call
+        ∙ ap (λ (x : Reading). escaped (quantity_in command.call x name)) (sym value)
+    stands (Answered None l) answered read word =
+        let none : (answer : Answer) → said ≡ reading.Value answer → ⊥ =
+        λ answer value. read.none answer l refl (ap (reads command.call) (some_same l line answered) ∙ same ∙ value) in
+        member_quantity when text command (Answered None l) name k is ∙ sym (nothing_in command.call name said none)
+    stands (Unreadable l fault) answered read word = absurd (not_answered (codes "unreadable") (λ e. omega (arith, e)) word)
+    stands (Elsewhere l) answered read word = absurd (not_answered (codes "elsewhere") (λ e. omega (arith, e)) word)
+    stands Late answered read word = absurd (not_answered (codes "late") (λ e. omega (arith, e)) word)
+    stands Lost answered read word = absurd (not_answered (codes "lost") (λ e. omega (arith, e)) word)
+    stands Skipped answered read word = absurd (not_answered (codes "skipped") (λ e. omega (arith, e)) word)
+    stands Missed answered read word = absurd (not_answered (codes "missed") (λ e. omega (arith, e)) word)
+
+  none_stands : (end : End) → ((answer : Option Answer) (line : List ℕ) → end ≡ Answered answer line → ⊥) → at_member when text command end name ≡ []
+  none_stands (Answered answer line) other = absurd (other answer line refl)
+  none_stands (Unreadable line fault) other = member_quantity when text command (Unreadable line fault) name k is
+  none_stands (Elsewhere line) other = member_quantity when text command (Elsewhere line) name k is
+  none_stands Late other = member_quantity when text command Late name k is
+  none_stands Lost other = member_quantity when text command Lost name k is
+  none_stands Skipped other = member_quantity when text command Skipped name k is
+  none_stands Missed other = member_quantity when text command Missed name k is
+
+-- An object.
+
+module _ {State : Type 0} (ends : Ends State) (kept : State → Option KeptReply) (course : Course) (reads : Call → List ℕ → Reading) (are : AreReadings reads)
+    (acts : List Act) (ps : List Part) (ss : List (Stretch State)) (r : Record) where
+  abbrev when : When
+  when = when_of course.layout.run r
+
+  abbrev text : List ℕ
+  text = name_text r.command.target course.names
+
+  abbrev at : List ℕ → List ℕ
+  at name = at_member when text r.command r.end name
+
+  says : (line : List ℕ) → answer_of r.end ≡ Some line → (x : ReplyFields) × IsReply line x → IsRead reads r.command.call r.end → Says true at r.command.call line
+  says line answered reply read =
+      let same = same_line r.end line answered in
+      let said = reply_columns line reply.0 reply.1 in
+      let reading = each_reply r.command.call reply.0 in
+      let reads_so = are r.command.call line reading.0 (record { reply = reply.0; is_reply = reply.1; is_reading = reading.1 }) in
+      let word = member_outcome when text r.command r.end in
+      record {
+        reply = reply.0;
+        is_reply = reply.1;
+        rc_com = subst (λ (t : List ℕ). IsNumber t reply.0.rc_com) (sym (member_rc_com when text r.command r.end line same)) (zeros_gone (com_of line) reply.0.rc_com said.rc_com);
+        rc = subst (λ (t : List ℕ). IsNumber t reply.0.rc) (sym (member_rc when text r.command r.end line same)) (zeros_gone (code_of line) reply.0.rc said.rc);
+        values = member_values when text r.command r.end line same ∙ ap escaped said.values;
+        reading = reading.0;
+        is_reading = reading.1;
+        quantities = λ shows answers name quantity.
+            stands reads when text r.command name quantity.0 quantity.1 line reply.0 reading.0 reading.1 reads_so r.end answered read (sym word ∙ answers);
+      }
+
+  -- the object of a record is its own, by what is known of the record
+  object_own : IsOwnAnswer ends AnyState kept course.tasks ps ss r → IsTrueRecord course.plan course.tasks (scope_of course reads) acts r → IsRead reads r.command.call r.end
+      → IsOwn ends AnyState kept true at course.tasks ps ss r
+  object_own own came read =
+      let word = member_outcome when text r.command r.end in
+      record {
+        is_of = record {
+          cycle = member_cycle when text r.command r.end;
+          place = member_place when text r.command r.end;
+          target = member_target when text r.command r.end;
+          procedure = member_procedure when text r.command r.end;
+          outcome = word;
+        };
+        replied = λ is.
+            let has = line_in r.end (subst IsReplied word is) in
+            let true_one = came has.0 has.1 in
+            (has.0, says has.0 has.1 (a_reply has.0 _ true_one.id) read, own has.0 has.1);
+        without = λ shows other name quantity.
+            none_stands reads when text r.command name quantity.0 quantity.1 r.end (λ answer line e. other (word ∙ ap word_of e));
+      }
+
+-- Lines.
+
+-- the line of a record without its line feed
+abbrev line_text : When → List ℕ → Command → End → List ℕ
+line_text when text command end = (codes "{\"run\":" ++ string_text (stamp_text when.run)) ++ (members_text (json_members when text command end) ++ codes "}")
+
+line_ends : (when : When) (text : List ℕ) (command : Command) (end : End) → record_text Json when text command end ≡ line_text when text command end ++ 10 ∷ []
+line_ends when text command end = front_of (codes "{\"run\":" ++ string_text (stamp_text when.run)) (members_text (json_members when text command end))
+
+each_line : {X : Type 0} (text line : X → List ℕ) → ((x : X) → text x ≡ line x ++ 10 ∷ []) → (xs : List X) → flat_map text xs ≡ lines_text (map line xs)
+each_line says_text line one [] = refl
+each_line says_text line one (x ∷ xs) = ap (λ (l : List ℕ). l ++ flat_map says_text xs) (one x) ∙ ap (λ (l : List ℕ). (line x ++ 10 ∷ []) ++ l) (each_line says_text line one xs)
+
+-- the name of a target is bytes
+name_bytes : (target : ℕ) (names : List Name) → AllByRecursion (λ (name : Name). All (λ b. b < 256) name.text.items) names → All (λ b. b < 256) (name_text target names)
+name_bytes target [] are = All-from_recursion (λ (b : ℕ). b < 256) [] tt
+name_bytes target (name ∷ names) are =
+    cond_both (name.target == target) name.text.items (name_text target names) (All (λ b. b < 256)) (λ _. are.0) (λ _. name_bytes target names are.1)
+
+no_front : (headed : Bool) (form : Form) → form ≡ Json → (if headed then [] else head_text form) ≡ []
+no_front true form is = refl
+no_front false form is = ap head_text is
+
+module _ {State : Type 0} (ends : Ends State) (kept : State → Option KeptReply) (is : IsAnInstrument ends AnyState kept) (course : Course) (form : course.layout.form ≡ Json)
+    (reads : Call → List ℕ → Reading) (are : AreReadings reads) (acts : List Act) (u : UnderWay State) (rs : List (field.Run State))
+    (there : IsInField ends AnyState kept course.plan course.tasks (scope_of course reads) acts u rs) (small : AreOfBytes course (records_in course reads acts)) where
+  abbrev parts : List Part
+  parts = parts_of course.plan course.tasks (opening course.plan (scope_of course reads)) acts
+
+  abbrev over : List (Stretch State)
+  over = stretches ends u rs
+
+  abbrev line_in_course : Record → List ℕ
+  line_in_course r = line_text (when_of course.layout.run r) (name_text r.command.target course.names) r.command r.end
+
+  one_line : (r : Record) → text_in course.layout course.names r ≡ line_in_course r ++ 10 ∷ []
+  one_line r =
+      let when = when_of course.layout.run r in
+      let text = name_text r.command.target course.names in
+      ap (λ (f : Form). record_text f when text r.command r.end) form ∙ line_ends when text r.command r.end
+
+  -- the line of each record that was written whole is its own object
+  each_own : (written others : List Record) → records_in course reads acts ≡ written ++ others → (n : ℕ) (r : Record) → slice_get written n ≡ Some r
+      → IsOwnObject ends AnyState kept (line_in_course r) course.tasks parts over r
+  each_own written others order n r got =
+      let faithful = run_faithful ends AnyState kept is course.plan course.tasks (scope_of course reads) acts u rs there in
+      let when = when_of course.layout.run r in
+      let text = name_text r.command.target course.names in
+      let bounds = all_written (λ (x : Record). IsWhen (when_of course.layout.run x) × (x.command.target < 2 ^ 64) × IsEnd x.end) (records_in course reads acts) written others order
+      small.each n r got in
+      let members = are_members when text r.command r.end bounds.0 (name_bytes r.command.target course.names small.names) bounds.1 bounds.2 in
+      record {
+        members = record_read when.run (json_members when text r.command r.end);
+        reads_as = reads_as when.run (json_members when text r.command r.end) small.run members;
+        own =
+            object_own ends kept course reads are acts parts over r
+            (all_written (IsOwnAnswer ends AnyState kept course.tasks parts over) (records_in course reads acts) written others order faithful.own n r got)
+            (all_written (IsTrueRecord course.plan course.tasks (scope_of course reads) acts) (records_in course reads acts) written others order
+            (answers_true course.plan course.tasks (scope_of course reads) acts there.runs) n r got)
+            (all_written (λ (x : Record). IsRead reads x.command.call x.end) (records_in course reads acts) written others order
+            (ended_read course.plan course.tasks (scope_of course reads) acts) n r got);
+      }
+
+  all_unbroken : (rs : List Record) → AllByRecursion (λ (x : Record). IsWhen (when_of course.layout.run x) × (x.command.target < 2 ^ 64) × IsEnd x.end) rs
+      → AllByRecursion (Lacks 10) (map line_in_course rs)
+  all_unbroken [] bounds = tt
+  all_unbroken (r ∷ rs) bounds =
+      let when = when_of course.layout.run r in
+      let text = name_text r.command.target course.names in
+      let members = are_members when text r.command r.end bounds.0.0 (name_bytes r.command.target course.names small.names) bounds.0.1 bounds.0.2 in
+      (line_unbroken when text r.command r.end bounds.0.2 members, all_unbroken rs bounds.1)
+
+  objected : (result : Result Tally Stop) (had : List ℕ) (has : Option (List ℕ))
+      → Took (text_in course.layout course.names) (records_in course reads acts) result (had ++ front_text course.layout) has
+      → AreOwnObjects ends AnyState kept course reads acts parts over result had has
+  objected result had has took =
+      let written = took.are.written in
+      let nothing_first : had ++ front_text course.layout ≡ had = ap (λ (l : List ℕ). had ++ l) (no_front course.layout.headed course.layout.form form) ∙ append-nil had in
+      record {
+        lines = map line_in_course written;
+        torn = took.torn;
+        took = took.is ∙ ap (λ (l : List ℕ). Some (l ++ (texts_of (text_in course.layout course.names) written ++ took.torn))) nothing_first
+            ∙ ap (λ (l : List ℕ). Some (had ++ (l ++ took.torn))) (each_line (text_in course.layout course.names) line_in_course one_line written);
+        are = took.are;
+        unbroken =
+            all_unbroken written
+            (all_front (λ (x : Record). IsWhen (when_of course.layout.run x) × (x.command.target < 2 ^ 64) × IsEnd x.end) written took.are.unwritten
+            (subst (AllByRecursion (λ (x : Record). IsWhen (when_of course.layout.run x) × (x.command.target < 2 ^ 64) × IsEnd x.end)) took.are.order small.each));
+        as_many = length-map written line_in_course;
+        each = λ n line e.
+            let x = at_map line_in_course written n line e in (
+              x.0,
+              x.1,
+              subst (λ (l : List ℕ). IsOwnObject ends AnyState kept l course.tasks parts over x.0) x.2 (each_own written took.are.unwritten took.are.order n x.0 x.1),
+            );
+      }
+
+pub objects_own : {State : Type 0} → ObjectsAreTheirOwn State
+objects_own ends kept is course form old new result behind told had none some began reads are u rs there small =
+    objected ends kept is course form reads are (acts_measured result told) u rs there small result had new.taken
+    (behind_took course old new result behind told had none some began reads are)

@@ -1,0 +1,155 @@
+-- Bytes as lines: how many there are, and which of them are those of a front.
+use Rattle.std.proofs.Common.{◌≡◌, inl, inr, ℕ, ◌+◌, ◌-◌, ◌≤◌, ◌==◌, true, false, List, [], ◌∷◌, ◌++◌, length, take, drop, refl, sym, ◌∙◌, ap, subst, arith, append_assoc, length-append, if◌then◌else◌}
+use Rattle.std.proofs.Math.Seq.{take-append-add}
+use Rattle.std.proofs.lemmas.Bool.{cases_Bool, eqb-true}
+use Rattle.std.proofs.lemmas.List.{take_at, take-append-drop}
+use Rattle.gc_files.specs.Failing.{feeds}
+use Rattle.gc_files.specs.Rows.{has_feed, whole, line, IsFront}
+use Rattle.gc_files.specs.Runs.{lines, AreRows}
+use Rattle.gc_files.proofs.Whole.{whole_none}
+
+-- these lines, with a byte in front of the first one
+abbrev pub onto : ℕ → List (List ℕ) → List (List ℕ)
+onto b [] = (b ∷ []) ∷ []
+onto b (row ∷ rows) = (b ∷ row) ∷ rows
+
+-- the lines of bytes, without their line feeds; behind the last line feed stands one more, if there is something
+abbrev pub pieces : List ℕ → List (List ℕ)
+pieces [] = []
+pieces (b ∷ bs) = if b == 10 then [] ∷ pieces bs else onto b (pieces bs)
+
+nil_cons : (b : ℕ) (bs : List ℕ) → [] ≡ b ∷ bs → ⊥
+nil_cons b bs is = cc
+
+-- a byte that is no line feed, in front of rows, leaves them rows
+onto_rows : (b : ℕ) (rows : List (List ℕ)) → (b == 10) ≡ false → AreRows rows → AreRows (onto b rows)
+onto_rows b [] isnt are = (rw (isnt) refl, tt)
+onto_rows b (row ∷ rows) isnt are = (rw (isnt) are.0, are.1)
+
+-- no piece of bytes has a line feed
+pub pieces_rows : (xs : List ℕ) → AreRows (pieces xs)
+pieces_rows [] = tt
+pieces_rows (b ∷ bs) = elim (cases_Bool (b == 10)) [
+  | inl is ↦ rw (is) (refl, pieces_rows bs)
+  | inr isnt ↦ rw (isnt) (onto_rows b (pieces bs) isnt (pieces_rows bs))
+]
+
+-- bytes that end in a line feed have one, and what stands behind their first byte ends in one, too, or is empty
+tail_whole : (b : ℕ) (bs : List ℕ) → whole (b ∷ bs) ≡ b ∷ bs → (has_feed (b ∷ bs) ≡ true) × (whole bs ≡ bs)
+tail_whole b bs is = elim (cases_Bool (has_feed (b ∷ bs))) [
+  | inl some ↦
+      let at : whole (b ∷ bs) ≡ b ∷ whole bs = rw (some) refl in
+      (some, ap (drop 1) (sym at ∙ is))
+  | inr none ↦ absurd (nil_cons b bs (sym (whole_none (b ∷ bs) none) ∙ is))
+]
+
+-- where bytes end in a line feed, so does each back of them, unless it is empty
+pub whole_rest : (xs ys : List ℕ) → whole (xs ++ ys) ≡ xs ++ ys → whole ys ≡ ys
+whole_rest [] ys is = is
+whole_rest (b ∷ xs) ys is = whole_rest xs ys (tail_whole b (xs ++ ys) is).1
+
+-- behind a byte that is no line feed there is a line
+record Some (rows : List (List ℕ)) : Type 0 where
+  row : List ℕ
+  others : List (List ℕ)
+  is : rows ≡ row ∷ others
+
+onto_some : (b : ℕ) (rows : List (List ℕ)) → Some (onto b rows)
+onto_some b [] = record { row = b ∷ []; others = []; is = refl }
+onto_some b (row ∷ rows) = record { row = b ∷ row; others = rows; is = refl }
+
+-- bytes with a line feed have a first piece
+some_piece : (bs : List ℕ) → has_feed bs ≡ true → Some (pieces bs)
+some_piece [] some = let wrong : false ≡ true = some in cc
+some_piece (b ∷ bs) some = elim (cases_Bool (b == 10)) [
+  | inl is ↦ rw (is) (record { row = []; others = pieces bs; is = refl })
+  | inr isnt ↦ rw (isnt) (onto_some b (pieces bs))
+]
+
+-- a line feed that isn't the first byte is behind it
+feed_behind_first : (b : ℕ) (bs : List ℕ) → (b == 10) ≡ false → has_feed (b ∷ bs) ≡ true → has_feed bs ≡ true
+feed_behind_first b bs isnt some = subst (λ t. (if t then true else has_feed bs) ≡ true) isnt some
+
+-- a byte in front of lines, of which there are some
+onto_lines : (b : ℕ) (rows : List (List ℕ)) → Some rows → lines (onto b rows) ≡ b ∷ lines rows
+onto_lines b [] some = let wrong : [] ≡ some.row ∷ some.others = some.is in cc
+onto_lines b (row ∷ rows) some = refl
+
+onto_two : (b : ℕ) (rows others : List (List ℕ)) → Some rows → onto b (rows ++ others) ≡ onto b rows ++ others
+onto_two b [] others some = let wrong : [] ≡ some.row ∷ some.others = some.is in cc
+onto_two b (row ∷ rows) others some = refl
+
+onto_length : (b : ℕ) (rows : List (List ℕ)) → Some rows → length (onto b rows) ≡ length rows
+onto_length b [] some = let wrong : [] ≡ some.row ∷ some.others = some.is in cc
+onto_length b (row ∷ rows) some = refl
+
+-- the pieces of bytes that end in a line feed, each with its line feed, are these bytes
+pub pieces_whole : (xs : List ℕ) → whole xs ≡ xs → lines (pieces xs) ≡ xs
+pieces_whole [] is = refl
+pieces_whole (b ∷ bs) is =
+    let t = tail_whole b bs is in
+    elim (cases_Bool (b == 10)) [
+      | inl ten ↦ rw (ten) (ap (λ (l : List ℕ). 10 ∷ l) (pieces_whole bs t.1) ∙ ap (λ n. n ∷ bs) (sym (ten_of b ten)))
+      | inr isnt ↦ rw (isnt) (onto_lines b (pieces bs) (some_piece bs (feed_behind_first b bs isnt t.0)) ∙ ap (λ (l : List ℕ). b ∷ l) (pieces_whole bs t.1))
+    ]
+  where
+    ten_of : (b : ℕ) → (b == 10) ≡ true → b ≡ 10
+    ten_of b is = eqb-true b 10 is
+
+-- the pieces of bytes that end in a line feed, and of others behind them, are those of the first and then those of the others
+pub pieces_two : (xs ys : List ℕ) → whole xs ≡ xs → pieces (xs ++ ys) ≡ pieces xs ++ pieces ys
+pieces_two [] ys is = refl
+pieces_two (b ∷ bs) ys is =
+    let t = tail_whole b bs is in
+    elim (cases_Bool (b == 10)) [
+      | inl ten ↦ rw (ten) (ap (λ (l : List (List ℕ)). [] ∷ l) (pieces_two bs ys t.1))
+      | inr isnt ↦ rw (isnt) (ap (onto b) (pieces_two bs ys t.1) ∙ onto_two b (pieces bs) (pieces ys) (some_piece bs (feed_behind_first b bs isnt t.0)))
+    ]
+
+-- bytes that end in a line feed have as many pieces as line feeds
+pub pieces_count : (xs : List ℕ) → whole xs ≡ xs → length (pieces xs) ≡ feeds xs
+pieces_count [] is = refl
+pieces_count (b ∷ bs) is =
+    let t = tail_whole b bs is in
+    elim (cases_Bool (b == 10)) [
+      | inl ten ↦ rw (ten) (omega (arith, pieces_count bs t.1))
+      | inr isnt ↦ rw (isnt) (omega (arith, onto_length b (pieces bs) (some_piece bs (feed_behind_first b bs isnt t.0)), pieces_count bs t.1))
+    ]
+
+-- the lines of two lists, one behind the other, are those of the first and then those of the second
+pub lines_two : (xs ys : List (List ℕ)) → lines (xs ++ ys) ≡ lines xs ++ lines ys
+lines_two [] ys = refl
+lines_two (row ∷ xs) ys = ap (λ (l : List ℕ). line row ++ l) (lines_two xs ys) ∙ sym (append_assoc (line row) (lines xs) (lines ys))
+
+-- of whole bytes at least all lines of a whole front are left: they are the front and more bytes, and together a front of all
+pub record Left (taken all rows : List ℕ) : Type 0 where
+  pub more : List ℕ
+  pub has : rows ≡ taken ++ more
+  pub own : IsFront (taken ++ more) all
+
+-- of whole bytes, at least as many pieces as a whole front has are that front and more
+pub rows_left : (taken rest : List ℕ) (n : ℕ) → whole taken ≡ taken → whole rest ≡ rest → feeds taken ≤ n → Left taken (taken ++ rest) (lines (take n (pieces (taken ++ rest))))
+rows_left taken rest n taken_whole rest_whole least =
+    let m = n - feeds taken in
+    let at : n ≡ length (pieces taken) + m = omega (arith, least, pieces_count taken taken_whole) in
+    let cut : take n (pieces (taken ++ rest)) ≡ pieces taken ++ take m (pieces rest) =
+    ap (take n) (pieces_two taken rest taken_whole) ∙ ap (λ k. take k (pieces taken ++ pieces rest)) at ∙ take-append-add (pieces taken) (pieces rest) m in
+    record {
+      more = lines (take m (pieces rest));
+      has = ap lines cut ∙ lines_two (pieces taken) (take m (pieces rest)) ∙ ap (λ (l : List ℕ). l ++ lines (take m (pieces rest))) (pieces_whole taken taken_whole);
+      own = record {
+        rest = lines (drop m (pieces rest));
+        split = ap (λ (l : List ℕ). taken ++ l)
+            (sym (pieces_whole rest rest_whole) ∙ ap lines (sym (take-append-drop m (pieces rest))) ∙ lines_two (take m (pieces rest)) (drop m (pieces rest)))
+            ∙ sym (append_assoc taken (lines (take m (pieces rest))) (lines (drop m (pieces rest))));
+      };
+    }
+
+-- a whole front has no more lines than all bytes have
+pub pieces_fit : (taken rest : List ℕ) → whole taken ≡ taken → feeds taken ≤ length (pieces (taken ++ rest))
+pieces_fit taken rest is = omega (arith, pieces_count taken is, ap length (pieces_two taken rest is), length-append (pieces taken) (pieces rest))
+
+-- as many pieces as a whole front has line feeds are that front
+pub pieces_front : (taken rest : List ℕ) → whole taken ≡ taken → lines (take (feeds taken) (pieces (taken ++ rest))) ≡ taken
+pieces_front taken rest is =
+    ap lines (ap (take (feeds taken)) (pieces_two taken rest is) ∙ take_at (pieces taken) (pieces rest) (feeds taken) (pieces_count taken is)) ∙ pieces_whole taken is

@@ -1,0 +1,134 @@
+-- Texts of comma-separated values that are read one behind the other.
+use Rattle.std.proofs.Common.{◌≡◌, ℕ, zero, suc, ◌+◌, ◌<◌, Bool, true, false, cond, List, [], ◌∷◌, ◌++◌, length, map, Option, None, Some, refl, sym, ap, subst, ◌∙◌, arith, append_assoc}
+use Rattle.std.specs.Prelude.{◌==◌, ◌&&◌}
+use Rattle.std.specs.List.{flat_map}
+use Rattle.std.proofs.lemmas.Bool.{cond_both, false≢true}
+use Rattle.csv.specs.Machine.{Read, field_after, fields_after, after_end, ends_at_end, ends_with, in_field, is_byte, is_end, line_feed, next_record, start_field, start_record, step}
+use Rattle.csv.specs.Reading.{default_config, records, records_from, records_next}
+use Rattle.csv.specs.declared.parser.Action.{Action}
+use Rattle.csv.specs.declared.parser.Action.TheVariants as act
+use Rattle.csv.specs.declared.parser.Config.{Config}
+use Rattle.csv.specs.declared.parser.State.{State}
+use Rattle.csv.specs.declared.parser.State.TheVariants as st
+use Rattle.csv.specs.declared.parser.Terminator.{Terminator}
+use Rattle.csv.specs.declared.parser.Terminator.TheVariants as term
+use Rattle.gc_texts.specs.Logs.{escaped}
+use Rattle.gc_rows.specs.Rows.{row_of}
+use Rattle.gc_rows.proofs.Rows.{read_back}
+use Rattle.gc_promise.specs.Tables.{AreReadAs}
+
+-- A read takes something.
+
+-- behind a byte that ends a record, the end of the input ends none
+abbrev IsBetween : State × Action → Type 0
+IsBetween x = is_end x.1 ≡ true → ends_at_end x.0 ≡ false
+
+after_between : (t : Terminator) (c : ℕ) → ends_at_end (after_end t c) ≡ false
+after_between term.CRLF c = cond_both (c == 13) st.AfterCr st.StartRecord (λ s. ends_at_end s ≡ false) (λ _. refl) (λ _. refl)
+after_between (term.Any t) c = refl
+
+field_between : (cfg : Config) (c : ℕ) → IsBetween (in_field cfg c)
+field_between cfg c =
+    cond_both (c == cfg.delimiter) (st.StartField, act.EndField) _ IsBetween (λ _ e. absurd (false≢true e))
+    (λ _. cond_both (ends_with cfg.terminator c) (after_end cfg.terminator c, act.EndRecord) (st.InField, act.Copy) IsBetween
+    (λ _ _. after_between cfg.terminator c) (λ _ e. absurd (false≢true e)))
+
+start_between : (cfg : Config) (c : ℕ) → IsBetween (start_field cfg c)
+start_between cfg c = cond_both (cfg.quoting && (c == cfg.quote)) (st.InQuoted, act.Skip) (in_field cfg c) IsBetween (λ _ e. absurd (false≢true e)) (λ _. field_between cfg c)
+
+record_between : (cfg : Config) (c : ℕ) → IsBetween (start_record cfg c)
+record_between cfg c =
+    cond_both (ends_with cfg.terminator c) (st.StartRecord, act.Skip) _ IsBetween (λ _ e. absurd (false≢true e))
+    (λ _. cond_both (is_byte cfg.comment c) (st.InComment, act.Skip) (start_field cfg c) IsBetween (λ _ e. absurd (false≢true e)) (λ _. start_between cfg c))
+
+step_between : (cfg : Config) (s : State) (c : ℕ) → IsBetween (step cfg s c)
+step_between cfg st.StartRecord c = record_between cfg c
+step_between cfg st.StartField c = start_between cfg c
+step_between cfg st.InField c = field_between cfg c
+step_between cfg st.InQuoted c =
+    cond_both (cfg.quoting && (c == cfg.quote)) (st.AfterQuote, act.Skip) _ IsBetween (λ _ e. absurd (false≢true e))
+    (λ _. cond_both (cfg.quoting && is_byte cfg.escape c) (st.InEscape, act.Skip) (st.InQuoted, act.Copy) IsBetween (λ _ e. absurd (false≢true e)) (λ _ e. absurd (false≢true e)))
+step_between cfg st.InEscape c = λ e. absurd (false≢true e)
+step_between cfg st.AfterQuote c =
+    cond_both (cfg.quoting && cfg.double_quote && (c == cfg.quote)) (st.InQuoted, act.Copy) (in_field cfg c) IsBetween (λ _ e. absurd (false≢true e)) (λ _. field_between cfg c)
+step_between cfg st.InComment c =
+    cond_both (c == line_feed) (st.StartRecord, act.Skip) (st.InComment, act.Skip) IsBetween (λ _ e. absurd (false≢true e)) (λ _ e. absurd (false≢true e))
+step_between cfg st.AfterCr c = cond_both (c == line_feed) (st.StartRecord, act.Skip) (start_record cfg c) IsBetween (λ _ e. absurd (false≢true e)) (λ _. record_between cfg c)
+
+-- 1 for true, and else 0
+abbrev one_if : Bool → ℕ
+one_if true = 1
+one_if false = 0
+
+-- how many reads there can be, at most
+abbrev reads_left : State → List ℕ → ℕ
+reads_left s xs = length xs + one_if (ends_at_end s)
+
+few_if : (b : Bool) → one_if b < 2
+few_if true = omega arith
+few_if false = omega arith
+
+some_same : (a b : Read) → Some a ≡ Some b → a ≡ b
+some_same a b e = cc
+
+-- a read that gives a record leaves fewer reads
+takes_some : (cfg : Config) (s : State) (fields : List (List ℕ)) (field xs : List ℕ) (p : Read) → next_record cfg s fields field xs ≡ Some p → reads_left p.1 p.2 < reads_left s xs
+unfolding next_record
+takes_some cfg s fields field [] p = at_end (ends_at_end s) where
+  at_end : (b : Bool) → cond b (Some (fields ++ (field ∷ []), st.StartRecord, [])) None ≡ Some p → reads_left p.1 p.2 < 0 + one_if b
+  at_end true e = subst (λ (x : Read). reads_left x.1 x.2 < 1) (some_same _ p e) (omega arith)
+  at_end false e = cc
+takes_some cfg s fields field (c ∷ rest) p = at_byte (is_end (step cfg s c).1) refl (takes_some cfg (step cfg s c).0 _ _ rest p) where
+  goes_on : State × Action → Option Read
+  goes_on x = next_record cfg x.0 (fields_after x.1 fields field) (field_after x.1 c field) rest
+
+  at_byte : (b : Bool) → is_end (step cfg s c).1 ≡ b
+      → (next_record cfg (step cfg s c).0 (fields_after (step cfg s c).1 fields field) (field_after (step cfg s c).1 c field) rest ≡ Some p → reads_left p.1 p.2 < reads_left (step cfg s c).0 rest)
+      → cond b (Some (fields_after (step cfg s c).1 fields field, (step cfg s c).0, rest)) (goes_on (step cfg s c)) ≡ Some p
+      → reads_left p.1 p.2 < suc (length rest) + one_if (ends_at_end s)
+  at_byte true is more e =
+      subst (λ (x : Read). reads_left x.1 x.2 < suc (length rest) + one_if (ends_at_end s)) (some_same _ p e)
+      (let none = ap one_if (step_between cfg s c is) in omega (arith, none))
+  at_byte false is more e = let less = more e in let few = few_if (ends_at_end (step cfg s c).0) in omega (arith, less, few)
+
+-- any two bounds above `reads_left` give the same records
+enough : (cfg : Config) (m n : ℕ) (s : State) (xs : List ℕ) → reads_left s xs < m → reads_left s xs < n → records_from cfg m s xs ≡ records_from cfg n s xs
+unfolding records_from
+enough cfg zero n s xs few many = absurd (omega (arith, few))
+enough cfg (suc m) zero s xs few many = absurd (omega (arith, many))
+enough cfg (suc m) (suc n) s xs few many = by (enough cfg m n) (next_record cfg s [] [] xs) refl where
+  by : ((t : State) (ys : List ℕ) → reads_left t ys < m → reads_left t ys < n → records_from cfg m t ys ≡ records_from cfg n t ys)
+      → (o : Option Read) → next_record cfg s [] [] xs ≡ o → records_next (records_from cfg m) o ≡ records_next (records_from cfg n) o
+  by more None e = refl
+  by more (Some p) e = let less = takes_some cfg s [] [] xs p e in ap (λ l. p.0 ∷ l) (more p.1 p.2 (omega (arith, less, few)) (omega (arith, less, many)))
+
+-- Texts that are read.
+
+-- where a first record is read, the records are that one and those of what stands behind it
+one_read : (xs behind : List ℕ) (row : List (List ℕ)) → next_record default_config st.StartRecord [] [] xs ≡ Some (row, st.StartRecord, behind)
+    → records default_config xs ≡ row ∷ records default_config behind
+unfolding records_from
+one_read xs behind row e =
+    let less = takes_some default_config st.StartRecord [] [] xs (row, st.StartRecord, behind) e in
+    let counted : length xs + 1 ≡ suc (length xs) = omega arith in
+    ap (λ n. records_from default_config n st.StartRecord xs) counted
+    ∙ ap (λ o. records_next (records_from default_config (length xs)) o) e
+    ∙ ap (λ l. row ∷ l) (enough default_config (length xs) (length behind + 1) st.StartRecord behind (omega (arith, less)) (omega arith))
+
+-- a row of more than one field is read as its fields
+pub row_reads : (fields : List (List ℕ)) → 1 < length fields → AreReadAs (row_of fields) (map escaped fields ∷ [])
+row_reads fields many behind = one_read (row_of fields ++ behind) behind (map escaped fields) (read_back.row fields behind many)
+
+-- no bytes are read as no rows
+pub none_read : AreReadAs [] []
+none_read behind = refl
+
+-- a text with another one behind it is read as the rows of both
+pub both_read : (xs ys : List ℕ) (rows others : List (List (List ℕ))) → AreReadAs xs rows → AreReadAs ys others → AreReadAs (xs ++ ys) (rows ++ others)
+both_read xs ys rows others first second behind =
+    ap (records default_config) (append_assoc xs ys behind) ∙ first (ys ++ behind) ∙ ap (λ l. rows ++ l) (second behind) ∙ sym (append_assoc rows others (records default_config behind))
+
+-- texts one behind the other, each of which is read as one row, are read as their rows
+pub each_reads : {X : Type 0} (text : X → List ℕ) (row : X → List (List ℕ)) → ((x : X) → AreReadAs (text x) (row x ∷ [])) → (xs : List X) → AreReadAs (flat_map text xs) (map row xs)
+each_reads text row one [] = none_read
+each_reads text row one (x ∷ xs) = both_read (text x) (flat_map text xs) (row x ∷ []) (map row xs) (one x) (each_reads text row one xs)

@@ -1,0 +1,92 @@
+-- What a clause of a run says of one of its turns, and of what the book took.
+use Rattle.std.proofs.Common.{◌≡◌, ℕ, List, [], ◌∷◌, ◌++◌, take, drop, Option, Some, Result, Ok, Err, inl, inr, refl, sym, ◌∙◌, ap, subst, append_assoc, append-nil}
+use Rattle.std.proofs.lemmas.List.{take-append-drop}
+use Rattle.std.specs.Io.KnownBytes.{Appends}
+use Rattle.gc_files.specs.Rows.{whole, IsFront}
+use Rattle.gc_files.proofs.Whole.{whole_more}
+use Rattle.gc_links.specs.Acts.{Act, Closed, Tells}
+use Rattle.gc_texts.specs.declared.fault.RunFault.{RunFault}
+use Rattle.gc_texts.specs.declared.fault.RunFault.TheVariants.{Output}
+use Rattle.gc_texts.specs.declared.tasks.Task.{Task}
+use Rattle.gc_station.specs.Keeping.{Turn, IsKept, AreKept}
+use Rattle.gc_station.specs.Records.{Record, texts_of, WritesPart}
+use Rattle.gc_station.specs.Runs.{Ran, stood}
+use Rattle.gc_station.specs.Scopes.{Scope}
+use Rattle.gc_station.specs.declared.plan.Plan.{Plan}
+use Rattle.gc_station.specs.declared.tally.Tally.{Tally}
+
+-- Texts.
+
+-- the texts of two lists of records, one behind the other, are those of the first and then those of the second
+pub texts_two : (text : Record → List ℕ) (xs ys : List Record) → texts_of text (xs ++ ys) ≡ texts_of text xs ++ texts_of text ys
+texts_two text [] ys = refl
+texts_two text (r ∷ xs) ys = ap (λ (l : List ℕ). text r ++ l) (texts_two text xs ys) ∙ sym (append_assoc (text r) (texts_of text xs) (texts_of text ys))
+
+-- where the text of each record ends in a line feed, so do the texts of all of them, unless they are none
+pub texts_whole : (text : Record → List ℕ) → ((r : Record) → whole (text r) ≡ text r) → (rs : List Record) → whole (texts_of text rs) ≡ texts_of text rs
+texts_whole text each [] = refl
+texts_whole text each (r ∷ rs) = whole_more (text r) (texts_of text rs) (each r) ∙ ap (λ (l : List ℕ). text r ++ l) (texts_whole text each rs)
+
+module _ (plan : Plan) (commands : List Task) (scope : Scope) (text : Record → List ℕ) where
+  -- what was kept at a turn: all that these acts and some more behind them settled
+  pub record At (told : Option (List Act)) (taken : Option (List ℕ)) (before : List Act) (turn : Turn) : Type 0 where
+    pub front : List Act
+    pub kept : IsKept plan commands scope text told taken (before ++ front) turn
+
+  -- where turns are `AreKept`, `At` holds of each of them
+  pub kept_at : (told : Option (List Act)) (taken : Option (List ℕ)) (before acts : List Act) (earlier later : List Turn) (turn : Turn)
+      → AreKept plan commands scope text told taken before acts (earlier ++ turn ∷ later) → At told taken before turn
+  kept_at told taken before [] [] later turn are = absurd are
+  kept_at told taken before [] (t ∷ earlier) later turn are = absurd are
+  kept_at told taken before (act ∷ acts) [] later turn are =
+      record { front = []; kept = subst (λ (xs : List Act). IsKept plan commands scope text told taken xs turn) (sym (append-nil before)) are.0 }
+  kept_at told taken before (act ∷ acts) (t ∷ earlier) later turn are =
+      let rest = kept_at told taken (before ++ act ∷ []) acts earlier later turn are.1 in
+      record { front = act ∷ rest.front; kept = subst (λ (xs : List Act). IsKept plan commands scope text told taken xs turn) (append_assoc before (act ∷ []) rest.front) rest.kept }
+
+  -- at a turn of a run that began with no act and no byte, the book had taken the texts of what the acts done by then settled
+  pub seen_at : (turn : Turn) (front done : List Act) (bytes : List ℕ) → IsKept plan commands scope text (Some []) (Some []) front turn
+      → turn.acts ≡ Some done → turn.taken ≡ Some bytes → bytes ≡ texts_of text (stood plan commands scope done).records
+  seen_at turn front done bytes kept told taken =
+      let is : done ≡ front = subst (λ (t : Option (List Act)). Tells (Some []) t front) told kept.tells in
+      let took : bytes ≡ texts_of text (stood plan commands scope front).records =
+      subst (λ (t : Option (List ℕ)). Appends (Some []) t (texts_of text (stood plan commands scope front).records)) taken kept.took in
+      took ∙ ap (λ (acts : List Act). texts_of text (stood plan commands scope acts).records) (sym is)
+
+  -- what the book took is a front of the texts of what acts of the run settled
+  pub record Fronted (told : List Act) (bytes : List ℕ) : Type 0 where
+    pub acts : List Act
+    pub others : List Act
+    pub all : told ≡ acts ++ others
+    pub own : IsFront bytes (texts_of text (stood plan commands scope acts).records)
+
+  same_front : (bytes all : List ℕ) → bytes ≡ all → IsFront bytes all
+  same_front bytes all is = record { rest = []; split = sym is ∙ sym (append-nil bytes) }
+
+  -- what was written of records that were written in part is a front of all their texts
+  part_front : (before all : List Record) (bytes : List ℕ) → (w : WritesPart text before all (Some []) (Some bytes)) → IsFront bytes (texts_of text all)
+  part_front before all bytes w =
+      let front = texts_of text (before ++ w.earlier) in
+      record {
+        rest = drop w.part (text w.next) ++ texts_of text w.later;
+        split = ap (texts_of text) (w.order ∙ sym (append_assoc before w.earlier (w.next ∷ w.later))) ∙ texts_two text (before ++ w.earlier) (w.next ∷ w.later)
+            ∙ ap (λ (l : List ℕ). front ++ (l ++ texts_of text w.later)) (sym (take-append-drop w.part (text w.next)))
+            ∙ ap (λ (l : List ℕ). front ++ l) (append_assoc (take w.part (text w.next)) (drop w.part (text w.next)) (texts_of text w.later))
+            ∙ sym (append_assoc front (take w.part (text w.next)) (drop w.part (text w.next) ++ texts_of text w.later))
+            ∙ ap (λ (l : List ℕ). l ++ (drop w.part (text w.next) ++ texts_of text w.later)) (sym w.took);
+      }
+
+  abbrev Took : List Act → List ℕ → Result Tally RunFault → Type 0
+  Took told bytes end = Ran plan commands scope text (Some []) (Some told) (Some []) (Some bytes) end
+
+  -- what a run took, whatever its end, is `Fronted`
+  pub fronted : (told : List Act) (bytes : List ℕ) (end : Result Tally RunFault) → Took told bytes end → Fronted told bytes
+  fronted told bytes (Ok tally) ran = record { acts = ran.acts; others = []; all = ran.tells ∙ sym (append-nil ran.acts); own = same_front _ _ ran.took }
+  fronted told bytes (Err Output) (inl broke) = record {
+    acts = broke.acts ++ broke.last ∷ [];
+    others = Closed ∷ [];
+    all = broke.tells ∙ sym (append_assoc broke.acts (broke.last ∷ []) (Closed ∷ []));
+    own = part_front _ _ bytes broke.took;
+  }
+  fronted told bytes (Err Output) (inr left) = record { acts = left.acts; others = Closed ∷ []; all = left.tells; own = same_front _ _ left.took }
+  fronted told bytes (Err fault) ran = record { acts = ran.2.acts; others = []; all = ran.2.tells ∙ sym (append-nil ran.2.acts); own = same_front _ _ ran.2.took }

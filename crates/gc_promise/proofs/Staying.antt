@@ -1,0 +1,174 @@
+-- A run of which a sync kept what it had taken by then, behind other runs or events, and before others.
+use Rattle.std.proofs.Common.{◌≡◌, inl, inr, ℕ, ◌≤◌, Bool, true, false, List, [], ◌∷◌, ◌++◌, length, take, refl, sym, ◌∙◌, ap, subst, append_assoc, append-nil, Option}
+use Rattle.std.proofs.lemmas.Bool.{cases_Bool}
+use Rattle.gc_files.specs.Failing.{Sides, Event, Ran, Failed, Copied, Crashed, feeds, settled, one, done_by, sides_after, runs_of, Occur, is_trusted}
+use Rattle.gc_files.specs.Files.{Step, Append, Cut, Sync, Life, has_sync, content}
+use Rattle.gc_files.specs.Rows.{whole, table, start_of, mended, cuts_none, appended, Puts, IsFront}
+use Rattle.gc_files.specs.Rows as opening
+use Rattle.gc_files.specs.Runs.{synced, Run, lines, IsRun, WereKept, Happen, life_after, lived, rows_of, Counts, HasRows}
+use Rattle.gc_files.proofs.Killing.{calls_opened}
+use Rattle.gc_files.proofs.Moments.{two_steps, mend_synced, no_sync}
+use Rattle.gc_files.proofs.Whole.{whole_more}
+use Rattle.gc_promise.specs.Lasting.{doubted_by}
+use Rattle.gc_promise.proofs.Pieces.{pieces, pieces_rows, pieces_whole, pieces_fit, pieces_front}
+
+-- What was synced.
+
+has_first : (xs ys : List Step) → has_sync xs ≡ true → has_sync (xs ++ ys) ≡ true
+has_first [] ys some = let wrong : false ≡ true = some in cc
+has_first (Append bytes ∷ xs) ys some = has_first xs ys some
+has_first (Cut size ∷ xs) ys some = has_first xs ys some
+has_first (Sync ∷ xs) ys some = refl
+
+has_behind : (xs ys : List Step) → has_sync ys ≡ true → has_sync (xs ++ ys) ≡ true
+has_behind [] ys some = some
+has_behind (Append bytes ∷ xs) ys some = has_behind xs ys some
+has_behind (Cut size ∷ xs) ys some = has_behind xs ys some
+has_behind (Sync ∷ xs) ys some = refl
+
+front_nil : (all : List ℕ) → IsFront [] all
+front_nil all = record { rest = all; split = refl }
+
+front_behind : (xs front all : List ℕ) → IsFront front all → IsFront (xs ++ front) (xs ++ all)
+front_behind xs front all f = record { rest = f.rest; split = ap (λ (l : List ℕ). xs ++ l) f.split ∙ sym (append_assoc xs front f.rest) }
+
+-- what was synced by some steps is a front of what is synced by them and more
+synced_more : (xs ys : List Step) → IsFront (synced xs) (synced (xs ++ ys))
+synced_more [] ys = front_nil (synced ys)
+synced_more (Append bytes ∷ xs) ys = elim (cases_Bool (has_sync xs)) [
+  | inl some ↦ rw (some, has_first xs ys some) (front_behind bytes (synced xs) (synced (xs ++ ys)) (synced_more xs ys))
+  | inr isnt ↦ rw (isnt) (front_nil (synced (Append bytes ∷ (xs ++ ys))))
+]
+synced_more (Cut size ∷ xs) ys = synced_more xs ys
+synced_more (Sync ∷ xs) ys = synced_more xs ys
+
+-- a sync behind appended bytes keeps all of them
+synced_behind : (xs ys : List Step) → has_sync ys ≡ true → synced (xs ++ ys) ≡ appended xs ++ synced ys
+synced_behind [] ys some = refl
+synced_behind (Append bytes ∷ xs) ys some =
+    rw (has_behind xs ys some) (ap (λ (l : List ℕ). bytes ++ l) (synced_behind xs ys some) ∙ sym (append_assoc bytes (appended xs) (synced ys)))
+synced_behind (Cut size ∷ xs) ys some = synced_behind xs ys some
+synced_behind (Sync ∷ xs) ys some = synced_behind xs ys some
+
+-- The run.
+
+-- where no step cuts the file, none of the first ones does
+pub cuts_first : (xs ys : List Step) → cuts_none (xs ++ ys) ≡ true → cuts_none xs ≡ true
+cuts_first [] ys none = refl
+cuts_first (Append bytes ∷ xs) ys none = cuts_first xs ys none
+cuts_first (Sync ∷ xs) ys none = cuts_first xs ys none
+cuts_first (Cut size ∷ xs) ys none = let wrong : false ≡ true = none in cc
+
+-- the rows of a run, its steps, and how many of its rows were kept, by what it had taken at a sync and all that it may take
+abbrev pub run_by : List Step → List Step → List ℕ → List ℕ → Option (List ℕ) → Run
+run_by steps calls taken all left = record { rows = pieces all; steps = steps ++ calls; kept = feeds taken; left = left }
+
+module _ (head held : List ℕ) (steps was since : List Step) (rest : List ℕ) (opened : opening.Ran held steps (start_of head held))
+    (kept : synced was ≡ appended was) (is_whole : whole (appended was) ≡ appended was) where
+  synced_all : has_sync was ≡ true → IsFront (start_of head held ++ appended was) (synced (steps ++ (was ++ since)))
+  synced_all some =
+      let all : synced (steps ++ (was ++ since)) ≡ start_of head held ++ synced (was ++ since) =
+      ap (λ (xs : List Step). synced (xs ++ (was ++ since))) opened.split ∙ ap synced (append_assoc (mended held) opened.later (was ++ since))
+      ∙ ap (λ (xs : List Step). synced (xs ++ (opened.later ++ (was ++ since)))) (sym (two_steps held)) ∙ mend_synced held 2 (opened.later ++ (was ++ since))
+      ∙ synced_behind opened.later (was ++ since) (has_first was since some) ∙ ap (λ (l : List ℕ). l ++ synced (was ++ since)) opened.puts.all in
+      subst (λ (l : List ℕ). IsFront (start_of head held ++ appended was) l) (sym all)
+      (front_behind (start_of head held) (appended was) (synced (was ++ since)) (subst (λ (l : List ℕ). IsFront l (synced (was ++ since))) kept (synced_more was since)))
+
+  were_kept : WereKept head held (pieces (appended was ++ rest)) (feeds (appended was)) (steps ++ (was ++ since))
+  were_kept = elim (cases_Bool (has_sync was)) [
+    | inl some ↦
+        inr (subst (λ (l : List ℕ). IsFront (start_of head held ++ l) (synced (steps ++ (was ++ since)))) (sym (pieces_front (appended was) rest is_whole)) (synced_all some))
+    | inr isnt ↦ inl (ap feeds (sym kept ∙ no_sync was isnt))
+  ]
+
+  -- these steps are those of a run of which the rows that it had taken by a sync count as kept
+  pub is_run : (left : Option (List ℕ)) → whole rest ≡ rest → cuts_none (was ++ since) ≡ true → IsFront (appended (was ++ since)) (appended was ++ rest)
+      → IsRun head held (run_by steps (was ++ since) (appended was) (appended was ++ rest) left)
+  is_run left rest_whole none front =
+      let all = appended was ++ rest in
+      let all_whole : whole all ≡ all = whole_more (appended was) rest is_whole ∙ ap (λ (l : List ℕ). appended was ++ l) rest_whole in
+      calls_opened head held steps (was ++ since) (appended (was ++ since)) (pieces all) (feeds (appended was)) left opened (record { none_cut = none; all = refl })
+      (subst (λ (l : List ℕ). IsFront (appended (was ++ since)) l) (sym (pieces_whole all all_whole)) front)
+      (pieces_rows all) (pieces_fit (appended was) rest is_whole) were_kept
+
+-- Behind other runs and events.
+
+-- runs that may happen, and others that may behind them, may happen one behind the other
+pub happen_two : (head : List ℕ) (life : Life) (xs ys : List Run) → Happen head life xs → Happen head (life_after life xs) ys → Happen head life (xs ++ ys)
+happen_two head life [] ys first second = second
+happen_two head life (run ∷ xs) ys first second = (first.0, first.1, happen_two head (lived life run run.left) xs ys first.2 second)
+
+-- the life of a file behind two lists of runs is the one behind the second that begins where the first ends
+pub life_two : (life : Life) (xs ys : List Run) → life_after life (xs ++ ys) ≡ life_after (life_after life xs) ys
+life_two life [] ys = refl
+life_two life (run ∷ xs) ys = life_two (lived life run run.left) xs ys
+
+-- a table with the rows of runs, parted at one of them: rows of the earlier runs, the first of its own rows, at least those that it
+-- kept, and rows of the later runs
+pub record Parted (head before found : List ℕ) (earlier later : List Run) (run : Run) : Type 0 where
+  pub counts : List ℕ
+  pub first : Counts earlier counts
+  pub count : ℕ
+  pub least : run.kept ≤ count
+  pub few : count ≤ length run.rows
+  pub counts' : List ℕ
+  pub others : Counts later counts'
+  pub is : table head found ≡ ((before ++ rows_of earlier counts) ++ lines (take count run.rows)) ++ rows_of later counts'
+
+-- a table with the rows of runs is `Parted` at each of the runs
+pub parted : (head before found : List ℕ) (earlier later : List Run) (run : Run) → HasRows head before (earlier ++ run ∷ later) found → Parted head before found earlier later run
+parted head before found [] later run ([], cs, is) = absurd cs
+parted head before found [] later run (n ∷ counts, cs, is) = record {
+  counts = [];
+  first = tt;
+  count = n;
+  least = cs.0;
+  few = cs.1;
+  counts' = counts;
+  others = cs.2;
+  is = is ∙ sym (append_assoc before (lines (take n run.rows)) (rows_of later counts))
+      ∙ ap (λ (l : List ℕ). (l ++ lines (take n run.rows)) ++ rows_of later counts) (sym (append-nil before));
+}
+parted head before found (r ∷ earlier) later run ([], cs, is) = absurd cs
+parted head before found (r ∷ earlier) later run (n ∷ counts, cs, is) =
+    let p = parted head (before ++ lines (take n r.rows)) found earlier later run
+    (counts, cs.2, is ∙ sym (append_assoc before (lines (take n r.rows)) (rows_of (earlier ++ run ∷ later) counts))) in
+    record {
+      counts = n ∷ p.counts;
+      first = (cs.0, cs.1, p.first);
+      count = p.count;
+      least = p.least;
+      few = p.few;
+      counts' = p.counts';
+      others = p.others;
+      is = p.is ∙ ap (λ (l : List ℕ). (l ++ lines (take p.count run.rows)) ++ rows_of later p.counts') (append_assoc before (lines (take n r.rows)) (rows_of earlier p.counts));
+    }
+
+-- the sides of a file behind two lists of events are those behind the second, from those behind the first on
+pub sides_two : (sides : Sides) (xs ys : List Event) → sides_after sides (xs ++ ys) ≡ sides_after (sides_after sides xs) ys
+sides_two sides [] ys = refl
+sides_two sides (Ran run ∷ xs) ys = sides_two (done_by run.steps sides) xs ys
+sides_two sides (Failed run read disk ∷ xs) ys = sides_two (record { read = settled read; disk = settled disk }) xs ys
+sides_two sides (Copied true ∷ xs) ys = sides_two (one (settled (content sides.read))) xs ys
+sides_two sides (Copied false ∷ xs) ys = sides_two (record { read = settled (content sides.read); disk = sides.disk }) xs ys
+sides_two sides (Crashed left ∷ xs) ys = sides_two (one (settled left)) xs ys
+
+-- the runs of two lists of events are those of the first and then those of the second
+pub runs_two : (xs ys : List Event) → runs_of (xs ++ ys) ≡ runs_of xs ++ runs_of ys
+runs_two [] ys = refl
+runs_two (Ran run ∷ xs) ys = ap (λ (rs : List Run). run ∷ rs) (runs_two xs ys)
+runs_two (Failed run read disk ∷ xs) ys = ap (λ (rs : List Run). run ∷ rs) (runs_two xs ys)
+runs_two (Copied named ∷ xs) ys = runs_two xs ys
+runs_two (Crashed left ∷ xs) ys = runs_two xs ys
+
+-- events that may occur, and others that may behind them, may occur one behind the other
+pub occur_two : (head : List ℕ) (sides : Sides) (doubted : Bool) (xs ys : List Event) → Occur is_trusted head sides doubted xs
+    → Occur is_trusted head (sides_after sides xs) (doubted_by doubted xs) ys → Occur is_trusted head sides doubted (xs ++ ys)
+occur_two head sides doubted [] ys first second = second
+occur_two head sides doubted (Ran run ∷ xs) ys first second = (first.0, first.1, occur_two head (done_by run.steps sides) doubted xs ys first.2 second)
+occur_two head sides doubted (Failed run read disk ∷ xs) ys first second =
+    (first.0, first.1, first.2, first.3, occur_two head (record { read = settled read; disk = settled disk }) true xs ys first.4 second)
+occur_two head sides doubted (Copied true ∷ xs) ys first second = occur_two head (one (settled (content sides.read))) false xs ys first second
+occur_two head sides doubted (Copied false ∷ xs) ys first second =
+    occur_two head (record { read = settled (content sides.read); disk = sides.disk }) true xs ys first second
+occur_two head sides doubted (Crashed left ∷ xs) ys first second = (first.0, occur_two head (one (settled left)) false xs ys first.1 second)

@@ -1,0 +1,270 @@
+-- A table that a station wrote of a run in the field: its rows are their own.
+use Rattle.std.proofs.Common.{◌≡◌, inl, inr, ℕ, zero, suc, Bool, true, false, List, [], ◌∷◌, ◌++◌, get_or, map, Option, Some, None, Result, if◌then◌else◌, refl, sym, ap, ◌∙◌, subst, arith, append_assoc}
+use Rattle.std.specs.Prelude.{codes, slice_get}
+use Rattle.std.specs.List.{AllByRecursion}
+use Rattle.std.proofs.lemmas.Bool.{false≢true}
+use Rattle.std.proofs.lemmas.List.{length-map}
+use Rattle.gc_lines.specs.Numbers.{IsNumber}
+use Rattle.gc_lines.specs.Replies.{ReplyFields, IsReply}
+use Rattle.gc_catalogue.specs.Readings.{IsReading}
+use Rattle.gc_catalogue.specs.declared.answer.Answer.{Answer}
+use Rattle.gc_catalogue.specs.declared.answer.Reading.{Reading}
+use Rattle.gc_catalogue.specs.declared.answer.Reading.TheVariants as reading
+use Rattle.gc_catalogue.specs.declared.call.Call.{Call}
+use Rattle.gc_catalogue.proofs.EachReply.{each_reply}
+use Rattle.gc_instrument.specs.State.{KeptReply}
+use Rattle.gc_texts.specs.Endings.{End, Answered, Unreadable, Elsewhere, Late, Lost, Skipped, Missed, word_of}
+use Rattle.gc_texts.specs.Logs.{escaped}
+use Rattle.gc_texts.specs.Names.{name_text}
+use Rattle.gc_texts.specs.declared.commands.Command.{Command}
+use Rattle.gc_rows.specs.Quantities.{quantity_names}
+use Rattle.gc_rows.specs.Records.{head_text, names, record_text}
+use Rattle.gc_rows.specs.Rows.{code_of, com_of, row_fields, row_of}
+use Rattle.gc_rows.specs.declared.record.Form.{Form}
+use Rattle.gc_rows.specs.declared.when.When.{When}
+use Rattle.gc_rows.proofs.Columns.{reply_columns}
+use Rattle.gc_links.specs.Acts.{Act}
+use Rattle.gc_station.specs.Answers.{answer_of, IsTrueRecord}
+use Rattle.gc_station.specs.Model.{opening}
+use Rattle.gc_station.specs.Parts.{Part, parts_of}
+use Rattle.gc_station.specs.Records.{Record, texts_of}
+use Rattle.gc_station.specs.Scopes.{AreReadings}
+use Rattle.gc_station.specs.declared.tally.Tally.{Tally}
+use Rattle.gc_station.proofs.Answers.{answers_true}
+use Rattle.gc_station.proofs.Ended.{IsRead, ended_read}
+use Rattle.gc_measuring.specs.Measuring.{Course, front_text, text_in, when_of}
+use Rattle.gc_measuring.specs.declared.stop.Stop.{Stop}
+use Rattle.gc_world.specs.World.{Ends}
+use Rattle.gc_field.specs.Begin.{UnderWay}
+use Rattle.gc_field.specs.Beginnings as field
+use Rattle.gc_field.specs.Instrument.{IsAnInstrument, AnyState}
+use Rattle.gc_field.specs.Runs.{IsInField, IsOwnAnswer}
+use Rattle.gc_field.specs.Shown.{Stretch, stretches}
+use Rattle.gc_field.proofs.Joining.{run_faithful}
+use Rattle.gc_promise.specs.Fields.{IsOwn, IsQuantity, IsReplied, Says, quantity_in, under}
+use Rattle.gc_promise.specs.Tables.{AreReadAs, IsOwnTable, TablesAreTheirOwn, acts_measured, head_rows, header, records_in, scope_of, table}
+use Rattle.gc_promise.proofs.Names.{all_at, none_answered, none_else, quantity_stands, under_cycle, under_outcome, under_place, under_procedure, under_rc, under_rc_com, under_target, under_values}
+use Rattle.gc_promise.proofs.Owning.{a_reply, fields_of, in_table, same_line, two_fields}
+use Rattle.gc_promise.proofs.Plain.{number_plain}
+use Rattle.gc_promise.proofs.Reading.{both_read, each_reads, none_read, row_reads}
+use Rattle.gc_promise.proofs.Taken.{Took, behind_took}
+
+-- Words.
+
+-- the first letter of a word
+abbrev pub first_of : List ℕ → ℕ
+first_of word = get_or word 0 0
+
+-- a word that begins with none of the letters a, u and e is no outcome of a reply
+pub no_reply : (word : List ℕ) → (first_of word ≡ 97 → ⊥) → (first_of word ≡ 117 → ⊥) → (first_of word ≡ 101 → ⊥) → IsReplied word → ⊥
+no_reply word a u e (inl is) = a (ap first_of is)
+no_reply word a u e (inr (inl is)) = u (ap first_of is)
+no_reply word a u e (inr (inr is)) = e (ap first_of is)
+
+-- where the outcome is that of a reply, a line answered the command
+pub line_in : (end : End) → IsReplied (word_of end) → (line : List ℕ) × (answer_of end ≡ Some line)
+line_in (Answered answer line) is = (line, refl)
+line_in (Unreadable line fault) is = (line, refl)
+line_in (Elsewhere line) is = (line, refl)
+line_in Late is = absurd (no_reply (codes "late") (λ e. omega (arith, e)) (λ e. omega (arith, e)) (λ e. omega (arith, e)) is)
+line_in Lost is = absurd (no_reply (codes "lost") (λ e. omega (arith, e)) (λ e. omega (arith, e)) (λ e. omega (arith, e)) is)
+line_in Skipped is = absurd (no_reply (codes "skipped") (λ e. omega (arith, e)) (λ e. omega (arith, e)) (λ e. omega (arith, e)) is)
+line_in Missed is = absurd (no_reply (codes "missed") (λ e. omega (arith, e)) (λ e. omega (arith, e)) (λ e. omega (arith, e)) is)
+
+-- a word that doesn't begin with the letter a isn't `answered`
+pub not_answered : (word : List ℕ) → (first_of word ≡ 97 → ⊥) → word ≡ codes "answered" → ⊥
+not_answered word other is = other (ap first_of is)
+
+-- Quantities.
+
+-- a reply that says anything but an answer has no quantities
+pub nothing_in : (call : Call) (name : List ℕ) (said : Reading) → ((answer : Answer) → said ≡ reading.Value answer → ⊥) → escaped (quantity_in call said name) ≡ []
+nothing_in call name (reading.Value answer) none = absurd (none answer refl)
+nothing_in call name (reading.Refused code) none = refl
+nothing_in call name (reading.ComFault code) none = refl
+nothing_in call name (reading.Unreadable fault) none = refl
+
+pub some_same : (x y : List ℕ) → Some x ≡ Some y → x ≡ y
+some_same x y e = cc
+
+module _ (reads : Call → List ℕ → Reading) (when : When) (text : List ℕ) (command : Command) (name : List ℕ) (k : ℕ) (is : slice_get quantity_names k ≡ Some name)
+    (line : List ℕ) (reply : ReplyFields) (said : Reading) (is_reading : IsReading command.call reply said) (same : reads command.call line ≡ said) where
+  abbrev at_name : End → List ℕ
+  at_name end = under name (header true) (map escaped (row_fields true when text command end))
+
+  stands : (end : End) → answer_of end ≡ Some line → IsRead reads command.call end → word_of end ≡ codes "answered" → at_name end ≡ escaped (quantity_in command.call said name)
+  stands (Answered (Some answer) l) answered read word =
+      let value : said ≡ reading.Value answer = sym same ∙ ap (reads command.call) (sym (some_same l line answered)) ∙ read.some answer l refl in
+      quantity_stands when text command name k is answer l (subst (IsReading command.call reply) value is_reading).2.of_call
+      ∙ ap (λ (x : Reading). escaped (quantity_in command.call x name)) (sym value)
+  stands (Answered None l) answered read word =
+      let none : (answer : Answer) → said ≡ reading.Value answer → ⊥ =
+      λ answer value. read.none answer l refl (ap (reads command.call) (some_same l line answered) ∙ same ∙ value) in
+      none_answered when text command name k is l ∙ sym (nothing_in command.call name said none)
+  stands (Unreadable l fault) answered read word = absurd (not_answered (codes "unreadable") (λ e. omega (arith, e)) word)
+  stands (Elsewhere l) answered read word = absurd (not_answered (codes "elsewhere") (λ e. omega (arith, e)) word)
+  stands Late answered read word = absurd (not_answered (codes "late") (λ e. omega (arith, e)) word)
+  stands Lost answered read word = absurd (not_answered (codes "lost") (λ e. omega (arith, e)) word)
+  stands Skipped answered read word = absurd (not_answered (codes "skipped") (λ e. omega (arith, e)) word)
+  stands Missed answered read word = absurd (not_answered (codes "missed") (λ e. omega (arith, e)) word)
+
+-- Lists.
+
+-- what holds of all elements of a list holds of those of its front
+pub all_front : {X : Type 0} (P : X → Type 0) (xs ys : List X) → AllByRecursion P (xs ++ ys) → AllByRecursion P xs
+all_front P [] ys all = tt
+all_front P (x ∷ xs) ys all = (all.0, all_front P xs ys all.1)
+
+-- what holds of all records holds of the one at a place among those that were written
+pub all_written : {X : Type 0} (P : X → Type 0) (xs written others : List X) → xs ≡ written ++ others → AllByRecursion P xs → (n : ℕ) (x : X) → slice_get written n ≡ Some x → P x
+all_written P xs written others order all n x is = all_at P written (all_front P written others (subst (AllByRecursion P) order all)) n x is
+
+-- an element of a mapped list is the image of the one at its place
+pub at_map : {X Y : Type 0} (f : X → Y) (xs : List X) (n : ℕ) (y : Y) → slice_get (map f xs) n ≡ Some y → (x : X) × (slice_get xs n ≡ Some x) × (f x ≡ y)
+at_map f [] zero y e = cc
+at_map f [] (suc n) y e = cc
+at_map f (x ∷ xs) zero y e = (x, refl, let same : f x ≡ y = cc in same)
+at_map f (x ∷ xs) (suc n) y e = at_map f xs n y e
+
+-- A row.
+
+module _ {State : Type 0} (ends : Ends State) (kept : State → Option KeptReply) (course : Course) (reads : Call → List ℕ → Reading) (are : AreReadings reads)
+    (acts : List Act) (ps : List Part) (ss : List (Stretch State)) (columns : Bool) where
+  abbrev fields : Record → List (List ℕ)
+  fields r = fields_of course.layout columns course.names r
+
+  abbrev at : Record → List ℕ → List ℕ
+  at r name = under name (header columns) (map escaped (fields r))
+
+  module _ (r : Record) where
+    abbrev when : When
+    when = when_of course.layout.run r
+
+    abbrev text : List ℕ
+    text = name_text r.command.target course.names
+
+    quantity_at : (b : Bool) → b ≡ true → (line : List ℕ) (reply : ReplyFields) (said : Reading) → IsReading r.command.call reply said → reads r.command.call line ≡ said
+        → answer_of r.end ≡ Some line → IsRead reads r.command.call r.end → word_of r.end ≡ codes "answered" → (name : List ℕ) → IsQuantity name
+        → under name (header b) (map escaped (row_fields b when text r.command r.end)) ≡ escaped (quantity_in r.command.call said name)
+    quantity_at true shows line reply said is_reading same answered read word name quantity =
+        stands reads when text r.command name quantity.0 quantity.1 line reply said is_reading same r.end answered read word
+    quantity_at false shows line reply said is_reading same answered read word name quantity = absurd (false≢true shows)
+
+    no_quantity_at : (b : Bool) → b ≡ true → (word_of r.end ≡ codes "answered" → ⊥) → (name : List ℕ) → IsQuantity name → under name (header b) (map escaped (row_fields b when text r.command r.end)) ≡ []
+    no_quantity_at true shows other name quantity = none_else when text r.command name quantity.0 quantity.1 r.end (λ answer line e. other (ap word_of e))
+    no_quantity_at false shows other name quantity = absurd (false≢true shows)
+
+    says : (line : List ℕ) → answer_of r.end ≡ Some line → (x : ReplyFields) × IsReply line x → IsRead reads r.command.call r.end → Says columns (at r) r.command.call line
+    says line answered reply read =
+        let same = same_line r.end line answered in
+        let said = reply_columns line reply.0 reply.1 in
+        let reading = each_reply r.command.call reply.0 in
+        let reads_so = are r.command.call line reading.0 (record { reply = reply.0; is_reply = reply.1; is_reading = reading.1 }) in
+        let word = under_outcome when text r.command r.end columns in
+        record {
+          reply = reply.0;
+          is_reply = reply.1;
+          rc_com =
+              subst (λ (t : List ℕ). IsNumber t reply.0.rc_com) (sym (under_rc_com when text r.command r.end line same columns ∙ number_plain (com_of line) said.rc_com.digits)) said.rc_com;
+          rc = subst (λ (t : List ℕ). IsNumber t reply.0.rc) (sym (under_rc when text r.command r.end line same columns ∙ number_plain (code_of line) said.rc.digits)) said.rc;
+          values = under_values when text r.command r.end line same columns ∙ ap escaped said.values;
+          reading = reading.0;
+          is_reading = reading.1;
+          quantities = λ shows answers name quantity. quantity_at columns shows line reply.0 reading.0 reading.1 reads_so answered read (sym word ∙ answers) name quantity;
+        }
+
+    -- the row of a record is its own, by what is known of the record
+    row_own : IsOwnAnswer ends AnyState kept course.tasks ps ss r → IsTrueRecord course.plan course.tasks (scope_of course reads) acts r → IsRead reads r.command.call r.end
+        → IsOwn ends AnyState kept columns (at r) course.tasks ps ss r
+    row_own own came read =
+        let word = under_outcome when text r.command r.end columns in
+        record {
+          is_of = record {
+            cycle = under_cycle when text r.command r.end columns;
+            place = under_place when text r.command r.end columns;
+            target = under_target when text r.command r.end columns;
+            procedure = under_procedure when text r.command r.end columns;
+            outcome = word;
+          };
+          replied = λ is.
+              let has = line_in r.end (subst IsReplied word is) in
+              let true_one = came has.0 has.1 in
+              (has.0, says has.0 has.1 (a_reply has.0 _ true_one.id) read, own has.0 has.1);
+          without = λ shows other name quantity. no_quantity_at columns shows (λ answers. other (word ∙ answers)) name quantity;
+        }
+
+-- A table.
+
+-- the header reads as the names of the columns
+head_reads : (headed columns : Bool) (form : Form) → form ≡ table columns → AreReadAs (if headed then [] else head_text form) (if headed then [] else header columns ∷ [])
+head_reads true columns form is = none_read
+head_reads false columns form is = subst (λ (f : Form). AreReadAs (head_text f) (header columns ∷ [])) (sym is) (names_read columns) where
+  names_read : (b : Bool) → AreReadAs (head_text (table b)) (header b ∷ [])
+  names_read false = row_reads names (omega arith)
+  names_read true = row_reads (names ++ quantity_names) (omega arith)
+
+module _ {State : Type 0} (ends : Ends State) (kept : State → Option KeptReply) (is : IsAnInstrument ends AnyState kept) (course : Course) (columns : Bool)
+    (form : course.layout.form ≡ table columns) (reads : Call → List ℕ → Reading) (are : AreReadings reads) (acts : List Act) (u : UnderWay State) (rs : List (field.Run State))
+    (there : IsInField ends AnyState kept course.plan course.tasks (scope_of course reads) acts u rs) where
+  abbrev parts : List Part
+  parts = parts_of course.plan course.tasks (opening course.plan (scope_of course reads)) acts
+
+  abbrev over : List (Stretch State)
+  over = stretches ends u rs
+
+  abbrev row : Record → List (List ℕ)
+  row r = map escaped (fields_of course.layout columns course.names r)
+
+  -- the text of a record is read as its row
+  one_reads : (r : Record) → AreReadAs (text_in course.layout course.names r) (row r ∷ [])
+  one_reads r =
+      let when = when_of course.layout.run r in
+      let text = name_text r.command.target course.names in
+      let is_row : text_in course.layout course.names r ≡ row_of (fields_of course.layout columns course.names r) =
+      ap (λ (f : Form). record_text f when text r.command r.end) form ∙ in_table columns when text r.command r.end in
+      subst (λ (t : List ℕ). AreReadAs t (row r ∷ [])) (sym is_row) (row_reads (fields_of course.layout columns course.names r) (two_fields columns when text r.command r.end))
+
+  -- the row of each record that was written whole is its own
+  each_own : (written others : List Record) → records_in course reads acts ≡ written ++ others → (n : ℕ) (r : Record) → slice_get written n ≡ Some r
+      → IsOwn ends AnyState kept columns (λ name. under name (header columns) (row r)) course.tasks parts over r
+  each_own written others order n r at =
+      let faithful = run_faithful ends AnyState kept is course.plan course.tasks (scope_of course reads) acts u rs there in
+      row_own ends kept course reads are acts parts over columns r
+      (all_written (IsOwnAnswer ends AnyState kept course.tasks parts over) (records_in course reads acts) written others order faithful.own n r at)
+      (all_written (IsTrueRecord course.plan course.tasks (scope_of course reads) acts) (records_in course reads acts) written others order
+      (answers_true course.plan course.tasks (scope_of course reads) acts there.runs) n r at)
+      (all_written (λ (x : Record). IsRead reads x.command.call x.end) (records_in course reads acts) written others order
+      (ended_read course.plan course.tasks (scope_of course reads) acts) n r at)
+
+  tabled : (result : Result Tally Stop) (had : List ℕ) (has : Option (List ℕ))
+      → Took (text_in course.layout course.names) (records_in course reads acts) result (had ++ front_text course.layout) has
+      → IsOwnTable ends AnyState kept course columns reads acts parts over result had has
+  tabled result had has took =
+      let front = front_text course.layout in
+      let written = took.are.written in
+      let texts = texts_of (text_in course.layout course.names) written in
+      let whole : AreReadAs (front ++ texts) (head_rows course.layout columns ++ map row written) =
+      both_read front texts (head_rows course.layout columns) (map row written) (head_reads course.layout.headed columns course.layout.form form)
+      (each_reads (text_in course.layout course.names) row one_reads written) in
+      record {
+        bytes = front ++ texts;
+        torn = took.torn;
+        took = took.is ∙ ap Some (append_assoc had front (texts ++ took.torn) ∙ ap (λ (l : List ℕ). had ++ l) (sym (append_assoc front texts took.torn)));
+        are = took.are;
+        rows = map row written;
+        reads_as = whole;
+        behind = λ held earlier first. both_read held (front ++ texts) earlier (head_rows course.layout columns ++ map row written) first whole;
+        as_many = length-map written row;
+        each = λ n fields e.
+            let x = at_map row written n fields e in (
+              x.0,
+              x.1,
+              subst (λ (f : List (List ℕ)). IsOwn ends AnyState kept columns (λ name. under name (header columns) f) course.tasks parts over x.0) x.2
+                  (each_own written took.are.unwritten took.are.order n x.0 x.1),
+            );
+      }
+
+pub tables_own : {State : Type 0} → TablesAreTheirOwn State
+tables_own ends kept is course columns form old new result behind told had none some began reads are u rs there =
+    tabled ends kept is course columns form reads are (acts_measured result told) u rs there result had new.taken
+    (behind_took course old new result behind told had none some began reads are)

@@ -1,0 +1,108 @@
+-- What a sink took of a run, and which acts and records were its own.
+use Rattle.std.proofs.Common.{◌≡◌, inl, inr, ℕ, zero, suc, ◌-◌, List, [], ◌∷◌, ◌++◌, length, take, drop, Option, Some, None, Result, Ok, Err, refl, sym, ap, ◌∙◌, subst, arith, append_assoc, append-nil, length-append}
+use Rattle.std.specs.Io.KnownBytes.{Appends}
+use Rattle.std.proofs.lemmas.List.{length-drop}
+use Rattle.gc_catalogue.specs.declared.answer.Reading.{Reading}
+use Rattle.gc_catalogue.specs.declared.call.Call.{Call}
+use Rattle.gc_texts.specs.declared.fault.RunFault.{RunFault}
+use Rattle.gc_texts.specs.declared.fault.RunFault.TheVariants.{Output}
+use Rattle.gc_texts.specs.declared.tasks.Task.{Task}
+use Rattle.gc_links.specs.Acts.{Act, Closed}
+use Rattle.gc_station.specs.Records.{Record, texts_of, WritesPart}
+use Rattle.gc_station.specs.Runs.{Ran, stood}
+use Rattle.gc_station.specs.Scopes.{Scope, AreReadings}
+use Rattle.gc_station.specs.declared.plan.Plan.{Plan}
+use Rattle.gc_station.specs.declared.tally.Tally.{Tally}
+use Rattle.gc_measuring.specs.Measuring.{Course, Places, RunsBehind, front_text, text_in}
+use Rattle.gc_measuring.specs.Stops.{end_of_run}
+use Rattle.gc_measuring.specs.declared.stop.Stop.{Stop}
+use Rattle.gc_measuring.specs.declared.stop.Stop.TheVariants.{Run}
+use Rattle.gc_promise.specs.Tables.{AreWritten, acts_measured, records_in, scope_of}
+
+-- The acts.
+
+take_front : (xs ys : List Act) → take (length xs) (xs ++ ys) ≡ xs
+take_front [] ys = refl
+take_front (x ∷ xs) ys = ap (λ (l : List Act). x ∷ l) (take_front xs ys)
+
+-- all acts but the last one, where one stands behind the others, are the others
+but_last : (xs : List Act) (x : Act) → take (length (xs ++ x ∷ []) - 1) (xs ++ x ∷ []) ≡ xs
+but_last xs x =
+    let many = length-append xs (x ∷ []) in
+    ap (λ (n : ℕ). take n (xs ++ x ∷ [])) (let one : length (xs ++ x ∷ []) - 1 ≡ length xs = omega (arith, many) in one) ∙ take_front xs (x ∷ [])
+
+-- The bytes.
+
+module _ (text : Record → List ℕ) where
+  -- what was written of records, behind these bytes
+  pub record Took (records : List Record) (result : Result Tally Stop) (start : List ℕ) (has : Option (List ℕ)) : Type 0 where
+    pub torn : List ℕ
+    pub are : AreWritten text records result torn
+    pub is : has ≡ Some (start ++ (texts_of text are.written ++ torn))
+
+  appended : (start bytes : List ℕ) (has : Option (List ℕ)) → Appends (Some start) has bytes → has ≡ Some (start ++ bytes)
+  appended start bytes None e = absurd e
+  appended start bytes (Some ys) e = ap Some e
+
+  -- where all texts were written, `Took` holds
+  took_all : (records : List Record) (result : Result Tally Stop) (start : List ℕ) (has : Option (List ℕ)) → Appends (Some start) has (texts_of text records) → Took records result start has
+  took_all records result start has took = record {
+    torn = [];
+    are = record { written = records; unwritten = []; order = sym (append-nil records); all = λ _. refl; part = refl };
+    is = appended start (texts_of text records) has took ∙ ap (λ (l : List ℕ). Some (start ++ l)) (sym (append-nil (texts_of text records)));
+  }
+
+  parted : (n : ℕ) (xs : List ℕ) → xs ≡ take n xs ++ drop n xs
+  parted zero xs = refl
+  parted (suc n) [] = refl
+  parted (suc n) (x ∷ xs) = ap (λ (l : List ℕ). x ∷ l) (parted n xs)
+
+  -- where a part was written and the output failed, `Took` holds
+  took_part : (before records : List Record) (start : List ℕ) (has : Option (List ℕ)) → WritesPart text before records (Some start) has → Took records (Err (Run Output)) start has
+  took_part before records start has w = record {
+    torn = take w.part (text w.next);
+    are = record {
+      written = before ++ w.earlier;
+      unwritten = w.next ∷ w.later;
+      order = w.order ∙ sym (append_assoc before w.earlier (w.next ∷ w.later));
+      all = λ no. absurd (no refl);
+      part = (drop w.part (text w.next), parted w.part (text w.next), let left = length-drop w.part (text w.next) in let some = w.not_all in omega (arith, left, some));
+    };
+    is = appended start (texts_of text (before ++ w.earlier) ++ take w.part (text w.next)) has w.took;
+  }
+
+  module _ (plan : Plan) (commands : List Task) (scope : Scope) (told : List Act) (start : List ℕ) (has : Option (List ℕ)) where
+    -- all records of these acts were written
+    took_of : (acts measured : List Act) (result : Result Tally Stop) → measured ≡ acts → Appends (Some start) has (texts_of text (stood plan commands scope acts).records)
+        → Took (stood plan commands scope measured).records result start has
+    took_of acts measured result e took =
+        subst (λ (xs : List Act). Took (stood plan commands scope xs).records result start has) (sym e) (took_all (stood plan commands scope acts).records result start has took)
+
+    -- `Took` holds of a run, whatever its end
+    ran_took : (end : Result Tally RunFault) → Ran plan commands scope text (Some []) (Some told) (Some start) has end
+        → Took (stood plan commands scope (acts_measured (end_of_run end) told)).records (end_of_run end) start has
+    ran_took (Ok tally) r = took_of r.acts told (Ok tally) r.tells r.took
+    ran_took (Err Output) (inl r) =
+        let whole : told ≡ (r.acts ++ r.last ∷ []) ++ Closed ∷ [] = r.tells ∙ sym (append_assoc r.acts (r.last ∷ []) (Closed ∷ [])) in
+        let measured : acts_measured (Err (Run Output)) told ≡ r.acts ++ r.last ∷ [] = ap (acts_measured (Err (Run Output))) whole ∙ but_last (r.acts ++ r.last ∷ []) Closed in
+        subst (λ (acts : List Act). Took (stood plan commands scope acts).records (Err (Run Output)) start has) (sym measured)
+        (took_part (stood plan commands scope r.acts).records (stood plan commands scope (r.acts ++ r.last ∷ [])).records start has r.took)
+    ran_took (Err Output) (inr r) =
+        took_of r.acts (acts_measured (Err (Run Output)) told) (Err (Run Output)) (ap (acts_measured (Err (Run Output))) r.tells ∙ but_last r.acts Closed) r.took
+    ran_took (Err fault) r = took_of r.2.acts told (Err (Run fault)) r.2.tells r.2.took
+
+-- what a sink took of a run is what was written of its records, behind what the sink had and what stands in front of the records
+pub behind_took : (course : Course) (old new : Places) (result : Result Tally Stop) → RunsBehind course old new result →
+    (told : List Act) (had : List ℕ) → old.acts ≡ Some [] → new.acts ≡ Some told → old.taken ≡ Some had → (reads : Call → List ℕ → Reading) → AreReadings reads →
+    Took (text_in course.layout course.names) (records_in course reads (acts_measured result told)) result (had ++ front_text course.layout) new.taken
+behind_took course old new result b told had none some began reads are =
+    let text = text_in course.layout course.names in
+    let scope = scope_of course reads in
+    let start = had ++ front_text course.layout in
+    let between : b.between ≡ Some start = appended text had (front_text course.layout) b.between (subst (λ (x : Option (List ℕ)). Appends x b.between (front_text course.layout)) began b.front) in
+    let ran : Ran course.plan course.tasks scope text (Some []) (Some told) (Some start) new.taken b.end =
+    subst (λ (x : Option (List ℕ)). Ran course.plan course.tasks scope text (Some []) (Some told) x new.taken b.end) between
+    (subst (λ (x : Option (List Act)). Ran course.plan course.tasks scope text (Some []) x b.between new.taken b.end) some
+    (subst (λ (x : Option (List Act)). Ran course.plan course.tasks scope text x new.acts b.between new.taken b.end) none (b.ran.0 reads are))) in
+    subst (λ (r : Result Tally Stop). Took text (records_in course reads (acts_measured r told)) r start new.taken) (sym b.is)
+    (ran_took text course.plan course.tasks scope told start new.taken b.end ran)

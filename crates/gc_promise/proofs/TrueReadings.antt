@@ -1,0 +1,109 @@
+-- What the replies of the eventful run say. A function that gives what each reply says is the same as `patched`, which gives it for these
+-- five without looking at their bytes: so the run can be computed with that one.
+use Rattle.std.proofs.Common.{◌≡◌, ℕ, Bool, true, false, List, [], ◌∷◌, Some, Ok, refl, sym, ap, ◌∙◌, arith}
+use Rattle.std.proofs.Math.Path.{fun_ext}
+use Rattle.std.proofs.lemmas.Int.{ints}
+use Rattle.std.specs.Cmp.Lexicographic.{pointwise, same_text}
+use Rattle.std.specs.Fmt.{digits}
+use Rattle.std.specs.Prelude.{codes, if◌then◌else◌, nat_eq, pos}
+use Rattle.gc_lines.proofs.Replies.{reply_found}
+use Rattle.gc_lines.specs.Readers.{header_at, reply_at}
+use Rattle.gc_lines.specs.Replies.{ReplyFields}
+use Rattle.gc_values.proofs.ListLaws.{written_reads}
+use Rattle.gc_values.proofs.PlainLists.{no_params}
+use Rattle.gc_values.specs.Decimals.{decimal, rounded}
+use Rattle.gc_values.specs.Lists.{AreParams, faulty_items, wrong_count}
+use Rattle.gc_values.specs.declared.fault.ValueFault.TheVariants.{Count}
+use Rattle.gc_values.specs.declared.value.Value.TheVariants as value
+use Rattle.gc_catalogue.specs.Answers.{answer_fields}
+use Rattle.gc_catalogue.specs.Calls.{call_fields}
+use Rattle.gc_catalogue.specs.declared.answer.Answer.{Answer}
+use Rattle.gc_catalogue.specs.declared.answer.Answer.TheVariants.{Long, Measured, Nothing}
+use Rattle.gc_catalogue.specs.declared.answer.Reading.{Reading}
+use Rattle.gc_catalogue.specs.declared.answer.Shape.TheVariants as shape
+use Rattle.gc_catalogue.specs.declared.answer.Reading.TheVariants.{Value, Unreadable}
+use Rattle.gc_catalogue.specs.declared.call.Call.{Call}
+use Rattle.gc_catalogue.specs.declared.call.Call.TheVariants.{InstrumentNo, Position, SimpleMea}
+use Rattle.gc_client.specs.Settlements.{ReadsAs}
+use Rattle.gc_station.specs.Scopes.{AreReadings}
+use Rattle.gc_promise.specs.Eventful.{at_target, elsewhere, empty, measured, numbered, pointed}
+
+-- what the reply to command 2 says
+abbrev away : Answer
+away = Measured (decimal (pos 5) 1 refl) (decimal (pos 15) 1 refl) (decimal (pos 8725) 2 refl)
+
+-- What each reply says of a call with such answers, by the grammar of replies.
+
+-- the fields of a reply with this id and these parameters, and with both codes 0
+abbrev pub replied : ℕ → List ℕ → ReplyFields
+replied id params = record { rc_com = 0; id = Some id; rc = 0; params = params }
+
+module _ (call : Call) where
+  -- a line that reads as such a reply says this answer, if the parameters are the answer's values
+  value_says : (line params : List ℕ) (id : ℕ) (answer : Answer) → reply_at line ≡ Ok (replied id params) → (call_fields call).answer ≡ (answer_fields answer).shape
+      → AreParams params (answer_fields answer).values → ReadsAs call line (Value answer)
+  value_says line params id answer reads of_call values =
+      record { reply = replied id params; is_reply = reply_found line (replied id params) reads; is_reading = (refl, refl, record { of_call = sym of_call; values = values }) }
+
+  pointed_says : (call_fields call).answer ≡ shape.Nothing → ReadsAs call pointed (Value Nothing)
+  unfolding header_at reply_at digits
+  pointed_says of_call = value_says pointed [] 0 Nothing refl of_call (no_params [] [] refl refl)
+
+  measured_says : (call_fields call).answer ≡ shape.Measured → ReadsAs call measured (Value at_target)
+  unfolding header_at reply_at digits rounded
+  measured_says of_call =
+      value_says measured (codes "2.25,1.625,110.0625") 1 at_target refl of_call (written_reads (answer_fields at_target).values (tt, (tt, (tt, tt))))
+
+  elsewhere_says : (call_fields call).answer ≡ shape.Measured → ReadsAs call elsewhere (Value away)
+  unfolding header_at reply_at digits rounded
+  elsewhere_says of_call = value_says elsewhere (codes "0.5,1.5,87.25") 2 away refl of_call (written_reads (answer_fields away).values (tt, (tt, (tt, tt))))
+
+  numbered_says : (call_fields call).answer ≡ shape.Long → ReadsAs call numbered (Value (Long (pos 31)))
+  unfolding header_at reply_at digits
+  numbered_says of_call =
+      value_says numbered (codes "31") 3 (Long (pos 31)) refl of_call (written_reads (value.Long (pos 31) ∷ []) ((omega (arith, ints), omega (arith, ints)), tt))
+
+  empty_says : (call_fields call).answer ≡ shape.Long → ReadsAs call empty (Unreadable Count)
+  unfolding header_at reply_at digits
+  empty_says of_call =
+      record {
+        reply = replied 4 [];
+        is_reply = reply_found empty (replied 4 []) refl;
+        is_reading = (refl, refl, (Long (pos 0), sym of_call, faulty_items [] (0, refl) (wrong_count refl (omega arith) (λ e. absurd (omega (arith, e))))));
+      }
+
+-- the function that gives this reading of this line, and of any other line what `says` gives
+abbrev saying : List ℕ → Reading → (List ℕ → Reading) → List ℕ → Reading
+saying line reading says x = if pointwise nat_eq line x then reading else says x
+
+-- the function with these readings put in front, for the calls that have them
+abbrev pub patched : (Call → List ℕ → Reading) → Call → List ℕ → Reading
+patched reads (Position hz v pos_mode atr_mode dummy) = saying pointed (Value Nothing) (reads (Position hz v pos_mode atr_mode dummy))
+patched reads (SimpleMea wait mode) = saying measured (Value at_target) (saying elsewhere (Value away) (reads (SimpleMea wait mode)))
+patched reads InstrumentNo = saying numbered (Value (Long (pos 31))) (saying empty (Unreadable Count) (reads InstrumentNo))
+patched reads call = reads call
+
+-- where a function says this reading of the line anyway, the reading put in front changes nothing
+said_so : (line : List ℕ) (reading : Reading) (says : List ℕ → Reading) → says line ≡ reading → saying line reading says ≡ says
+said_so line reading says e = fun_ext (λ x. by_test x (pointwise nat_eq line x) refl) where
+  by_test : (x : List ℕ) (same : Bool) → pointwise nat_eq line x ≡ same → (if same then reading else says x) ≡ says x
+  by_test x true t = sym e ∙ ap says (same_text line x (sym t))
+  by_test x false t = refl
+
+module _ (reads : Call → List ℕ → Reading) (are : AreReadings reads) where
+  -- of each call `patched` says what the function says, because the function says these readings by the grammar
+  of_call : (call : Call) → patched reads call ≡ reads call
+  of_call (Position hz v pos_mode atr_mode dummy) =
+      let call = Position hz v pos_mode atr_mode dummy in said_so pointed (Value Nothing) (reads call) (are call pointed (Value Nothing) (pointed_says call refl))
+  of_call (SimpleMea wait mode) =
+      let call = SimpleMea wait mode in
+      ap (saying measured (Value at_target)) (said_so elsewhere (Value away) (reads call) (are call elsewhere (Value away) (elsewhere_says call refl)))
+      ∙ said_so measured (Value at_target) (reads call) (are call measured (Value at_target) (measured_says call refl))
+  of_call InstrumentNo =
+      ap (saying numbered (Value (Long (pos 31)))) (said_so empty (Unreadable Count) (reads InstrumentNo) (are InstrumentNo empty (Unreadable Count) (empty_says InstrumentNo refl)))
+      ∙ said_so numbered (Value (Long (pos 31))) (reads InstrumentNo) (are InstrumentNo numbered (Value (Long (pos 31))) (numbered_says InstrumentNo refl))
+  of_call call = refl
+
+  -- `patched` of a function is the function itself
+  pub patched_same : patched reads ≡ reads
+  patched_same = fun_ext of_call

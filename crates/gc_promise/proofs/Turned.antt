@@ -1,0 +1,73 @@
+-- What is seen at each act of the eventful run: it is the same whatever function says what replies say.
+use Rattle.std.proofs.Common.{◌≡◌, ℕ, List, [], ◌∷◌, ◌++◌, Some, true, refl, sym, ◌∙◌, ap, subst}
+use Rattle.std.specs.Fmt.{digits}
+use Rattle.gc_lines.specs.Readers.{header_at, reply_at}
+use Rattle.gc_values.specs.Decimals.{rounded}
+use Rattle.gc_values.specs.Directions.{is_near}
+use Rattle.gc_catalogue.specs.declared.answer.Reading.{Reading}
+use Rattle.gc_catalogue.specs.declared.answer.Reading.TheVariants.{ComFault}
+use Rattle.gc_catalogue.specs.declared.call.Call.{Call}
+use Rattle.gc_texts.specs.Nears.{is_elsewhere}
+use Rattle.gc_links.specs.Acts.{Act}
+use Rattle.gc_station.specs.Keeping.{AreKept, KeepsUp, Turn}
+use Rattle.gc_station.specs.Model.{Model, after, after_all, opening}
+use Rattle.gc_station.specs.Records.{Record, texts_of}
+use Rattle.gc_station.specs.Runs.{stood}
+use Rattle.gc_station.specs.Scopes.{AreReadings}
+use Rattle.gc_promise.specs.Eventful.{acts, commands, plan, scope}
+use Rattle.gc_promise.proofs.Eventful.{all_run}
+use Rattle.gc_promise.proofs.TrueReadings.{patched, patched_same}
+
+-- behind one act more stands what that act makes of the model behind those before
+after_more : (s : Model) (done : List Act) (act : Act) → after_all plan commands s (done ++ act ∷ []) ≡ after plan commands (after_all plan commands s done) act
+after_more s [] act = refl
+after_more s (d ∷ done) act = after_more (after plan commands s d) done act
+
+module _ (text : Record → List ℕ) where
+  -- what is seen at each of these acts, from this model on, behind the acts that were done
+  abbrev turns_from : Model → List Act → List Act → List Turn
+  turns_from s done [] = []
+  turns_from s done (act ∷ acts) =
+      record { acts = Some done; taken = Some (texts_of text s.records); lasts = true } ∷ turns_from (after plan commands s act) (done ++ act ∷ []) acts
+
+  -- so all that the acts before it settled is kept at each act
+  kept_from : (reads : Call → List ℕ → Reading) (s : Model) (done acts : List Act) → s ≡ stood plan commands (scope reads) done
+      → AreKept plan commands (scope reads) text (Some []) (Some []) done acts (turns_from s done acts)
+  kept_from reads s done [] is = tt
+  kept_from reads s done (act ∷ acts) is = (
+    record { tells = refl; took = ap (λ (m : Model). texts_of text m.records) is; lasts = refl },
+    kept_from reads (after plan commands s act) (done ++ act ∷ []) acts
+        (ap (λ (m : Model). after plan commands m act) is ∙ sym (after_more (opening plan (scope reads)) done act)),
+  )
+
+  -- what is seen at the acts of the run
+  abbrev turns_by : (Call → List ℕ → Reading) → List Turn
+  turns_by reads = turns_from (opening plan (scope (patched reads))) [] acts
+
+  -- some function, which `patched` never asks for what the run's replies say
+  abbrev any : Call → List ℕ → Reading
+  any call line = ComFault 0
+
+  abbrev pub turns : List Turn
+  turns = turns_by any
+
+  same_turns : (reads : Call → List ℕ → Reading) → turns_by reads ≡ turns
+  unfolding is_elsewhere is_near header_at reply_at digits rounded
+  same_turns reads = refl
+
+  keeps : (reads : Call → List ℕ → Reading) → KeepsUp plan commands (scope (patched reads)) text (Some []) (Some acts) (Some []) [] turns []
+  keeps reads =
+      record {
+        acts = acts;
+        tells = refl;
+        runs = all_run reads;
+        turns = turns;
+        saw = refl;
+        kept =
+            subst (AreKept plan commands (scope (patched reads)) text (Some []) (Some []) [] acts) (same_turns reads)
+            (kept_from (patched reads) (opening plan (scope (patched reads))) [] acts refl);
+      }
+
+  -- so it is with whatever function says what replies say
+  pub keeps_whole : (reads : Call → List ℕ → Reading) → AreReadings reads → KeepsUp plan commands (scope reads) text (Some []) (Some acts) (Some []) [] turns []
+  keeps_whole reads are = subst (λ r. KeepsUp plan commands (scope r) text (Some []) (Some acts) (Some []) [] turns []) (patched_same reads are) (keeps reads)

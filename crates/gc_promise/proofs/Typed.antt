@@ -1,0 +1,110 @@
+-- The records of the eventful run lie in the types of the program: so its lines of JSON are their own, too.
+use Rattle.std.proofs.Common.{◌≡◌, ◌<◌, ◌^◌, ℕ, Bool, true, false, List, [], ◌∷◌, Option, Some, None, Ok, refl, arith, lit<}
+use Rattle.std.proofs.lemmas.Bool.{ltb-true}
+use Rattle.std.proofs.lemmas.Int.{ints}
+use Rattle.std.proofs.lemmas.List.Elements.{All-from_recursion}
+use Rattle.std.specs.Fmt.{digits}
+use Rattle.std.specs.List.{AllByRecursion}
+use Rattle.std.specs.Option.{IfSome}
+use Rattle.std.specs.Prelude.{codes, nat_lt, ◌&&◌}
+use Rattle.gc_lines.proofs.Replies.{reply_found}
+use Rattle.gc_lines.specs.Readers.{header_at, reply_at}
+use Rattle.gc_rows.specs.Laws.{IsEnd, IsReplyOfBytes, IsWhen}
+use Rattle.gc_rows.specs.declared.record.Form.TheVariants.{Json}
+use Rattle.gc_station.specs.Records.{Record}
+use Rattle.gc_station.proofs.Facts.{both_true}
+use Rattle.gc_measuring.specs.Measuring.{when_of}
+use Rattle.gc_promise.specs.Eventful.{chained_record, elsewhere, empty, measured, number_record, numbered, pointed, points_record, records}
+use Rattle.gc_promise.specs.Objects.{AreOfBytes}
+use Rattle.gc_promise.specs.Witness.{course}
+use Rattle.gc_promise.proofs.TrueReadings.{replied}
+
+-- a line of bytes that reads as a reply with both codes 0
+of_bytes : (line params : List ℕ) (id : ℕ) → reply_at line ≡ Ok (replied id params) → AllByRecursion (λ b. b < 256) line → IsReplyOfBytes line
+of_bytes line params id reads small = (replied id params, reply_found line (replied id params) reads, All-from_recursion (λ b. b < 256) line small)
+
+pointed_is : IsReplyOfBytes pointed
+unfolding header_at reply_at digits
+pointed_is = of_bytes pointed [] 0 refl (lit< tt, (lit< tt, (lit< tt, (lit< tt, (lit< tt, (lit< tt, (lit< tt, (lit< tt, (lit< tt, (lit< tt, tt))))))))))
+
+measured_is : IsReplyOfBytes measured
+unfolding header_at reply_at digits
+measured_is = of_bytes measured (codes "2.25,1.625,110.0625") 1 refl (lit< tt, (lit< tt, (lit< tt, (lit< tt, (lit< tt, (lit< tt, (lit< tt, (lit< tt, (lit< tt, (lit< tt, (lit< tt, (lit< tt, (lit< tt, (lit< tt, (lit< tt, (lit< tt, (lit< tt, (lit< tt, (lit< tt, (lit< tt, (lit< tt, (lit< tt, (lit< tt, (lit< tt, (lit< tt, (lit< tt, (lit< tt, (lit< tt, (lit< tt, (lit< tt, tt))))))))))))))))))))))))))))))
+
+elsewhere_is : IsReplyOfBytes elsewhere
+unfolding header_at reply_at digits
+elsewhere_is = of_bytes elsewhere (codes "0.5,1.5,87.25") 2 refl (lit< tt, (lit< tt, (lit< tt, (lit< tt, (lit< tt, (lit< tt, (lit< tt, (lit< tt, (lit< tt, (lit< tt, (lit< tt, (lit< tt, (lit< tt, (lit< tt, (lit< tt, (lit< tt, (lit< tt, (lit< tt, (lit< tt, (lit< tt, (lit< tt, (lit< tt, (lit< tt, (lit< tt, tt))))))))))))))))))))))))
+
+numbered_is : IsReplyOfBytes numbered
+unfolding header_at reply_at digits
+numbered_is = of_bytes numbered (codes "31") 3 refl (lit< tt, (lit< tt, (lit< tt, (lit< tt, (lit< tt, (lit< tt, (lit< tt, (lit< tt, (lit< tt, (lit< tt, (lit< tt, (lit< tt, (lit< tt, tt)))))))))))))
+
+empty_is : IsReplyOfBytes empty
+unfolding header_at reply_at digits
+empty_is = of_bytes empty [] 4 refl (lit< tt, (lit< tt, (lit< tt, (lit< tt, (lit< tt, (lit< tt, (lit< tt, (lit< tt, (lit< tt, (lit< tt, tt))))))))))
+
+-- the answers of this run are of bytes
+points_end : IsEnd points_record.end
+points_end = (pointed_is, tt)
+
+chained_end : IsEnd chained_record.end
+chained_end = (measured_is, (tt, (tt, (tt, tt))))
+
+number_end : IsEnd number_record.end
+number_end = (numbered_is, ((omega (arith, ints), omega (arith, ints)), tt))
+
+ends : AllByRecursion (λ (r : Record). IsEnd r.end) records
+ends = (tt, (tt, (tt, (tt, (tt, (tt, (tt, (tt, (tt, (tt, (tt, (tt, (tt, (tt, (points_end, (chained_end, (elsewhere_is, (number_end, (empty_is, (tt, (tt, tt)))))))))))))))))))))
+
+-- whether a number is below 2^64
+abbrev is_small : ℕ → Bool
+is_small n = nat_lt n (2 ^ 64)
+
+-- whether the moment at which a command went out is below 2^64, if it went out
+abbrev sent_is_small : Option ℕ → Bool
+sent_is_small None = true
+sent_is_small (Some utc) = is_small utc
+
+-- whether all numbers of records are below 2^64
+abbrev are_small : List Record → Bool
+are_small [] = true
+are_small (r ∷ rs) = (sent_is_small r.sent && (is_small r.utc && (is_small r.cycle && (is_small r.place && is_small r.command.target)))) && are_small rs
+
+-- a moment is below 2^64 where `sent_is_small` says so
+sent_below : (sent : Option ℕ) → sent_is_small sent ≡ true → IfSome sent (λ utc. utc < 2 ^ 64)
+sent_below None e = tt
+sent_below (Some utc) e = ltb-true utc (2 ^ 64) e
+
+-- records whose numbers are below 2^64, and whose ends are of bytes, lie in the types of the program
+abbrev IsTyped : Record → Type 0
+IsTyped r = IsWhen (when_of 0 r) × (r.command.target < 2 ^ 64) × IsEnd r.end
+
+-- records are typed where their numbers are small and their ends are of bytes
+typed : (rs : List Record) → are_small rs ≡ true → AllByRecursion (λ (r : Record). IsEnd r.end) rs → AllByRecursion IsTyped rs
+typed [] e h = tt
+typed (r ∷ rs) e h =
+    let target = is_small r.command.target in
+    let place = is_small r.place && target in
+    let cycle = is_small r.cycle && place in
+    let utc = is_small r.utc && cycle in
+    let all = both_true (sent_is_small r.sent && utc) (are_small rs) e in
+    let of_sent = both_true (sent_is_small r.sent) utc all.0 in
+    let of_utc = both_true (is_small r.utc) cycle of_sent.1 in
+    let of_cycle = both_true (is_small r.cycle) place of_utc.1 in
+    let of_place = both_true (is_small r.place) target of_cycle.1 in (
+      (
+        record {
+          sent = sent_below r.sent of_sent.0;
+          utc = ltb-true r.utc (2 ^ 64) of_utc.0;
+          cycle = ltb-true r.cycle (2 ^ 64) of_cycle.0;
+          place = ltb-true r.place (2 ^ 64) of_place.0;
+        },
+        ltb-true r.command.target (2 ^ 64) of_place.1,
+        h.0,
+      ),
+      typed rs all.1 h.1,
+    )
+
+-- the records of the eventful run are of bytes and of numbers of 64 bits
+pub of_types : AreOfBytes (course Json) records
+of_types = record { run = lit< tt; names = tt; each = typed records refl ends }

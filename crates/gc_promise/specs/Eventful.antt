@@ -1,0 +1,464 @@
+-- An eventful run, this project's own. Each kind of act of a link comes in it, but for a clock that can't be read, which ends a run; each
+-- kind of turn and of move, but for a lost line feed that joins two requests; and each of the seven ways in which a command may end. Of its
+-- three cycles the second is missed. In the first one the reply to the first command of a chain is lost, and so the second one is skipped; then
+-- seven requests are given up, and the station begins anew, with requests and a reply of before under way. In the third both commands of the
+-- chain are answered.
+use Rattle.std.specs.Prelude.{◌≡◌, ℕ, suc, ◌+◌, Bool, true, false, List, [], ◌∷◌, ◌++◌, codes, drop, map, pos, refl, replicate, Option, Some, None}
+use Rattle.std.specs.List.{flat_map}
+use Rattle.gc_lines.specs.Lines.{with_end}
+use Rattle.gc_lines.specs.Replies.{reply_text}
+use Rattle.gc_values.specs.Decimals.{decimal}
+use Rattle.gc_values.specs.declared.decimal.Decimal.{Decimal}
+use Rattle.gc_values.specs.declared.fault.ValueFault.TheVariants.{Count}
+use Rattle.gc_catalogue.specs.declared.answer.Answer.{Answer}
+use Rattle.gc_catalogue.specs.declared.answer.Answer.TheVariants.{Nothing, Long, Measured}
+use Rattle.gc_catalogue.specs.declared.answer.Reading.{Reading}
+use Rattle.gc_catalogue.specs.declared.call.Call.{Call}
+use Rattle.gc_catalogue.specs.declared.call.Call.TheVariants.{InstrumentNo, NullProc}
+use Rattle.gc_client.specs.Rule.{heard}
+use Rattle.gc_client.specs.declared.window.TheConstants.{WINDOW}
+use Rattle.gc_texts.specs.Endings as end
+use Rattle.gc_texts.specs.Endings.{End}
+use Rattle.gc_texts.specs.declared.near.Near.{Near}
+use Rattle.gc_texts.specs.declared.tasks.Task.{Task}
+use Rattle.gc_links.specs.Acts.{Act, Told, Put, Cut, Gave, Silent, Ended, Broke, Closed, Opened, Unopened}
+use Rattle.gc_station.specs.Beginnings.{IsAnew}
+use Rattle.gc_station.specs.Links.{AreChained}
+use Rattle.gc_station.specs.Progressing.{is_over}
+use Rattle.gc_station.specs.Records.{Record}
+use Rattle.gc_station.specs.Runs.{stood}
+use Rattle.gc_station.specs.Scopes.{Scope}
+use Rattle.gc_station.specs.Tallies.{none_yet, tallied}
+use Rattle.gc_station.specs.declared.plan.Plan.{Plan}
+use Rattle.gc_station.specs.declared.tally.Tally.{Tally}
+use Rattle.gc_world.specs.World.{Ends, Up_deliver, Up_lose, Up_repeat, Down_lose, Down_repeat}
+use Rattle.gc_field.specs.Begin as turn
+use Rattle.gc_field.specs.Begin.{Turn, Asks, Reaches, UnderWay, begins, leaves, turned}
+use Rattle.gc_field.specs.Beginnings.{Run, left_by_run}
+use Rattle.gc_field.specs.BeginsAnew.{put_all}
+use Rattle.gc_field.specs.Begun.{WasMadeOn}
+use Rattle.gc_field.specs.ChainWitness.{hz, v, points, reads_all}
+use Rattle.gc_field.specs.Field.{Move, Sends, Tells, Comes, Foreign, OnLine, Anew, Changes}
+use Rattle.gc_field.specs.Instrument.{IsAnInstrument, AnyState, nothing}
+use Rattle.gc_field.specs.Runs.{IsInField, world}
+use Rattle.gc_field.specs.Shown.{Stretch}
+use Rattle.gc_field.specs.Witness.{asked, at, eight, exchanged, replies}
+
+-- The instrument.
+
+-- its state is a text, which it sends as the parameters of every reply. It keeps no reply, and a start leaves it with no text
+abbrev pub reporting : Ends (List ℕ)
+reporting =
+    record {
+      handed = λ s id call. record { state = s; reply = reply_text (record { rc_com = 0; id = Some id; rc = 0; params = s }); executed = true };
+      restarted = λ s. [];
+      heard = heard;
+      joint = false;
+    }
+
+-- The station.
+
+-- the plan of this run: seven requests at a time, null procedures that wait 100 ms, three cycles, one of which is due every 150 ms, a quiet time
+-- of 10 ms, and three new tries
+abbrev pub plan : Plan
+plan = record { width = 7; deadline = 100; every = 150; cycles = 3; quiet = 10; retries = 3 }
+
+-- a command that waits 50 ms
+abbrev pub task : ℕ → Call → Bool → Option Near → Task
+task target call chained near = record { command = record { target = target; call = call }; deadline = 50; chained = chained; near = near }
+
+-- where a target stands: in this direction, within a hundredth of a radian
+abbrev pub stands : ℕ → Decimal → Decimal → Option Near
+stands target hz v = Some (record { target = target; place = record { hz = hz; v = v }; tolerance = decimal (pos 1) 2 refl })
+
+-- the seven commands, numbered from 0: to point the telescope at target 7; chained to that, to read angles and distance there; to read them at
+-- target 8; and for each of four targets, to read the instrument's number
+abbrev pub commands : List Task
+commands =
+    task 7 points false None
+    ∷ task 7 reads_all true (stands 7 hz v)
+    ∷ task 8 reads_all false (stands 8 (decimal (pos 125) 2 refl) (decimal (pos 15) 1 refl))
+    ∷ map (λ target. task target InstrumentNo false None) (1 ∷ 2 ∷ 3 ∷ 4 ∷ [])
+
+-- the request line of command 0. The number of a command is its id, in the first cycle and in the third
+abbrev pub point : List ℕ
+point = codes "%R1Q,9027,0:2.25,1.625,0,0,0"
+
+-- the request line of command 1
+abbrev pub measure : List ℕ
+measure = codes "%R1Q,2108,1:3000,1"
+
+-- the request lines of commands 2 to 5
+abbrev pub four : List (List ℕ)
+four = codes "%R1Q,2108,2:3000,1" ∷ codes "%R1Q,5003,3:" ∷ codes "%R1Q,5003,4:" ∷ codes "%R1Q,5003,5:" ∷ []
+
+-- the request line of command 6
+abbrev pub last : List ℕ
+last = codes "%R1Q,5003,6:"
+
+-- the request line of the null procedure with this id
+abbrev pub null : ℕ → List ℕ
+null id = codes "%R1Q,0," ++ (48 + id) ∷ codes ":"
+
+-- the reply to command 0 in the third cycle, without parameters
+abbrev pub pointed : List ℕ
+pointed = codes "%R1P,0,0:0"
+
+-- the reply to command 1 in the third cycle: angles and distance, where target 7 stands
+abbrev pub measured : List ℕ
+measured = codes "%R1P,0,1:0,2.25,1.625,110.0625"
+
+-- the reply to command 2 in the third cycle: angles and distance, where target 8 doesn't stand
+abbrev pub elsewhere : List ℕ
+elsewhere = codes "%R1P,0,2:0,0.5,1.5,87.25"
+
+-- the reply to command 3 in the third cycle: a number
+abbrev pub numbered : List ℕ
+numbered = codes "%R1P,0,3:0,31"
+
+-- the reply to command 4 in the third cycle, without the number that it should have
+abbrev pub empty : List ℕ
+empty = codes "%R1P,0,4:0"
+
+-- the scope of this run: at most two hundred acts, and what each reply says of its call
+abbrev pub scope : (Call → List ℕ → Reading) → Scope
+scope reads = record { turns = 200; reads = reads }
+
+-- Acts and moves.
+
+-- the acts by which each of these lines goes out at this moment
+abbrev pub puts : ℕ → List (List ℕ) → List Act
+puts now lines = put_all now lines []
+
+-- the act by which these lines come in one piece
+abbrev pub gave : ℕ → List (List ℕ) → Act
+gave now lines = Gave (flat_map with_end lines) (at now)
+
+-- the acts by which a connection is closed at the first of these moments, and made again and cleared at the second
+abbrev pub connects_again : ℕ → ℕ → List Act
+connects_again now later = Closed ∷ Told (at now) ∷ Silent (at later) ∷ Opened ∷ Put (10 ∷ []) ∷ Told (at later) ∷ []
+
+-- the moves by which a request for the instrument's number goes out for each of these targets, at the first of these moments; the second is its
+-- deadline
+abbrev pub sends_all : ℕ → ℕ → List ℕ → List (Move (List ℕ))
+sends_all now deadline targets = flat_map (λ target. Sends target InstrumentNo deadline ∷ Tells now ∷ []) targets
+
+-- The beginning.
+
+-- under way at the start are a reply and a request, each with the id that command 0 will have
+abbrev pub before : UnderWay (List ℕ)
+before = record { up = record { id = 0; call = InstrumentNo } ∷ []; down = codes "%R1P,0,0:0,4" ∷ []; state = codes "5" }
+
+-- no connection can be made at first. Over the first one the first null procedure goes out; its echo and the old reply come in one piece; and the
+-- connection breaks. All eight null procedures are answered over the second one
+abbrev pub begins_acts : List Act
+begins_acts =
+    Unopened
+    ∷ Told (at 0)
+    ∷ Silent (at 10)
+    ∷ Opened
+    ∷ Put (10 ∷ [])
+    ∷ Told (at 10)
+    ∷ puts 10 (null 6 ∷ [])
+    ++ gave 12 (null 6 ∷ codes "%R1P,0,0:0,4" ∷ [])
+    ∷ Broke
+    ∷ connects_again 15 35
+    ++ exchanged 40 asked replies []
+
+-- the line repeats the old request: one copy reaches the instrument, and the other is lost. It repeats the reply to that, and both copies are
+-- lost; so is the reply to the first null procedure. The instrument starts anew
+abbrev pub begins_turns : List (Turn (List ℕ))
+begins_turns =
+    Asks
+    ∷ turn.Foreign (null 6)
+    ∷ turn.Comes
+    ∷ turn.Up_repeat 0
+    ∷ Reaches
+    ∷ turn.Up_lose 0
+    ∷ turn.Down_repeat 0
+    ∷ turn.Down_lose 0
+    ∷ turn.Down_lose 0
+    ∷ Reaches
+    ∷ turn.Down_lose 0
+    ∷ turn.Anew
+    ∷ turn.Changes []
+    ∷ eight
+
+-- The first cycle.
+
+-- no reply to command 0 comes until its deadline, and the reply to a null procedure settles it as lost. So command 1, which is chained to it, is
+-- skipped. Commands 2 to 6 go out, and behind their deadline two null procedures; no reply comes to any of these seven. Meanwhile the line is
+-- dead: the connection is closed, and a third one is made
+abbrev pub breaks_acts : List Act
+breaks_acts =
+    Told (at 40)
+    ∷ puts 40 (point ∷ [])
+    ++ Silent (at 90)
+    ∷ puts 90 (null 1 ∷ [])
+    ++ gave 95 (codes "%R1P,0,1:0" ∷ [])
+    ∷ Told (at 95)
+    ∷ puts 95 (four ++ last ∷ [])
+    ++ Silent (at 145)
+    ∷ puts 145 (null 7 ∷ [])
+    ++ Silent (at 245)
+    ∷ puts 245 (null 0 ∷ [])
+    ++ Silent (at 295)
+    ∷ connects_again 295 305
+    ++ Silent (at 315)
+    ∷ Silent (at 345)
+    ∷ []
+
+-- command 0 is executed, and its reply is lost. Command 2 is executed, and its reply stays under way. The requests of commands 3 to 5 are lost,
+-- and so is that of the first of the two null procedures; the requests of command 6 and of the other one stay under way
+abbrev pub breaks_moves : List (Move (List ℕ))
+breaks_moves =
+    Tells 40
+    ∷ Sends 7 points 90
+    ∷ Tells 40
+    ∷ OnLine Up_deliver
+    ∷ OnLine (Down_lose 0)
+    ∷ Tells 90
+    ∷ Sends 0 NullProc 190
+    ∷ Tells 90
+    ∷ OnLine Up_deliver
+    ∷ Tells 95
+    ∷ Comes (codes "%R1P,0,1:0")
+    ∷ Tells 95
+    ∷ Changes (codes "27")
+    ∷ Sends 8 reads_all 145
+    ∷ Tells 95
+    ∷ sends_all 95 145 (1 ∷ 2 ∷ 3 ∷ 4 ∷ [])
+    ++ OnLine Up_deliver
+    ∷ OnLine (Up_lose 0)
+    ∷ OnLine (Up_lose 0)
+    ∷ OnLine (Up_lose 0)
+    ∷ Tells 145
+    ∷ Sends 0 NullProc 245
+    ∷ Tells 145
+    ∷ OnLine (Up_lose 1)
+    ∷ Tells 245
+    ∷ Sends 0 NullProc 345
+    ∷ Tells 245
+    ∷ map Tells (295 ∷ 295 ∷ 305 ∷ 305 ∷ 315 ∷ 345 ∷ 345 ∷ [])
+
+-- The station begins anew.
+
+-- the replies to commands 2 and 6 come, and that to command 6 answers the first null procedure, whose id it has. Then the reply to the null
+-- procedure of before comes, with the id that command 0 will have; the first null procedure's own reply; and the second one's. The connection
+-- ends, and the beginning goes on over a fourth one
+abbrev pub anew_acts : List Act
+anew_acts =
+    Told (at 345)
+    ∷ puts 345 (null 6 ∷ [])
+    ++ gave 350 (codes "%R1P,0,2:0,27" ∷ codes "%R1P,0,6:0,27" ∷ [])
+    ∷ puts 350 (null 5 ∷ [])
+    ++ gave 355 (codes "%R1P,0,0:0" ∷ codes "%R1P,0,6:0" ∷ codes "%R1P,0,5:0" ∷ [])
+    ∷ puts 355 (null 4 ∷ [])
+    ++ Ended
+    ∷ connects_again 355 375
+    ++ exchanged 380 (drop 2 asked) (drop 2 replies) []
+
+-- both requests of before reach the instrument. The request of the third null procedure is lost, and goes out again
+abbrev pub anew_turns : List (Turn (List ℕ))
+anew_turns =
+    Asks
+    ∷ Reaches
+    ∷ turn.Comes
+    ∷ turn.Comes
+    ∷ Asks
+    ∷ turn.Changes []
+    ∷ Reaches
+    ∷ Reaches
+    ∷ Reaches
+    ∷ turn.Comes
+    ∷ turn.Comes
+    ∷ turn.Comes
+    ∷ Asks
+    ∷ turn.Up_lose 0
+    ∷ drop 6 eight
+
+-- The second cycle, and the third.
+
+-- the second cycle is missed, and the third begins at once. Command 0 is answered, and the others go out; the last request is cut behind five
+-- bytes, and the connection is closed. Over a fifth one noise comes, a second reply to command 0, and the replies to commands 1 to 4, of which
+-- one comes twice. Commands 5 and 6 are given up; the reply to command 5 comes late, and the reply to a null procedure settles command 6 as
+-- lost
+abbrev pub chain_acts : List Act
+chain_acts =
+    map (λ now. Told (at now)) (replicate 9 385)
+    ++ puts 385 (point ∷ [])
+    ++ gave 390 (pointed ∷ [])
+    ∷ puts 390 (measure ∷ four)
+    ++ Cut (with_end last) 5
+    ∷ connects_again 390 400
+    ++ Silent (at 410)
+    ∷ gave 415 (codes "?" ∷ pointed ∷ measured ∷ elsewhere ∷ numbered ∷ numbered ∷ empty ∷ [])
+    ∷ Silent (at 440)
+    ∷ puts 440 (null 7 ∷ [])
+    ++ gave 445 (codes "%R1P,0,5:0,31" ∷ codes "%R1P,0,7:0,31" ∷ [])
+    ∷ Closed
+    ∷ []
+
+-- the line repeats the request of command 0, which is executed twice. The instrument changes by itself before it executes commands 1, 2 and 3,
+-- as by a hand that turns it, and starts anew before it executes command 4. The line repeats the reply to command 3, and loses the request of
+-- command 6
+abbrev pub chain_moves : List (Move (List ℕ))
+chain_moves =
+    map Tells (replicate 9 385)
+    ++ Sends 7 points 435
+    ∷ Tells 385
+    ∷ OnLine (Up_repeat 0)
+    ∷ OnLine Up_deliver
+    ∷ OnLine Up_deliver
+    ∷ Tells 390
+    ∷ Comes pointed
+    ∷ Sends 7 reads_all 440
+    ∷ Tells 390
+    ∷ Sends 8 reads_all 440
+    ∷ Tells 390
+    ∷ sends_all 390 440 (1 ∷ 2 ∷ 3 ∷ [])
+    ++ Sends 4 InstrumentNo 440
+    ∷ Changes (codes "2.25,1.625,110.0625")
+    ∷ OnLine Up_deliver
+    ∷ Changes (codes "0.5,1.5,87.25")
+    ∷ OnLine Up_deliver
+    ∷ Changes (codes "31")
+    ∷ OnLine Up_deliver
+    ∷ OnLine (Down_repeat 3)
+    ∷ Anew
+    ∷ OnLine Up_deliver
+    ∷ map Tells (390 ∷ 400 ∷ 400 ∷ 410 ∷ 415 ∷ [])
+    ++ Foreign (codes "?")
+    ∷ map Comes (pointed ∷ measured ∷ elsewhere ∷ numbered ∷ numbered ∷ empty ∷ [])
+    ++ Tells 440
+    ∷ Sends 0 NullProc 540
+    ∷ Tells 440
+    ∷ Changes (codes "31")
+    ∷ OnLine Up_deliver
+    ∷ OnLine (Up_lose 0)
+    ∷ OnLine Up_deliver
+    ∷ Tells 445
+    ∷ Comes (codes "%R1P,0,5:0,31")
+    ∷ Comes (codes "%R1P,0,7:0,31")
+    ∷ []
+
+-- The whole run.
+
+-- the acts until seven requests are given up
+abbrev pub front : List Act
+front = begins_acts ++ breaks_acts
+
+-- all acts of the run
+abbrev pub acts : List Act
+acts = front ++ (anew_acts ++ chain_acts)
+
+-- what happens until the station begins anew
+abbrev pub first_run : Run (List ℕ)
+first_run = record { turns = begins_turns; moves = breaks_moves }
+
+-- the run as two: until the station begins anew, and from there on; and what is behind its end, where nothing happens
+abbrev pub runs : List (Run (List ℕ))
+runs = first_run ∷ record { turns = anew_turns; moves = chain_moves } ∷ record { turns = []; moves = [] } ∷ []
+
+-- what is under way where the station begins anew
+abbrev pub left : UnderWay (List ℕ)
+left = left_by_run WINDOW reporting before first_run
+
+-- the stretch of the first cycle
+abbrev pub first_stretch : Stretch (List ℕ)
+first_stretch = record { from = leaves (turned reporting begins_turns (begins before)); moves = breaks_moves }
+
+-- the stretch of the third cycle
+abbrev pub last_stretch : Stretch (List ℕ)
+last_stretch = record { from = leaves (turned reporting anew_turns (begins left)); moves = chain_moves }
+
+-- The records of the run.
+
+-- the record of a command that went out at the first of these moments, if it did, and ended at the second
+abbrev pub ended : Option ℕ → ℕ → ℕ → ℕ → ℕ → Call → End → Record
+ended sent utc cycle place target call end =
+    record { sent = sent; utc = utc; cycle = cycle; place = place; command = record { target = target; call = call }; end = end }
+
+-- what the reply to command 1 says
+abbrev pub at_target : Answer
+at_target = Measured hz v (decimal (pos 1100625) 4 refl)
+
+-- the record of command 0 in the third cycle: answered, without values
+abbrev pub points_record : Record
+points_record = ended (Some 385) 390 3 0 7 points (end.Answered (Some Nothing) pointed)
+
+-- the record of command 1 in the third cycle: answered, with what was measured at target 7
+abbrev pub chained_record : Record
+chained_record = ended (Some 390) 415 3 1 7 reads_all (end.Answered (Some at_target) measured)
+
+-- the record of command 2 in the third cycle: elsewhere
+abbrev pub elsewhere_record : Record
+elsewhere_record = ended (Some 390) 415 3 2 8 reads_all (end.Elsewhere elsewhere)
+
+-- the record of command 3 in the third cycle: answered, with a number
+abbrev pub number_record : Record
+number_record = ended (Some 390) 415 3 3 1 InstrumentNo (end.Answered (Some (Long (pos 31))) numbered)
+
+-- the record of command 4 in the third cycle: unreadable
+abbrev pub unreadable_record : Record
+unreadable_record = ended (Some 390) 415 3 4 2 InstrumentNo (end.Unreadable empty Count)
+
+-- all records of the run, in order
+abbrev pub records : List Record
+records =
+    ended (Some 40) 95 1 0 7 points end.Lost
+    ∷ ended None 95 1 1 7 reads_all end.Skipped
+    ∷ ended (Some 95) 345 1 2 8 reads_all end.Lost
+    ∷ ended (Some 95) 345 1 3 1 InstrumentNo end.Lost
+    ∷ ended (Some 95) 345 1 4 2 InstrumentNo end.Lost
+    ∷ ended (Some 95) 345 1 5 3 InstrumentNo end.Lost
+    ∷ ended (Some 95) 345 1 6 4 InstrumentNo end.Lost
+    ∷ ended None 190 2 0 7 points end.Missed
+    ∷ ended None 190 2 1 7 reads_all end.Missed
+    ∷ ended None 190 2 2 8 reads_all end.Missed
+    ∷ ended None 190 2 3 1 InstrumentNo end.Missed
+    ∷ ended None 190 2 4 2 InstrumentNo end.Missed
+    ∷ ended None 190 2 5 3 InstrumentNo end.Missed
+    ∷ ended None 190 2 6 4 InstrumentNo end.Missed
+    ∷ points_record
+    ∷ chained_record
+    ∷ elsewhere_record
+    ∷ number_record
+    ∷ unreadable_record
+    ∷ ended (Some 390) 445 3 5 3 InstrumentNo end.Late
+    ∷ ended (Some 390) 445 3 6 4 InstrumentNo end.Lost
+    ∷ []
+
+-- how many commands ended in each of the seven ways
+abbrev pub tally : Tally
+tally = record { answered = 3; late = 1; lost = 7; skipped = 1; unreadable = 1; missed = 7; elsewhere = 1 }
+
+-- What the run shows.
+
+-- how many connections these acts made
+abbrev pub connections : List Act → ℕ
+connections [] = 0
+connections (Opened ∷ acts) = suc (connections acts)
+connections (_ ∷ acts) = connections acts
+
+-- by a function that gives what replies say of their calls: `reporting` is an instrument, and the run is one in the field, which is over
+-- behind these acts and has these records
+pub record IsEventful (reads : Call → List ℕ → Reading) : Type 0 where
+  pub is : IsAnInstrument reporting AnyState nothing
+  pub field : IsInField reporting AnyState nothing plan commands (scope reads) acts before runs
+  pub over : is_over (stood plan commands (scope reads) acts).progress ≡ true
+  pub written : (stood plan commands (scope reads) acts).records ≡ records
+  -- commands end in each of the seven ways
+  pub counted : tallied none_yet records ≡ tally
+  -- command 1 goes out only once command 0 was answered well
+  pub chained : AreChained commands 0 1
+  -- a reply is lost: in the first cycle, too, the instrument made this line on executing the request of command 0
+  pub made : WasMadeOn WINDOW reporting first_stretch.from first_stretch.moves 8 points pointed
+  -- the station begins anew where seven requests wait that are all given up. Two requests and a reply are under way then
+  pub begins_anew : IsAnew plan commands (scope reads) front (Told (at 345))
+  pub up : left.up ≡ record { id = 6; call = InstrumentNo } ∷ record { id = 0; call = NullProc } ∷ []
+  pub down : left.down ≡ codes "%R1P,0,2:0,27" ∷ []
+  -- the instrument starts anew in the third cycle, behind five executions
+  pub starts : (world reporting last_stretch).wire.starts ≡ 5 ∷ []
+  -- five connections are made
+  pub connected : connections acts ≡ 5

@@ -1,0 +1,76 @@
+-- What stands in a row of a table, or in an object, under each name: this project's own. Both are given by the function from a name to the
+-- text under it, so that one definition serves both.
+use Rattle.std.specs.Prelude.{◌≡◌, ◌⊎◌, ℕ, Bool, true, List, [], ◌∷◌, map, Some, nat_eq, if◌then◌else◌, slice_get, codes, Option}
+use Rattle.std.specs.Cmp.Lexicographic.{pointwise}
+use Rattle.std.specs.Fmt.{decimal}
+use Rattle.gc_lines.specs.Numbers.{IsNumber}
+use Rattle.gc_lines.specs.Replies.{ReplyFields, IsReply}
+use Rattle.gc_catalogue.specs.Answers.{answer_fields}
+use Rattle.gc_catalogue.specs.Calls.{call_fields}
+use Rattle.gc_catalogue.specs.Readings.{IsReading}
+use Rattle.gc_catalogue.specs.declared.answer.Reading.{Reading}
+use Rattle.gc_catalogue.specs.declared.answer.Reading.TheVariants.{Value}
+use Rattle.gc_catalogue.specs.declared.call.Call.{Call}
+use Rattle.gc_instrument.specs.State.{KeptReply}
+use Rattle.gc_texts.specs.Endings.{word_of}
+use Rattle.gc_texts.specs.Logs.{escaped}
+use Rattle.gc_texts.specs.declared.tasks.Task.{Task}
+use Rattle.gc_rows.specs.Quantities.{quantity_names, quantity_text}
+use Rattle.gc_rows.specs.Told.{quantities_told}
+use Rattle.gc_station.specs.Parts.{Part}
+use Rattle.gc_station.specs.Records.{Record}
+use Rattle.gc_world.specs.World.{Ends}
+use Rattle.gc_field.specs.Runs.{IsItsOwn}
+use Rattle.gc_field.specs.Shown.{Stretch}
+
+-- the field that stands under a name, in a row whose fields stand under these names; an empty one where there is no such name
+-- or no field for it
+abbrev pub under : List ℕ → List (List ℕ) → List (List ℕ) → List ℕ
+under name [] fields = []
+under name (n ∷ names) [] = []
+under name (n ∷ names) (field ∷ fields) = if pointwise nat_eq n name then field else under name names fields
+
+-- the row of a record has the record's cycle, place, target, procedure and outcome, however its command ended
+pub record IsOf (at : List ℕ → List ℕ) (r : Record) : Type 0 where
+  pub cycle : at (codes "cycle") ≡ decimal r.cycle
+  pub place : at (codes "place") ≡ decimal r.place
+  pub target : at (codes "target") ≡ decimal r.command.target
+  pub procedure : at (codes "procedure") ≡ decimal (call_fields r.command.call).number
+  pub outcome : at (codes "outcome") ≡ word_of r.end
+
+-- this is the outcome of a command that a reply in time has ended
+abbrev pub IsReplied : List ℕ → Type 0
+IsReplied outcome = (outcome ≡ codes "answered") ⊎ (outcome ≡ codes "unreadable") ⊎ (outcome ≡ codes "elsewhere")
+
+-- this is the name of a quantity
+abbrev pub IsQuantity : List ℕ → Type 0
+IsQuantity name = (k : ℕ) × (slice_get quantity_names k ≡ Some name)
+
+-- the text of the quantity of this name in a reply to this call, by what the reply says of the call: an answer has the quantities of its
+-- call, in the manual's order. Empty where the reply has no such quantity, or is no answer
+abbrev pub quantity_in : Call → Reading → List ℕ → List ℕ
+quantity_in call (Value answer) name = under name (quantities_told (call_fields call).number) (map quantity_text (answer_fields answer).values)
+quantity_in call _ name = []
+
+-- the row of a command that this line ended has the line's codes and parameters and, if rows have quantities and the command is answered,
+-- the line's quantities
+pub record Says (has_quantities : Bool) (at : List ℕ → List ℕ) (call : Call) (line : List ℕ) : Type 0 where
+  pub reply : ReplyFields
+  pub is_reply : IsReply line reply
+  pub rc_com : IsNumber (at (codes "rc_com")) reply.rc_com
+  pub rc : IsNumber (at (codes "rc")) reply.rc
+  pub values : at (codes "values") ≡ escaped reply.params
+  pub reading : Reading
+  pub is_reading : IsReading call reply reading
+  pub quantities :
+      has_quantities ≡ true → at (codes "outcome") ≡ codes "answered" →
+      (name : List ℕ) → IsQuantity name → at name ≡ escaped (quantity_in call reading name)
+
+module _ {State : Type 0} (ends : Ends State) (Good : State → Type 0) (kept : State → Option KeptReply) where
+  -- the row of a record is its own: it has the record's cycle, place, target, procedure and outcome. Where the outcome is that of a reply,
+  -- the row says what a line says that the instrument made on executing the request of that very cycle and place. Where the outcome isn't
+  -- `answered`, the row has no quantity
+  pub record IsOwn (has_quantities : Bool) (at : List ℕ → List ℕ) (commands : List Task) (ps : List Part) (ss : List (Stretch State)) (r : Record) : Type 0 where
+    pub is_of : IsOf at r
+    pub replied : IsReplied (at (codes "outcome")) → (line : List ℕ) × Says has_quantities at r.command.call line × IsItsOwn ends Good kept commands ps ss r line
+    pub without : has_quantities ≡ true → (at (codes "outcome") ≡ codes "answered" → ⊥) → (name : List ℕ) → IsQuantity name → at name ≡ []

@@ -1,0 +1,174 @@
+-- What is left of the rows of a run that was killed, over crashes of the machine, or behind a sync that failed: this project's own.
+use Rattle.std.specs.Prelude.{◌≡◌, ◌⊎◌, ℕ, Bool, true, false, List, [], ◌∷◌, ◌++◌, Option, Some, Result}
+use Rattle.gc_catalogue.specs.declared.answer.Reading.{Reading}
+use Rattle.gc_catalogue.specs.declared.call.Call.{Call}
+use Rattle.gc_files.specs.Failing.{Sides, Event, Ran, Failed, Copied, Crashed, settled, one, done_by, Loses, sides_after, runs_of, Occur, IsFound, is_trusted}
+use Rattle.gc_files.specs.Files.{Step, Life, content, later_by, MayLeave}
+use Rattle.gc_files.specs.Rows.{start_of, table, IsFront}
+use Rattle.gc_files.specs.Rows as opening
+use Rattle.gc_files.specs.Runs.{Run, IsHead, Happen, life_after, rows_of, Counts}
+use Rattle.gc_files.specs.Sinks.{steps_in, taken_in, is_durable, asks_sync}
+use Rattle.gc_links.specs.Acts.{Act}
+use Rattle.gc_lines.specs.declared.ports.Source.{Ghosts as Source}
+use Rattle.gc_lines.specs.declared.ports.Sink.{Ghosts as Sink}
+use Rattle.gc_messages.specs.Following.{bytes_in}
+use Rattle.gc_messages.specs.declared.following.Followed.{Followed}
+use Rattle.gc_messages.specs.declared.streams.Streams.{Streams}
+use Rattle.gc_station.specs.Keeping.{Turn}
+use Rattle.gc_station.specs.Records.{texts_of}
+use Rattle.gc_station.specs.Runs.{stood}
+use Rattle.gc_station.specs.Scopes.{AreReadings}
+use Rattle.gc_station.specs.declared.tally.Tally.{Tally}
+use Rattle.gc_measuring.specs.Measuring.{Places, Course, text_in, RunsBehind}
+use Rattle.gc_measuring.specs.Telling.{TellsAppended}
+use Rattle.gc_measuring.specs.declared.stop.Stop.{Stop}
+use Rattle.gc_words.specs.declared.station.Station.{Station}
+
+-- A run that appends to a file: what it measures, what was seen at its start and at its end, how it ended, the acts that its link told, and the
+-- file that it left.
+pub record RunOfFile (R : Type 0) : Type 0 where
+  pub course : Course
+  pub old : Places
+  pub new : Places
+  pub end : Result Tally Stop
+  pub told : List Act
+  pub file : Followed R
+
+-- the link told these acts from none on, and the file has what was appended to it since it was opened: as clause `told` of `append_at` says it
+-- of the file that it hands back
+pub record IsRunOfFile {R : Type 0} (run : RunOfFile R) : Type 0 where
+  pub headed : run.course.layout.headed ≡ true
+  pub none : run.old.acts ≡ Some []
+  pub acts : run.new.acts ≡ Some run.told
+  pub fresh : run.old.taken ≡ Some []
+  pub took : run.new.taken ≡ Some (bytes_in run.file)
+  pub ran : RunsBehind run.course run.old run.new run.end
+
+-- What that clause tells, by the ghost members of a source and of such files as sinks, is such a run, of that file, of these acts, and with what
+-- was seen at each; or no act was made.
+abbrev pub AppendsAreRuns : {S R : Type 0} → Source S → Sink (Followed R) → Type 0 → Type 0 → Type 0
+AppendsAreRuns {S = S} {R = R} source sink K E = (lasts : Followed R → Bool) (shown : E → Option (List ℕ)) (has_log : Bool) (station : Station)
+    (old new : Streams S K E) (file : Followed R) (acts : Option (List Act)) (turns turns' : List Turn) (status : ℕ)
+    → TellsAppended source sink lasts shown has_log station old new (Some file) acts turns turns' status
+    → (turns' ≡ turns)
+    ⊎ ((run : RunOfFile R) × IsRunOfFile run × (run.file ≡ file) × (acts ≡ Some run.told) × (run.old.turns ≡ turns) × (run.new.turns ≡ turns'))
+
+-- A moment of such a run: an act, with what was seen at it, the acts that were done before it, and the file as it was then; and the calls that
+-- this file had by the moment, since it was opened.
+pub record Moment (R : Type 0) : Type 0 where
+  pub run : RunOfFile R
+  pub turn : Turn
+  pub done : List Act
+  pub was : Followed R
+  pub calls : List Step
+
+-- the moment's turn was seen at an act of the run. The acts of `done` were done then, and the file was as `was` has it, opened so that it
+-- syncs
+pub record IsSeen {R : Type 0} (m : Moment R) : Type 0 where
+  pub earlier : List Turn
+  pub later : List Turn
+  pub among : m.run.new.turns ≡ m.run.old.turns ++ (earlier ++ m.turn ∷ later)
+  pub done : m.turn.acts ≡ Some m.done
+  pub taken : m.turn.taken ≡ Some (bytes_in m.was)
+  pub lasts : m.turn.lasts ≡ is_durable m.was.rows
+  pub synced : asks_sync m.was.rows ≡ true
+
+-- the moment's calls begin with those that the file had at the moment's act, and are the first of those that it has in the end. The rows didn't go
+-- on in another file in between
+pub record IsReached {R : Type 0} (m : Moment R) : Type 0 where
+  pub left : m.run.file.left.steps ≡ m.was.left.steps
+  pub since : List Step
+  pub begins : m.calls ≡ steps_in m.was.rows ++ since
+  pub rest : List Step
+  pub ends : steps_in m.run.file.rows ≡ m.calls ++ rest
+
+-- this is a moment of a run that appends to a file which syncs
+pub record IsMoment {R : Type 0} (m : Moment R) : Type 0 where
+  pub run : IsRunOfFile m.run
+  pub seen : IsSeen m
+  pub reached : IsReached m
+
+-- the rows of all records that these acts settle, in order, as the run writes them
+abbrev pub rows_by : Course → (Call → List ℕ → Reading) → List Act → List ℕ
+rows_by course reads acts =
+    texts_of (text_in course.layout course.names) (stood course.plan course.tasks (record { turns = course.turns; reads = reads }) acts).records
+
+-- the rows that are left of a run behind a moment: all that its file had taken at the act, and perhaps more. With the rows that
+-- the run wrote into files before this one, what the file had taken at the act are the rows of all records that the acts of
+-- `done` settled. No row is left but of a record that acts of the run settled
+pub record AreLeft {R : Type 0} (m : Moment R) (reads : Call → List ℕ → Reading) (left : List ℕ) : Type 0 where
+  pub settled : bytes_in m.was ≡ rows_by m.run.course reads m.done
+  pub more : List ℕ
+  pub has : left ≡ taken_in m.was.rows ++ more
+  pub acts : List Act
+  pub others : List Act
+  pub all : m.run.told ≡ acts ++ others
+  pub own : IsFront (bytes_in m.was ++ more) (rows_by m.run.course reads acts)
+
+-- the calls of an opening of a file that held these bytes: a torn row was cut off, and a head was written where no whole row was left
+abbrev pub Opens : List ℕ → List ℕ → List Step → Type 0
+Opens head held steps = opening.Ran held steps (start_of head held)
+
+-- what a crash may leave of a file behind these steps
+abbrev pub MayBeLeft : Life → List Step → List ℕ → Type 0
+MayBeLeft life steps left = MayLeave life.start (life.steps ++ steps) left
+
+-- a run is killed at any moment, or the machine crashes, and earlier runs may have ended so, too. Whatever that leaves of the file, the next
+-- start makes of it the table that was there at first, behind it rows of the earlier runs, and then the rows that are left of this run
+abbrev pub RowsOutlastCrashes : Type 0 → Type 0
+RowsOutlastCrashes R = (m : Moment R) → IsMoment m → (reads : Call → List ℕ → Reading) → AreReadings reads
+    → (head first : List ℕ) → IsHead head → (earlier : List Run) → Happen head (settled first) earlier
+    → (opening : List Step) → Opens head (content (life_after (settled first) earlier)) opening
+    → (found : List ℕ) → MayBeLeft (life_after (settled first) earlier) (opening ++ m.calls) found
+    → (counts : List ℕ) × (left : List ℕ) × Counts earlier counts × AreLeft m reads left
+    × (table head found ≡ (table head first ++ rows_of earlier counts) ++ left)
+
+-- Over failed syncs, too.
+
+-- whether a file is in doubt behind these events
+abbrev pub doubted_by : Bool → List Event → Bool
+doubted_by doubted [] = doubted
+doubted_by doubted (Ran run ∷ events) = doubted_by doubted events
+doubted_by doubted (Failed run read disk ∷ events) = doubted_by true events
+doubted_by doubted (Copied true ∷ events) = doubted_by false events
+doubted_by doubted (Copied false ∷ events) = doubted_by true events
+doubted_by doubted (Crashed left ∷ events) = doubted_by false events
+
+-- how a run ends: its calls are done, and no more; or one more was a sync that failed, behind which a read returns `read` and
+-- the disk holds `disk`
+pub data Ending : Type 0 where
+  Stopped : Ending
+  Unsynced : (read disk : List ℕ) → Ending
+
+-- a run may end so behind these calls: behind a failed sync a read returns what such a sync may leave of what a read returned,
+-- and the disk holds what it may leave of what the disk held
+abbrev pub Ends : Sides → List Step → Ending → Type 0
+Ends sides steps Stopped = Unit {0}
+Ends sides steps (Unsynced read disk) = Loses (later_by steps sides.read) read × Loses (later_by steps sides.disk) disk
+
+-- how a file stands behind these calls and this ending
+abbrev pub sides_ended : Sides → List Step → Ending → Sides
+sides_ended sides steps Stopped = done_by steps sides
+sides_ended sides steps (Unsynced read disk) = record { read = settled read; disk = settled disk }
+
+-- whether a file is in doubt behind this ending
+abbrev pub doubt_of : Ending → Bool
+doubt_of Stopped = false
+doubt_of (Unsynced read disk) = true
+
+-- how a file that held `first`, all of it on the disk, stands behind these events
+abbrev pub sides_from : List ℕ → List Event → Sides
+sides_from first events = sides_after (one (settled first)) events
+
+-- behind any events, in a file that isn't in doubt, a run ends at any moment, by a kill or by a sync that fails, and other events follow.
+-- Whatever is found then, the next start makes of it the table that was there at first, rows of the earlier runs, the rows that are left of
+-- this run, and rows of the later ones
+abbrev pub RowsOutlastFailures : Type 0 → Type 0
+RowsOutlastFailures R = (m : Moment R) → IsMoment m → (reads : Call → List ℕ → Reading) → AreReadings reads
+    → (head first : List ℕ) → IsHead head → (earlier : List Event) → Occur is_trusted head (one (settled first)) false earlier → doubted_by false earlier ≡ false
+    → (opening : List Step) → Opens head (content (sides_from first earlier).read) opening
+    → (ending : Ending) → Ends (sides_from first earlier) (opening ++ m.calls) ending
+    → (later : List Event) → Occur is_trusted head (sides_ended (sides_from first earlier) (opening ++ m.calls) ending) (doubt_of ending) later
+    → (found : List ℕ) → IsFound (sides_after (sides_ended (sides_from first earlier) (opening ++ m.calls) ending) later) found
+    → (counts : List ℕ) × (left : List ℕ) × (counts' : List ℕ) × Counts (runs_of earlier) counts × AreLeft m reads left × Counts (runs_of later) counts'
+    × (table head found ≡ ((table head first ++ rows_of (runs_of earlier) counts) ++ left) ++ rows_of (runs_of later) counts')

@@ -1,0 +1,80 @@
+-- What a station wrote of a run in the field as lines of JSON, as they are read: this project's own. Texts are taken to be bytes, and numbers
+-- to have 64 bits, as those of the program do.
+use Rattle.std.specs.Prelude.{◌≡◌, ℕ, ◌<◌, ◌^◌, true, List, ◌∷◌, [], ◌++◌, length, All, Option, Some, Result, slice_get}
+use Rattle.std.specs.List.{AllByRecursion, flat_map}
+use Rattle.json.specs.Find.{get_member}
+use Rattle.json.specs.Json as json
+use Rattle.json.specs.Json.{document}
+use Rattle.gc_catalogue.specs.declared.answer.Reading.{Reading}
+use Rattle.gc_catalogue.specs.declared.call.Call.{Call}
+use Rattle.gc_instrument.specs.State.{KeptReply}
+use Rattle.gc_texts.specs.Cuts.{Lacks}
+use Rattle.gc_texts.specs.declared.name.Name.{Name}
+use Rattle.gc_texts.specs.declared.tasks.Task.{Task}
+use Rattle.gc_rows.specs.Laws.{IsEnd, IsWhen}
+use Rattle.gc_rows.specs.declared.record.Form.TheVariants.{Json}
+use Rattle.gc_links.specs.Acts.{Act}
+use Rattle.gc_station.specs.Model.{opening}
+use Rattle.gc_station.specs.Parts.{Part, parts_of}
+use Rattle.gc_station.specs.Records.{Record}
+use Rattle.gc_station.specs.Scopes.{AreReadings}
+use Rattle.gc_station.specs.declared.tally.Tally.{Tally}
+use Rattle.gc_measuring.specs.Measuring.{Course, Places, RunsBehind, text_in, when_of}
+use Rattle.gc_measuring.specs.declared.stop.Stop.{Stop}
+use Rattle.gc_world.specs.World.{Ends}
+use Rattle.gc_field.specs.Begin.{UnderWay}
+use Rattle.gc_field.specs.Beginnings as field
+use Rattle.gc_field.specs.Instrument.{IsAnInstrument, AnyState}
+use Rattle.gc_field.specs.Runs.{IsInField}
+use Rattle.gc_field.specs.Shown.{Stretch, stretches}
+use Rattle.gc_promise.specs.Fields.{IsOwn}
+use Rattle.gc_promise.specs.Tables.{AreWritten, acts_measured, records_in, scope_of}
+
+-- the records of a run, in the types of the program: their numbers have 64 bits, and their texts are bytes
+pub record AreOfBytes (course : Course) (records : List Record) : Type 0 where
+  pub run : course.layout.run < 2 ^ 64
+  pub names : AllByRecursion (λ (name : Name). All (λ b. b < 256) name.text.items) course.names
+  pub each : AllByRecursion (λ (r : Record). IsWhen (when_of course.layout.run r) × (r.command.target < 2 ^ 64) × IsEnd r.end) records
+
+-- the digits of a number or the bytes of a string; empty where there is neither
+abbrev pub text_of : Option json.Json → List ℕ
+text_of (Some (json.number digits)) = digits
+text_of (Some (json.string bytes)) = bytes
+text_of _ = []
+
+-- lines, each with its line feed
+abbrev pub lines_text : List (List ℕ) → List ℕ
+lines_text lines = flat_map (λ line. line ++ 10 ∷ []) lines
+
+module _ {State : Type 0} (ends : Ends State) (Good : State → Type 0) (kept : State → Option KeptReply) where
+  -- a line is a record's own object: the toolchain's reader of JSON takes it for an object, whose members are the record's own
+  pub record IsOwnObject (line : List ℕ) (commands : List Task) (ps : List Part) (ss : List (Stretch State)) (r : Record) : Type 0 where
+    pub members : json.Members
+    pub reads_as : document line ≡ Some (json.object members)
+    pub own : IsOwn ends Good kept true (λ name. text_of (get_member name members)) commands ps ss r
+
+  -- what a sink took of a run, behind what it had: lines, in none of which is a line feed, and which are the run's records, one for one and in
+  -- order, each its own. Where the output failed, a part of one more line may stand behind them
+  pub record AreOwnObjects (course : Course) (reads : Call → List ℕ → Reading) (acts : List Act) (ps : List Part) (ss : List (Stretch State))
+      (result : Result Tally Stop) (had : List ℕ) (has : Option (List ℕ)) : Type 0 where
+    pub lines : List (List ℕ)
+    pub torn : List ℕ
+    pub took : has ≡ Some (had ++ (lines_text lines ++ torn))
+    pub are : AreWritten (text_in course.layout course.names) (records_in course reads acts) result torn
+    pub unbroken : AllByRecursion (Lacks 10) lines
+    pub as_many : length lines ≡ length are.written
+    pub each : (n : ℕ) (line : List ℕ) → slice_get lines n ≡ Some line → (r : Record) × (slice_get are.written n ≡ Some r) × IsOwnObject line course.tasks ps ss r
+
+-- what a sink took of a run are its own objects: for any instrument, all that a station measures and writes as lines of JSON, and all that
+-- the line and the instrument may do meanwhile
+abbrev pub ObjectsAreTheirOwn : Type 0 → Type 0
+ObjectsAreTheirOwn State =
+    (ends : Ends State) (kept : State → Option KeptReply) → IsAnInstrument ends AnyState kept →
+    (course : Course) → course.layout.form ≡ Json →
+    (old new : Places) (result : Result Tally Stop) → RunsBehind course old new result →
+    (told : List Act) (had : List ℕ) → old.acts ≡ Some [] → new.acts ≡ Some told → old.taken ≡ Some had →
+    (reads : Call → List ℕ → Reading) → AreReadings reads → (u : UnderWay State) (rs : List (field.Run State)) →
+    IsInField ends AnyState kept course.plan course.tasks (scope_of course reads) (acts_measured result told) u rs →
+    AreOfBytes course (records_in course reads (acts_measured result told)) →
+    AreOwnObjects ends AnyState kept course reads (acts_measured result told) (parts_of course.plan course.tasks (opening course.plan (scope_of course reads)) (acts_measured result told))
+    (stretches ends u rs) result had new.taken

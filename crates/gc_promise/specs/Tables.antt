@@ -1,0 +1,110 @@
+-- What a station wrote of a run in the field, as it is read: this project's own. The bytes are those that a sink took of a run, as the clauses
+-- of `measure_at` and `append_at` have it: what stands in front of the records, and their texts in order.
+use Rattle.std.specs.Prelude.{◌≡◌, ℕ, ◌-◌, ◌<◌, Bool, true, false, List, [], ◌∷◌, ◌++◌, length, take, Option, Some, Result, Err, if◌then◌else◌, slice_get}
+use Rattle.csv.specs.Reading.{default_config, records}
+use Rattle.gc_catalogue.specs.declared.answer.Reading.{Reading}
+use Rattle.gc_catalogue.specs.declared.call.Call.{Call}
+use Rattle.gc_instrument.specs.State.{KeptReply}
+use Rattle.gc_texts.specs.declared.fault.RunFault.TheVariants.{Output}
+use Rattle.gc_rows.specs.Quantities.{quantity_names}
+use Rattle.gc_rows.specs.Records as rows
+use Rattle.gc_rows.specs.declared.record.Form.{Form}
+use Rattle.gc_rows.specs.declared.record.Form.TheVariants.{Csv, Columns}
+use Rattle.gc_links.specs.Acts.{Act}
+use Rattle.gc_station.specs.Model.{opening}
+use Rattle.gc_station.specs.Parts.{Part, parts_of}
+use Rattle.gc_station.specs.Records.{Record}
+use Rattle.gc_station.specs.Runs.{stood}
+use Rattle.gc_station.specs.Scopes.{Scope, AreReadings}
+use Rattle.gc_station.specs.declared.tally.Tally.{Tally}
+use Rattle.gc_words.specs.declared.layout.Layout.{Layout}
+use Rattle.gc_measuring.specs.Measuring.{Course, Places, RunsBehind, text_in}
+use Rattle.gc_measuring.specs.declared.stop.Stop.{Stop}
+use Rattle.gc_measuring.specs.declared.stop.Stop.TheVariants.{Run}
+use Rattle.gc_world.specs.World.{Ends}
+use Rattle.gc_field.specs.Begin.{UnderWay}
+use Rattle.gc_field.specs.Beginnings as field
+use Rattle.gc_field.specs.Instrument.{IsAnInstrument, AnyState}
+use Rattle.gc_field.specs.Runs.{IsInField}
+use Rattle.gc_field.specs.Shown.{Stretch, stretches}
+use Rattle.gc_promise.specs.Fields.{under, IsOwn}
+
+-- A run.
+
+-- the scope of a run of this course: at most how many acts it makes, and what each reply says of its call
+abbrev pub scope_of : Course → (Call → List ℕ → Reading) → Scope
+scope_of course reads = record { turns = course.turns; reads = reads }
+
+-- the acts of a run, among those that its link told: all but the close behind an output that failed
+abbrev pub acts_measured : Result Tally Stop → List Act → List Act
+acts_measured (Err (Run Output)) told = take (length told - 1) told
+acts_measured _ told = told
+
+-- the records of a run by these acts
+abbrev pub records_in : Course → (Call → List ℕ → Reading) → List Act → List Record
+records_in course reads acts = (stood course.plan course.tasks (scope_of course reads) acts).records
+
+-- What a sink took.
+
+-- these bytes are a front of the text of the first of these records, but not all of it; and there are none where there is no record
+abbrev pub IsTorn : (Record → List ℕ) → List Record → List ℕ → Type 0
+IsTorn text [] torn = torn ≡ []
+IsTorn text (next ∷ later) torn = (rest : List ℕ) × (text next ≡ torn ++ rest) × (0 < length rest)
+
+-- which records of a run were written whole: all of them, but where the output failed; and what was written behind these
+pub record AreWritten (text : Record → List ℕ) (records : List Record) (result : Result Tally Stop) (torn : List ℕ) : Type 0 where
+  pub written : List Record
+  pub unwritten : List Record
+  pub order : records ≡ written ++ unwritten
+  pub all : (result ≡ Err (Run Output) → ⊥) → unwritten ≡ []
+  pub part : IsTorn text unwritten torn
+
+-- Tables.
+
+-- the form of a table, with a column for each quantity or without
+abbrev pub table : Bool → Form
+table false = Csv
+table true = Columns
+
+-- the names of the columns of a table, with those of the quantities or without
+abbrev pub header : Bool → List (List ℕ)
+header false = rows.names
+header true = rows.names ++ quantity_names
+
+-- the header as a row, where it is written
+abbrev pub head_rows : Layout → Bool → List (List (List ℕ))
+head_rows layout columns = if layout.headed then [] else header columns ∷ []
+
+-- the toolchain's reader of comma-separated values gives these rows of these bytes, and reads on behind them as at the start of a text
+abbrev pub AreReadAs : List ℕ → List (List (List ℕ)) → Type 0
+AreReadAs bytes rows = (behind : List ℕ) → records default_config (bytes ++ behind) ≡ rows ++ records default_config behind
+
+module _ {State : Type 0} (ends : Ends State) (Good : State → Type 0) (kept : State → Option KeptReply) where
+  -- what a sink took of a run, behind what it had: a table, whose rows are the run's records, one for one and in order, each its own. Where the
+  -- output failed, a part of one more row may stand behind them. `behind` is said of the file of --append: behind earlier bytes, which a reader
+  -- takes for `earlier`, it goes on with these rows
+  pub record IsOwnTable (course : Course) (columns : Bool) (reads : Call → List ℕ → Reading) (acts : List Act) (ps : List Part) (ss : List (Stretch State))
+      (result : Result Tally Stop) (had : List ℕ) (has : Option (List ℕ)) : Type 0 where
+    pub bytes : List ℕ
+    pub torn : List ℕ
+    pub took : has ≡ Some (had ++ (bytes ++ torn))
+    pub are : AreWritten (text_in course.layout course.names) (records_in course reads acts) result torn
+    pub rows : List (List (List ℕ))
+    pub reads_as : AreReadAs bytes (head_rows course.layout columns ++ rows)
+    pub behind : (held : List ℕ) (earlier : List (List (List ℕ))) → AreReadAs held earlier → AreReadAs (held ++ bytes) (earlier ++ (head_rows course.layout columns ++ rows))
+    pub as_many : length rows ≡ length are.written
+    pub each : (n : ℕ) (row : List (List ℕ)) → slice_get rows n ≡ Some row
+        → (r : Record) × (slice_get are.written n ≡ Some r) × IsOwn ends Good kept columns (λ name. under name (header columns) row) course.tasks ps ss r
+
+-- what a sink took of a run is its own table: for any instrument, all that a station measures and writes as a table, and all that the line
+-- and the instrument may do meanwhile
+abbrev pub TablesAreTheirOwn : Type 0 → Type 0
+TablesAreTheirOwn State =
+    (ends : Ends State) (kept : State → Option KeptReply) → IsAnInstrument ends AnyState kept →
+    (course : Course) (columns : Bool) → course.layout.form ≡ table columns →
+    (old new : Places) (result : Result Tally Stop) → RunsBehind course old new result →
+    (told : List Act) (had : List ℕ) → old.acts ≡ Some [] → new.acts ≡ Some told → old.taken ≡ Some had →
+    (reads : Call → List ℕ → Reading) → AreReadings reads → (u : UnderWay State) (rs : List (field.Run State)) →
+    IsInField ends AnyState kept course.plan course.tasks (scope_of course reads) (acts_measured result told) u rs →
+    IsOwnTable ends AnyState kept course columns reads (acts_measured result told) (parts_of course.plan course.tasks (opening course.plan (scope_of course reads)) (acts_measured result told))
+    (stretches ends u rs) result had new.taken
