@@ -109,7 +109,6 @@ pub fn run_drill<S: Source, K: Sink>(
 }
 
 // The text that is written of these events, played on the instrument. `Err`: memory was refused.
-#[inline(never)]
 fn output_of(
     alloc: Global,
     instrument: Instrument,

@@ -89,7 +89,6 @@ fn room_for(count: usize, left: &[u8]) -> usize
 }
 
 // Reads the lines of a text: its items, in order. The faults are `Schedule` and `Memory`, as `read_items` has them.
-#[inline(never)]
 fn read_lines<F: LineForm>(alloc: Global, text: &[u8]) -> Result<Vec<F::Item>, RunFault>
     requires { length text.now ≤ TEXT_LIMIT }
     ensures found { IfOk result (λ items. IsText F.form text.now items.items) }
