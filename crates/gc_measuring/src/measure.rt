@@ -1,12 +1,11 @@
 //! A station's text, read from a source, measured over a link, and its records written into a sink, all in one form.
 
-ghost use Rattle.std.specs.Prelude.{◌≡◌, ◌+◌, ◌≤◌, [], List, OnOk, IfErr};
+ghost use Rattle.std.specs.Prelude.{◌≡◌, ◌+◌, ◌≤◌, OnOk, IfErr};
 ghost use Rattle.std.specs.Io.KnownBytes.{Appends};
 ghost use Rattle.gc_measuring.specs.Measuring.{text_in, front_text, course_of, RunsCourse, CourseKeepsUp, MeasuresText, IsUntouched, AllLast};
 ghost use Rattle.gc_measuring.specs.Stops.{with_fault};
 ghost use Rattle.gc_measuring.specs.Telling.{places_of};
 ghost use Rattle.gc_lines.specs.Ports.{FailsWith, TakesFront};
-ghost use Rattle.gc_station.specs.Keeping.{Turn};
 ghost use Rattle.gc_station.specs.Runs.{FailsAtOutput, LastsBut};
 ghost use Rattle.gc_texts.specs.declared.text.TheConstants.{TEXT_LIMIT};
 
@@ -26,7 +25,8 @@ use std::cell::Cell;
 use std::io::Write;
 
 /// Reads the whole text of the input, writes what stands in front of the records on the output, and measures the commands over a
-/// link by the settings of `station`, in at most `max_turns` acts. The streams are handed back, with how the run ended.
+/// link by the settings of `station`, in at most `max_turns` acts. What was seen of link and output at each act is noted in `kept`. The
+/// streams are handed back, with how the run ended.
 ///
 /// Before the link is used or anything is written, `Text` comes with `Read` where the input failed, with `InputTooLong` where it
 /// gave more than 65,536 bytes, and with `Memory` where memory was refused, `Line` at the first faulty line, and `Empty` where the
@@ -41,14 +41,15 @@ pub fn run_station_text<L: Link, S: Source, K: Durable, E: Write>(
     link: &mut L,
     station: Station,
     spot: Spot<'_>,
-    streams: Streams<S, K, E>,
+    mut streams: Streams<S, K, E>,
     max_turns: u64,
+    kept: &mut Kept,
 ) -> (Streams<S, K, E>, Result<Tally, Stop>)
     // The text was refused; or its commands were measured, and the link, the output and the run's end are as the model has
     // them. At each act all that the acts before it settled was written, and lasted.
-    ensures measures { (turns : List Turn) × MeasuresText station max_turns
-        (places_of S.Source K.Sink E.contents streams (L.acts link.old) [])
-        (places_of S.Source K.Sink E.contents result.0 (L.acts link.new) turns)
+    ensures measures { MeasuresText station max_turns
+        (places_of S.Source K.Sink E.contents streams (L.acts link.old) kept.old.turns)
+        (places_of S.Source K.Sink E.contents result.0 (L.acts link.new) kept.new.turns)
         result.1 }
 
     // Where the fault is `Output` the output has failed; else whether it has failed is as before.
@@ -61,32 +62,6 @@ pub fn run_station_text<L: Link, S: Source, K: Durable, E: Write>(
     ensures bounded { S.reads result.0.input ≤ S.reads streams.input + (TEXT_LIMIT + 1) }
 
     // Where the text was refused nothing was done over the link, and nothing written.
-    ensures untouched { IsUntouched
-        (places_of S.Source K.Sink E.contents streams (L.acts link.old) [])
-        (places_of S.Source K.Sink E.contents result.0 (L.acts link.new) [])
-        result.1 }
-{
-    let mut kept = Kept::new();
-    measure_text(alloc, link, station, spot, streams, max_turns, &mut kept)
-}
-
-// As `run_station_text`; what was seen of link and output at each act is noted in `kept`.
-pub(crate) fn measure_text<L: Link, S: Source, K: Durable, E: Write>(
-    alloc: Global,
-    link: &mut L,
-    station: Station,
-    spot: Spot<'_>,
-    mut streams: Streams<S, K, E>,
-    max_turns: u64,
-    kept: &mut Kept,
-) -> (Streams<S, K, E>, Result<Tally, Stop>)
-    ensures measures { MeasuresText station max_turns
-        (places_of S.Source K.Sink E.contents streams (L.acts link.old) kept.old.turns)
-        (places_of S.Source K.Sink E.contents result.0 (L.acts link.new) kept.new.turns)
-        result.1 }
-    ensures output { FailsAtOutput (K.failed streams.output) (K.failed result.0.output) (with_fault result.1) }
-    ensures is_durable { AllLast (K.is_durable result.0.output) result.1 }
-    ensures bounded { S.reads result.0.input ≤ S.reads streams.input + (TEXT_LIMIT + 1) }
     ensures untouched { IsUntouched
         (places_of S.Source K.Sink E.contents streams (L.acts link.old) kept.old.turns)
         (places_of S.Source K.Sink E.contents result.0 (L.acts link.new) kept.new.turns)

@@ -8,7 +8,7 @@ ghost use Rattle.gc_measuring.specs.Telling.{TellsMeasuring, MeasuresAll, TellsR
 
 use crate::counts::tell_counts;
 use crate::logging::{Noted, log_at, measure_logged};
-use crate::measure::measure_text;
+use crate::measure::run_station_text;
 use crate::stop::Stop;
 use gc_ask::fault_of;
 use gc_files::{RowsFile, SystemFile};
@@ -161,7 +161,7 @@ pub(crate) fn measure_over<L: Link, S: Source, K: Durable, E: Write>(
         → MeasuresAll S.Source K.Sink E.contents station (L.acts link.old) (L.acts link.new) kept.old.turns kept.new.turns streams result.0) }
     ensures bound { IfOk result.1 (λ status. exit_status status ≤ 1) }
 {
-    let (mut streams, end) = measure_text(alloc, link, station, spot, streams, u64::MAX, kept);
+    let (mut streams, end) = run_station_text(alloc, link, station, spot, streams, u64::MAX, kept);
     note_stop(spot, end);
     let ended = tell_counts(end, &mut streams.messages);
     (streams, ended)

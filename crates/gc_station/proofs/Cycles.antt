@@ -1,11 +1,11 @@
 -- Cycles begin on a grid, and nothing of a missed one goes out.
-use Rattle.std.proofs.Common.{◌≡◌, ◌⊎◌, inl, inr, ℕ, suc, ◌+◌, ◌-◌, ◌<◌, ◌≤◌, ◌&&◌, ◌||◌, Bool, true, false, List, [], ◌∷◌, ◌++◌, length, drop, min, nat_lt, nat_le, nat_eq, if◌then◌else◌, not, refl, sym, ap, ◌∙◌, subst, arith, append_assoc}
+use Rattle.std.proofs.Common.{◌≡◌, ◌⊎◌, inl, inr, ℕ, suc, ◌+◌, ◌-◌, ◌<◌, ◌≤◌, ◌||◌, Bool, true, false, List, [], ◌∷◌, ◌++◌, length, drop, min, nat_lt, nat_le, nat_eq, refl, sym, ap, ◌∙◌, subst, arith, append_assoc}
 use Rattle.std.proofs.lemmas.Bool.{lt-ltb, ne_eqb, eq-eqb}
 use Rattle.gc_texts.specs.declared.tasks.Task.{Task}
 use Rattle.gc_links.specs.Acts.{Act, Told, Untold, Gave, Silent, Ended, Broke, Closed, Opened, Unopened}
 use Rattle.gc_links.specs.declared.link.Moment.{Moment}
 use Rattle.gc_station.specs.Cycles.{Rises, due_behind, BeginsAt, BeginsLate, LastBegan, CyclesBeginWhenDue, SentOnlyInTime}
-use Rattle.gc_station.specs.Deciding.{is_up, is_idle, is_finished, has_begun, is_dead, is_due, has_room, action_of, action_in, action_on, action_told, may_go, action_ready, action_begun, action_beginning, action_sent, action_settled, action_done, action_room, action_waiting, action_up}
+use Rattle.gc_station.specs.Deciding.{is_due}
 use Rattle.gc_station.specs.Progressing.{turned, told, begun, beginning, failing, time_passed, quieted, closed}
 use Rattle.gc_station.specs.Reasons.{IsFor, MayGo}
 use Rattle.gc_station.specs.Runs.{stood}
@@ -17,107 +17,17 @@ use Rattle.gc_station.specs.declared.plan.Plan.{Plan}
 use Rattle.gc_station.specs.declared.progress.Action.{Action}
 use Rattle.gc_station.specs.declared.progress.Action.TheVariants as actions
 use Rattle.gc_station.specs.declared.progress.Phase.{Phase}
-use Rattle.gc_station.specs.declared.progress.Phase.TheVariants as phase
 use Rattle.gc_station.specs.declared.progress.Progress.{Progress}
 use Rattle.gc_station.specs.declared.progress.Until.{Until}
-use Rattle.gc_station.specs.declared.progress.Until.TheVariants.{Limit, Due}
 use Rattle.gc_station.specs.declared.progress.Waiting.{Waiting}
 use Rattle.gc_station.proofs.Closings.{runs_split, needs_of}
 use Rattle.gc_station.proofs.Always.{always, progress_behind}
 use Rattle.gc_station.proofs.EachRun.{fine_stood}
-use Rattle.gc_station.proofs.Facts.{either, action_for}
+use Rattle.gc_station.proofs.Facts.{action_for}
 use Rattle.gc_station.proofs.Invariant.{Invariant}
 use Rattle.gc_station.proofs.Walk.{asked_along, came_along, quieted_along, closed_along, moved_changed, walk}
 use Rattle.gc_station.proofs.Ticking.{le_of, lt_of, due_since, picks, picks_other, or_none, or_some, or_second, and_second, clash, Ticks, ticked, rises_front, last_of, rises_last, last_more, last_ticks}
-
--- A cycle begins only where it is due.
-
-abbrev pub BeginsDue : Plan → Progress → Action → Type 0
-BeginsDue plan p next = next ≡ actions.Begin → is_due plan p ≡ true
-
-module _ (plan : Plan) (p : Progress) (w : Waiting) where
-  -- no cycle begins where a station waits
-  pub waits_not : BeginsDue plan p (action_waiting plan p w)
-  waits_not =
-      either (BeginsDue plan p) (actions.Close cause.Dead) (if nat_eq w.current 0 then actions.Renew else actions.Read Limit) (is_dead plan p w) (λ d b. cc)
-      (λ d. either (BeginsDue plan p) actions.Renew (actions.Read Limit) (nat_eq w.current 0) (λ e b. cc) (λ e b. cc))
-
-  -- if a cycle begins with an action only when it is due, so it does with what takes its place where there is no room
-  pub room_not : (next : Action) → BeginsDue plan p next → BeginsDue plan p (action_room plan p w next)
-  room_not next not = either (BeginsDue plan p) next (action_waiting plan p w) (has_room plan w) (λ e. not) (λ e. waits_not)
-
-  -- where each command of the cycle is settled, the next cycle begins only when it is due
-  pub done_due : BeginsDue plan p (action_done plan p)
-  done_due =
-      either (BeginsDue plan p) (actions.Close cause.Done) (if is_due plan p then actions.Begin else actions.Read Due) (nat_eq p.left 0) (λ e b. cc)
-      (λ e. either (BeginsDue plan p) actions.Begin (actions.Read Due) (is_due plan p) (λ d b. d) (λ d b. cc))
-
-  -- where each command that was sent is settled, the next cycle begins only when it is due
-  pub settled_due : BeginsDue plan p (action_settled plan p w)
-  settled_due =
-      either (BeginsDue plan p) (action_done plan p) (if may_go p w then action_room plan p w actions.Send else actions.Skip) (nat_eq p.unsent 0) (λ e. done_due)
-      (λ e. either (BeginsDue plan p) (action_room plan p w actions.Send) actions.Skip (may_go p w) (λ d. room_not actions.Send (λ b. cc)) (λ d b. cc))
-
-  -- where no command may go out, the next cycle begins only when it is due
-  pub sent_due : BeginsDue plan p (action_sent plan p w)
-  sent_due =
-      either (BeginsDue plan p) (action_settled plan p w) (if nat_eq w.current 0 then action_room plan p w actions.Flush else action_waiting plan p w) (nat_eq w.commands 0) (λ e. settled_due)
-      (λ e. either (BeginsDue plan p) (action_room plan p w actions.Flush) (action_waiting plan p w) (nat_eq w.current 0) (λ d. room_not actions.Flush (λ b. cc)) (λ d. waits_not))
-
-  -- once the station has begun, a cycle begins only when it is due
-  pub begun_due : BeginsDue plan p (action_begun plan p w)
-  begun_due =
-      either (BeginsDue plan p) (action_room plan p w actions.Send) (action_sent plan p w) (nat_lt 0 p.unsent && not p.next_is_chained) (λ d. room_not actions.Send (λ b. cc)) (λ d. sent_due)
-
-  -- no cycle begins where a null procedure goes out or is waited for
-  pub asks_not : BeginsDue plan p (if nat_le p.again p.moment.elapsed then actions.Ask else actions.Read Limit)
-  asks_not = either (BeginsDue plan p) actions.Ask (actions.Read Limit) (nat_le p.again p.moment.elapsed) (λ e b. cc) (λ e b. cc)
-
-  -- no cycle begins while the station begins
-  pub beginning_due : BeginsDue plan p (action_beginning plan p w)
-  beginning_due =
-      either (BeginsDue plan p) (actions.Close cause.Done) _ (is_finished w.commands p) (λ e b. cc)
-      (λ more. either (BeginsDue plan p) (actions.Read Due) _ (is_idle plan p) (λ e b. cc)
-      (λ e. either (BeginsDue plan p) (actions.Close cause.Dead) _ (is_dead plan p w) (λ d b. cc) (λ d. asks_not)))
-
-  -- in the phase `Ready` a cycle begins only when it is due
-  pub ready_due : BeginsDue plan p (action_ready plan p w)
-  ready_due = either (BeginsDue plan p) (action_begun plan p w) (action_beginning plan p w) (has_begun p) (λ e. begun_due) (λ e. beginning_due)
-
-  -- in each phase a cycle begins only when it is due, where turns are left and the moment was told
-  pub told_due : (at : Phase) → BeginsDue plan p (action_told plan at p w)
-  told_due phase.Ready = ready_due
-  told_due phase.Down = λ b. cc
-  told_due phase.Pausing = λ b. cc
-  told_due phase.Clearing = λ b. cc
-  told_due phase.Draining = λ b. cc
-  told_due (phase.Closing why) = λ b. cc
-  told_due (phase.Over why) = λ b. cc
-
-  -- no cycle begins where all turns are used up
-  pub up_due : (up : Bool) → BeginsDue plan p (action_up up)
-  up_due true = λ b. cc
-  up_due false = λ b. cc
-
-  -- a cycle begins only when it is due, where the end isn't decided yet
-  pub on_due : BeginsDue plan p (action_on plan p w)
-  on_due =
-      either (BeginsDue plan p) (action_up (is_up p.phase)) (if p.stale then actions.ReadClock else action_told plan p.phase p w) (nat_eq p.turns 0) (λ e. up_due (is_up p.phase))
-      (λ e. either (BeginsDue plan p) actions.ReadClock (action_told plan p.phase p w) p.stale (λ d b. cc) (λ d. told_due p.phase))
-
-  -- in each phase a cycle begins only when it is due
-  pub in_due : (at : Phase) → BeginsDue plan p (action_in at plan p w)
-  in_due (phase.Over why) = λ b. cc
-  in_due (phase.Closing why) = λ b. cc
-  in_due phase.Down = on_due
-  in_due phase.Pausing = on_due
-  in_due phase.Clearing = on_due
-  in_due phase.Draining = on_due
-  in_due phase.Ready = on_due
-
--- where the beginning of a cycle is next, the cycle is due
-pub begin_due : (plan : Plan) (p : Progress) (w : Waiting) → action_of plan p w ≡ actions.Begin → is_due plan p ≡ true
-begin_due plan p w = in_due plan p w p.phase
+use Rattle.gc_station.proofs.Due.{begin_due}
 
 -- What every run keeps of its cycles.
 

@@ -49,6 +49,7 @@ mod Codes
 mod Counting
 mod Room
 mod Ticking
+mod Due
 mod Cycles
 mod Unsent
 mod Pauses

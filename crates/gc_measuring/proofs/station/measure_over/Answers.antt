@@ -5,24 +5,24 @@ use Rattle.gc_measuring.proofs.station.measure_over.Goals as goal
 
 pub returns-clause-told : goal.returns-clause-told
 returns-clause-told g c =
-    let m = c.measure_text-streams.ensures.measures in
+    let m = c.run_station_text-streams.ensures.measures in
     IfOk-weaker c.tell_counts-ended.result _ _
     (λ status told. record {
-      end = c.measure_text-streams.result.1;
-      between = c.measure_text-streams.result.0.messages;
+      end = c.run_station_text-streams.result.1;
+      between = c.run_station_text-streams.result.0.messages;
       measured = (m.0, m.1.0, m.2);
-      all_last = c.measure_text-streams.ensures.is_durable;
-      fails = c.measure_text-streams.ensures.output;
+      all_last = c.run_station_text-streams.ensures.is_durable;
+      fails = c.run_station_text-streams.ensures.output;
       counts = told;
     })
     c.tell_counts-ended.ensures.told
 
 pub returns-clause-done : goal.returns-clause-done
 returns-clause-done g c =
-    let m = c.measure_text-streams.ensures.measures in
+    let m = c.run_station_text-streams.ensures.measures in
     IfOk-weaker c.tell_counts-ended.result _ _
     (λ status told zero. record {
-      between = c.measure_text-streams.result.0.messages;
+      between = c.run_station_text-streams.result.0.messages;
       is = done_at_0 m.0 _ _ _ _ (exit_status status) _ _ m.1.0 m.2 told zero;
     })
     c.tell_counts-ended.ensures.told
