@@ -1,4 +1,5 @@
--- Frames that were judged are the verdicts' lines.
+-- What a judge writes of frames, one after the other, is the lines of their verdicts. A frame is ended where a line feed has
+-- ended it.
 use Rattle.std.proofs.Common.{◌≡◌, ℕ, ◌+◌, ◌-◌, ◌<◌, ◌≤◌, ◌^◌, min, Bool, true, false, cond, List, [], ◌∷◌, ◌++◌, length, take, map, suc, Option, Some, Result, Ok, Err, refl, sym, ap, ◌∙◌, subst, arith, append_assoc, length-append}
 use Rattle.std.specs.Option.{option_to_list}
 use Rattle.gc_lines.specs.Answering.{Ports, AnswersInOrder, AnswersAll, AnswersPart, AnswersFrames, EndsBecause}
@@ -22,7 +23,7 @@ AreEnded (Cleared ∷ later) = AreEnded later
 AreEnded (Overlong ∷ later) = AreEnded later
 AreEnded (More ∷ later) = ⊥
 
--- the frame of a piece is ended, whichever of the three it is
+-- the frame of a piece is cleared, overlong or a line, by two tests; whichever it is, a line feed has ended it
 ended_piece : (a b : Bool) (line : Frame) (later : List Frame) → (AreEnded later → AreEnded (line ∷ later)) → AreEnded later → AreEnded (cond a (cond b Overlong line) Cleared ∷ later)
 unfolding AreEnded
 ended_piece true true line later is h = h
@@ -52,6 +53,7 @@ few_pieces before (b ∷ bs) = elim (is_line_feed b) as (λ t. length (cond t (b
   | false ↦ omega (arith, few_pieces (before ++ b ∷ []) bs)
 ]
 
+-- a list has as many items as what a function makes of them
 length-mapped : {X Y : Type 0} (f : X → Y) (xs : List X) → length (map f xs) ≡ length xs
 length-mapped f [] = refl
 length-mapped f (x ∷ xs) = ap suc (length-mapped f xs)
@@ -60,13 +62,14 @@ length-mapped f (x ∷ xs) = ap suc (length-mapped f xs)
 few_frames : (given : List ℕ) → length (frames given) ≤ length given
 few_frames given = omega (arith, length-mapped frame_of (pieces_behind [] given), few_pieces [] given)
 
--- the lines of frames behind n others
+-- these texts are the lines of the verdicts on these frames, the first of which is frame n + 1
 record Judged (n : ℕ) (seen : List Frame) (texts : List (List ℕ)) : Type 0 where
   said : List Verdict
   are : AreVerdicts seen said
   numbered : texts ≡ lines_from (n + 1) said
 
--- where a frame was judged, and then those behind it, all of these frames were judged
+-- where frame n + 1 was judged, so that its verdict's line was written and the count grew by one, and the later frames got
+-- their verdicts' lines, too, numbered from n + 2 on, all of these frames got theirs
 judged_next : (s u : Judge) (frame : Frame) (later : List Frame) (v : Verdict) (text : Option (List ℕ)) (rest texts : List (List ℕ)) (n : ℕ) → s.frames ≡ n → n + 1 < 2 ^ 64
     → IsVerdict frame v → u.frames ≡ min (s.frames + 1) (2 ^ 64 - 1) → text ≡ Some (verdict_line u.frames v) → texts ≡ option_to_list text ++ rest
     → (u.frames ≡ n + 1 → Judged (n + 1) later rest) → Judged n (frame ∷ later) texts
@@ -98,7 +101,7 @@ lines_of s t seen texts at few ended h =
     let k = judged s t seen texts 0 at (omega (arith, few)) ended h in
     record { said = k.said; are = k.are; numbered = k.numbered }
 
--- where all frames of the bytes were judged, and their lines went out, `ChecksAll` holds
+-- where all frames of the bytes were judged, and the lines of their verdicts went out, the check is as `ChecksAll` has it
 all_checked : (s t : Judge) (given : List ℕ) (a b : Option (List ℕ)) (count : ℕ) → s.frames ≡ 0 → length given < 2 ^ 64
     → AnswersAll JudgesFrame s t (frames given) a b 0 count → ChecksAll given a b count
 all_checked s t given a b count at few all = record {
@@ -108,7 +111,8 @@ all_checked s t given a b count at few all = record {
   took = all.took;
 }
 
--- where the first frames of the bytes were judged, and of the last line a front went out, `ChecksPart` holds
+-- where the first frames of the bytes were judged, and of the last verdict's line a front went out, the check is as `ChecksPart`
+-- has it
 part_checked : (s t : Judge) (given : List ℕ) (a b : Option (List ℕ)) (count bytes : ℕ) → s.frames ≡ 0 → length given < 2 ^ 64
     → AnswersPart JudgesFrame s t (frames given) a b 0 count bytes → ChecksPart given a b count bytes
 part_checked s t given a b count bytes at few part =
@@ -145,14 +149,14 @@ few_reads old new most (Err (Read n)) h = omega (arith, h.0)
 few_reads old new most (Err (Write n bytes)) h = h.1
 few_reads old new most (Err (TooManyReads n)) h = omega (arith, h.0)
 
--- a frame's verdict is what judging it gives
+-- where a frame has this verdict, and the count grows by one, the line of the verdict is what `JudgesFrame` has the judge write
 pub judged_frame : (s u : Judge) (frame : Frame) (v : Verdict) → IsVerdict frame v → u.frames ≡ min (s.frames + 1) (2 ^ 64 - 1) → JudgesFrame s frame u (Some (verdict_line u.frames v))
 judged_frame s u (Line line) v is counts = (v, is, counts, refl)
 judged_frame s u Cleared v is counts = (v, is, counts, refl)
 judged_frame s u Overlong v is counts = (v, is, counts, refl)
 judged_frame s u More v is counts = absurd is
 
--- the parts of a line, appended one behind the other, are the line
+-- digits, a space, a verdict and a line feed, appended to `old` one after the other, are the line of the verdict behind it
 pub line_of_parts : (old a b c d digits verdict : List ℕ) → a ≡ old ++ digits → b ≡ a ++ 32 ∷ [] → c ≡ b ++ verdict → d ≡ c ++ 10 ∷ [] → d ≡ old ++ (digits ++ 32 ∷ [] ++ verdict ++ 10 ∷ [])
 line_of_parts old a b c d digits verdict first second third last =
     let whole : d ≡ old ++ digits ++ 32 ∷ [] ++ verdict ++ 10 ∷ [] = last

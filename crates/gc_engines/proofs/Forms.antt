@@ -10,16 +10,19 @@ use Rattle.gc_texts.specs.Procedures.{IsNumber, IsProcedure}
 use Rattle.gc_texts.proofs.Cutting.{cut_found, digits_lack_spaces}
 use Rattle.gc_engines.specs.Schedule.{IsNumbered, IsRequested, IsSend, IsEvent, IsCounted}
 
--- where a line begins with a word, it is that word and a number exactly where the rest is a number
+-- where a line is a word and `rest`, and `r` is the number that `rest` is, or `None` where it is none, `r` is the number behind
+-- the word in the line, too
 pub numbered_is : (word line rest : List ℕ) (max : ℕ) (r : Option ℕ) → line ≡ word ++ rest
     → MatchOption r ((n : ℕ) → IsNumber rest n max → ⊥) (λ n. IsNumber rest n max)
     → MatchOption r ((n : ℕ) → IsNumbered word line n max → ⊥) (λ n. IsNumbered word line n max)
 numbered_is word line rest max None e none = λ n found. none n (subst (λ (ds : List ℕ). IsNumber ds n max) (append_cancel_left word found.digits rest (sym found.line_is ∙ e)) found.number)
 numbered_is word line rest max (Some n) e number = record { digits = rest; line_is = e; number = number }
 
+-- equal texts within `Some` are equal
 pub some_is : (a b : List ℕ) → Some a ≡ Some b → a ≡ b
 some_is a b e = cc
 
+-- the parts of a text that requests a call: a target, a deadline, and a procedure with its parameters, with spaces between them
 module _ (text : List ℕ) (t : ℕ) (call : Call) (d : ℕ) (r : IsRequested text t call d) where
   -- the first space stands behind the target
   first_cut : (target : List ℕ) (rest : Option (List ℕ)) → Cuts 32 text target rest → (target ≡ r.target_text) × (rest ≡ Some (r.deadline_text ++ 32 ∷ r.procedure))
@@ -31,11 +34,11 @@ module _ (text : List ℕ) (t : ℕ) (call : Call) (d : ℕ) (r : IsRequested te
       let first = first_cut target (Some rest) cut in
       cut_found 32 rest deadline behind r.deadline_text r.procedure next (some_is rest (r.deadline_text ++ 32 ∷ r.procedure) first.1) (digits_lack_spaces r.deadline_text r.deadline_is.names.digits)
 
-  -- what is requested has a first space
+  -- a text that requests a call has a space
   pub no_first_space : (target : List ℕ) → Cuts 32 text target None → ⊥
   no_first_space target cut = let first = first_cut target None cut in let bad : None ≡ Some (r.deadline_text ++ 32 ∷ r.procedure) = first.1 in cc
 
-  -- what is requested has a second space
+  -- a text that requests a call has a second space
   pub no_second_space : (target rest deadline : List ℕ) → Cuts 32 text target (Some rest) → Cuts 32 rest deadline None → ⊥
   no_second_space target rest deadline cut next = let second = second_cut target rest deadline None cut next in let bad : None ≡ Some r.procedure = second.1 in cc
 
@@ -53,7 +56,8 @@ module _ (text : List ℕ) (t : ℕ) (call : Call) (d : ℕ) (r : IsRequested te
   has_procedure target rest deadline procedure cut next none =
       none call (subst (λ (p : List ℕ). IsProcedure p call) (sym (some_is procedure r.procedure (second_cut target rest deadline (Some procedure) cut next).1)) r.procedure_is)
 
--- where a line begins with `send `, it sends exactly what is requested behind that, if anything is
+-- where a line is `send ` and `rest`, and `o` is the target, call and deadline that `rest` requests, or `None` where it
+-- requests nothing, `o` is what the line sends, too
 pub send_is : (word line rest : List ℕ) (o : Option (ℕ × Call × ℕ)) → word ≡ codes "send " → line ≡ word ++ rest
     → MatchOption o ((t : ℕ) (call : Call) (d : ℕ) → IsRequested rest t call d → ⊥)
     (λ r. IsRequested rest r.0 r.1 r.2) → MatchOption o ((t : ℕ) (call : Call) (d : ℕ) → IsSend line t call d → ⊥) (λ r. IsSend line r.0 r.1 r.2)

@@ -1,4 +1,6 @@
--- What is said of the lines of a log, piece by piece.
+-- What is said of the lines of a log, piece by piece. `rest` is the bytes since the last line feed, and `p` and `q` are pieces
+-- that come behind it. `SaysAll` says that what is said of the lines that end in a piece went out, and `SaysPart` that only a
+-- front of it did. `KeepsLine` says what is kept of the bytes since the last line feed.
 use Rattle.std.proofs.Common.{◌≡◌, ℕ, ◌+◌, ◌*◌, ◌<◌, ◌≤◌, get_or, Bool, true, false, cond, List, [], ◌∷◌, ◌++◌, length, take, drop, Option, refl, sym, ap, subst, ◌∙◌, arith, append_assoc, append-nil, length-append}
 use Rattle.std.specs.Io.KnownBytes.{Appends, Consumes}
 use Rattle.std.proofs.lemmas.List.{take_more, take-append-drop}
@@ -11,14 +13,14 @@ use Rattle.gc_lines.proofs.Known.{Appends-append, Appends-nil, Appends-is, Consu
 use Rattle.gc_engines.specs.LogChecking.{IsLogVerdict, AreSaid, KeepsLine, SaysAll, SaysPart}
 use Rattle.gc_engines.specs.declared.check_log.Underway.{Underway}
 
--- where texts are said of lines, and others of the lines behind them, all of these are said of all of those
+-- where the texts `ts` are said of the lines `ls`, and `us` of `ms`, the texts `ts ++ us` are said of the lines `ls ++ ms`
 said_both : (ls ms ts us : List (List ℕ)) → AreSaid ls ts → AreSaid ms us → AreSaid (ls ++ ms) (ts ++ us)
 said_both [] ms [] us h k = k
 said_both [] ms (t ∷ ts) us h k = absurd h
 said_both (l ∷ ls) ms [] us h k = absurd h
 said_both (l ∷ ls) ms (t ∷ ts) us h k = (h.0, said_both ls ms ts us h.1 k)
 
--- what is said of the lines of p, and then of q behind it, is what is said of both at once
+-- where `SaysAll` is true of p, and then of q behind it, it is true of `p ++ q`
 pub says_then : (rest p q : List ℕ) (a b c : Option (List ℕ)) (n m k : ℕ) → SaysAll rest p a b n m → SaysAll (rest_behind rest p) q b c m k → SaysAll rest (p ++ q) a c n k
 says_then rest p q a b c n m k one next = record {
   texts = one.texts ++ next.texts;
@@ -27,7 +29,7 @@ says_then rest p q a b c n m k one next = record {
   counts = omega (arith, one.counts, next.counts, length-append one.texts next.texts);
 }
 
--- what is said of p, and a part of what is said of q behind it, is a part of what is said of both
+-- where `SaysAll` is true of p, and then `SaysPart` of q behind it, `SaysPart` is true of `p ++ q`
 pub part_then : (rest p q : List ℕ) (a b c : Option (List ℕ)) (n m k bytes : ℕ) → SaysAll rest p a b n m → SaysPart (rest_behind rest p) q b c m k bytes → SaysPart rest (p ++ q) a c n k bytes
 part_then rest p q a b c n m k bytes one next = record {
   seen = pieces_behind rest p ++ next.seen;
@@ -43,7 +45,7 @@ part_then rest p q a b c n m k bytes one next = record {
       ∙ ap (λ l. l ++ take bytes next.line) (sym (all_of-append one.texts next.whole))) (Appends-append a b c _ _ one.took next.took);
 }
 
--- what comes behind a failed write changes nothing in what went out
+-- where `SaysPart` is true of p, it is true of `p ++ q`: what comes after a failed write changes nothing
 pub part_before : (rest p q : List ℕ) (a b : Option (List ℕ)) (n k bytes : ℕ) → SaysPart rest p a b n k bytes → SaysPart rest (p ++ q) a b n k bytes
 part_before rest p q a b n k bytes one = record {
   seen = one.seen;
@@ -62,7 +64,8 @@ pieces_one : (rest : List ℕ) (b : ℕ) (feed : Bool) → feed ≡ true → (co
 pieces_one rest b true feeds = (refl, refl)
 pieces_one rest b false feeds = let bad : false ≡ true = feeds in cc
 
--- where a line feed came, and what is said of its line went out, `SaysAll` holds of this byte, and the next line is empty
+-- where a line feed came, and what is said of the line that it ends went out, `SaysAll` is true of this one byte, and nothing is
+-- kept of the next line
 pub byte_said : (rest : List ℕ) (b : ℕ) (a c : Option (List ℕ)) (n m : ℕ) (kept : Underway) (text : List ℕ) → is_line_feed b ≡ true → KeepsLine kept []
     → IsLogVerdict rest text → Appends a c text → m ≡ n + 1
     → KeepsLine kept (rest_behind rest (b ∷ [])) × SaysAll rest (b ∷ []) a c n m
@@ -77,7 +80,7 @@ byte_said rest b a c n m kept text feeds keeps said took more =
       },
     )
 
--- where a line feed came, and only a front of what is said of its line went out, `SaysPart` holds of this byte
+-- where a line feed came, and only a front of what is said of the line that it ends went out, `SaysPart` is true of this one byte
 pub byte_part : (rest : List ℕ) (b : ℕ) (a c : Option (List ℕ)) (n bytes : ℕ) (text : List ℕ) → is_line_feed b ≡ true → IsLogVerdict rest text
     → TakesFront a c bytes text → SaysPart rest (b ∷ []) a c n n bytes
 byte_part rest b a c n bytes text feeds said took = record {
@@ -98,9 +101,10 @@ piece_more bs i within =
     let more = take_more bs i 0 within in
     (more, sym (take-append-drop (i + 1) bs) ∙ ap (λ l. l ++ drop (i + 1) bs) more)
 
--- a loop over the bytes of a piece
+-- one turn of the loop over the bytes `bs` of a piece, at byte i: `kept` is what is kept of the line under way before it, and
+-- `next` after it
 module _ (kept next : Underway) (rest bs : List ℕ) (i : ℕ) (within : i < length bs) (a b c : Option (List ℕ)) (n m k : ℕ) where
-  -- one more byte of a piece, and what is said of the line that it ends
+  -- where `SaysAll` is true of the first i bytes of a piece, and of the next byte, it is true of the first i + 1
   pub loop_on : KeepsLine kept (rest_behind rest (take i bs)) × SaysAll rest (take i bs) a b n m
       → ((r : List ℕ) → KeepsLine kept r → KeepsLine next (rest_behind r (get_or bs i 0 ∷ [])) × SaysAll r (get_or bs i 0 ∷ []) b c m k)
       → KeepsLine next (rest_behind rest (take (i + 1) bs)) × SaysAll rest (take (i + 1) bs) a c n k
@@ -111,7 +115,8 @@ module _ (kept next : Underway) (rest bs : List ℕ) (i : ℕ) (within : i < len
         subst (λ l. SaysAll rest l a c n k) (sym more) (says_then rest (take i bs) (get_or bs i 0 ∷ []) a b c n m k so.1 it.1),
       )
 
-  -- one more byte of a piece, at which the sink failed
+  -- where `SaysAll` is true of the first i bytes of a piece, and the sink failed at the next byte, `SaysPart` is true of the
+  -- piece
   pub loop_fails : (bytes : ℕ) → KeepsLine kept (rest_behind rest (take i bs)) × SaysAll rest (take i bs) a b n m
       → ((r : List ℕ) → KeepsLine kept r → SaysPart r (get_or bs i 0 ∷ []) b c m k bytes) → SaysPart rest bs a c n k bytes
   loop_fails bytes so byte =
@@ -119,7 +124,8 @@ module _ (kept next : Underway) (rest bs : List ℕ) (i : ℕ) (within : i < len
       (part_before rest (take i bs ++ get_or bs i 0 ∷ []) (drop (i + 1) bs) a c n k bytes
       (part_then rest (take i bs) (get_or bs i 0 ∷ []) a b c n m k bytes so.1 (byte (rest_behind rest (take i bs)) so.0)))
 
--- what was read so far, and what was said of its lines
+-- how far a check has come, by the bytes that were given so far: `kept` is what is kept of the line under way, and what is said
+-- of the `count` whole lines went out
 pub record SaidSoFar (source_old source_new sink_old sink_new : Option (List ℕ)) (kept : Underway) (reads count : ℕ) : Type 0 where
   pub given : List ℕ
   pub gave : Consumes source_old source_new given
@@ -127,8 +133,10 @@ pub record SaidSoFar (source_old source_new sink_old sink_new : Option (List ℕ
   pub keeps : KeepsLine kept (rest_behind [] given)
   pub said : SaysAll [] given sink_old sink_new 0 count
 
+-- one more read of a check: the source gave `piece` (`a'` and `a''` are what it had before and then), and the sink had taken
+-- `b'`
 module _ (a a' a'' b b' b'' : Option (List ℕ)) (kept next : Underway) (reads n m : ℕ) (piece : List ℕ) (so : SaidSoFar a a' b b' kept reads n) (gave : Consumes a' a'' piece) where
-  -- one more piece was read, and what is said of its lines went out
+  -- `SaidSoFar` stays true when one more piece was read and what is said of its lines went out
   pub so_far_more : length piece ≤ 256 → ((r : List ℕ) → KeepsLine kept r → KeepsLine next (rest_behind r piece) × SaysAll r piece b' b'' n m) → SaidSoFar a a'' b b'' next (reads + 1) m
   so_far_more short piece_said =
       let it = piece_said (rest_behind [] so.given) so.keeps in
@@ -140,7 +148,7 @@ module _ (a a' a'' b b' b'' : Option (List ℕ)) (kept next : Underway) (reads n
         said = says_then [] so.given piece b b' b'' 0 n m so.said it.1;
       }
 
-  -- one more piece was read, and the sink failed
+  -- one more piece was read, and the sink failed: it took a part of what is said of the lines of all bytes so far
   pub so_far_part : (bytes : ℕ) → length piece ≤ 256 → ((r : List ℕ) → KeepsLine kept r → SaysPart r piece b' b'' n m bytes)
       → (given : List ℕ) × Consumes a a'' given × (length given ≤ 256 * (reads + 1)) × SaysPart [] given b b'' 0 m bytes
   so_far_part bytes short piece_said =

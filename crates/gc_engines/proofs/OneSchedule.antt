@@ -13,7 +13,7 @@ use Rattle.gc_texts.proofs.OneReading.{one_procedure, one_list}
 use Rattle.gc_texts.proofs.Procedures.{one_number}
 use Rattle.gc_engines.specs.Schedule.{IsRequested, IsSend, IsEvent, IsSchedule}
 
--- an event in three parts: its kind, what it sends, and its number
+-- the first of the three parts of an event: its kind, a number for each word or pair of words
 abbrev kind : Event → ℕ
 kind (Send target call deadline) = 0
 kind UpDeliver = 1
@@ -28,10 +28,12 @@ kind RestartInstrument = 9
 kind (UpBytes n) = 10
 kind (DownBytes n) = 11
 
+-- the second part of an event is what it sends, if it is a send: its target, call and deadline
 abbrev sends : Event → Option (ℕ × Call × ℕ)
 sends (Send target call deadline) = Some (target, call, deadline)
 sends _ = None
 
+-- the third part of an event is the number behind its words, or 0 where it has none
 abbrev count : Event → ℕ
 count (UpLose k) = k
 count (UpRepeat k) = k
@@ -42,7 +44,7 @@ count (UpBytes n) = n
 count (DownBytes n) = n
 count _ = 0
 
--- the event of these parts
+-- the event of these three parts: a kind, what it sends if it is a send, and the number behind its words
 abbrev joined : ℕ → Option (ℕ × Call × ℕ) → ℕ → Event
 joined k (Some s) n = Send s.0 s.1 s.2
 joined k None n =
@@ -64,10 +66,13 @@ joined_is RestartInstrument = refl
 joined_is (UpBytes n) = refl
 joined_is (DownBytes n) = refl
 
--- the kind of event that a line's bytes show: `send`, `expire`, `up` and `down` with the word behind them, and `restart` with its own
+-- the kind of an `up` or a `down` line, by the first byte of the word behind that: `deliver` has the kind `from`, `lose` the
+-- next, `bytes` the kind `bytes`, and `repeat` the kind `from + 2`
 abbrev way_kind : ℕ → ℕ → ℕ → ℕ
 way_kind from bytes b = if b == 100 then from else if b == 108 then from + 1 else if b == 98 then bytes else from + 2
 
+-- the kind of event that a line's bytes show: the first byte tells `send`, `expire`, `up` and `down`, and byte 8 tells `restart
+-- client` from `restart instrument`
 abbrev kind_in : List ℕ → ℕ
 kind_in line =
     if get_or line 0 0 == 115 then 0 else if get_or line 0 0 == 101 then 7 else if get_or line 0 0 == 117 then way_kind 1 10 (get_or line 3 0)
@@ -88,7 +93,7 @@ kind_is line RestartInstrument h = ap kind_in h
 kind_is line (UpBytes n) h = ap kind_in h.line_is
 kind_is line (DownBytes n) h = ap kind_in h.line_is
 
--- the number behind the words of a kind
+-- the number that a line of this kind has behind its words; 0 for a kind without a number
 abbrev count_in : ℕ → List ℕ → ℕ
 count_in k line =
     if k == 2 then number (drop 8 line) else if k == 3 then number (drop 10 line) else if k == 5 then number (drop 10 line)

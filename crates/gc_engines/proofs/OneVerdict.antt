@@ -16,14 +16,15 @@ use Rattle.gc_engines.specs.Verdicts.{IsRequestVerdict, reads, refuses, BeginsAs
 use Rattle.gc_engines.specs.declared.verdict.Verdict.{Verdict}
 use Rattle.gc_engines.specs.declared.verdict.Verdict.TheVariants as verdict
 
--- a result has one fault
+-- where a result is the error `e` and is the error `f`, these are one fault
 one_fault : {A : Type 0} (r : Result A LineFault) (e f : LineFault) → r ≡ Err e → r ≡ Err f → e ≡ f
 one_fault r e f is other = cc
 
+-- a result isn't both a value and a fault
 never : {A : Type 0} (r : Result A LineFault) (x : A) (f : LineFault) → r ≡ Ok x → r ≡ Err f → ⊥
 never r x f is other = cc
 
--- the fourth letter of a request isn't that of a reply
+-- bytes that begin with `Q,`, as a request does behind `%R1`, don't begin with `P,`, as a reply does there
 other_letter : (xs ys : List ℕ) → 81 ∷ 44 ∷ xs ≡ 80 ∷ 44 ∷ ys → ⊥
 other_letter xs ys e = let same : ◌≡◌ {A = ℕ} 81 80 = ap (λ (zs : List ℕ). slice_index zs 0) e in omega arith
 

@@ -18,13 +18,15 @@ use Rattle.gc_engines.specs.declared.scene_line.SceneLine.{SceneLine}
 use Rattle.gc_engines.specs.declared.scene_line.SceneLine.TheVariants as says
 use Rattle.gc_engines.proofs.Forms.{some_is}
 
--- where a line begins with `target `, it is a target exactly where the rest is three decimals
+-- where a line is `target ` and `rest`, and `o` is the target that `rest` says, or `None` where it says none, `o` is what the
+-- line says, too
 pub target_is : (line rest : List ℕ) (o : Option Target) → line ≡ codes "target " ++ rest
     → MatchOption o ((t : Target) → IsPrism rest t → ⊥) (λ t. IsPrism rest t) → MatchOption o ((t : Target) → IsTarget line t → ⊥) (λ t. IsTarget line t)
 target_is line rest None e none =
     λ t found. none t (subst (λ (ws : List ℕ). IsPrism ws t) (append_cancel_left (codes "target ") found.words rest (sym found.line_is ∙ e)) found.prism)
 target_is line rest (Some t) e prism = record { words = rest; line_is = e; prism = prism }
 
+-- the parts of a text `HZ V DISTANCE`, three decimals with a space between two of them
 module _ (words : List ℕ) (t : Target) (p : IsPrism words t) where
   -- the first space stands behind HZ
   first_cut : (hz : List ℕ) (rest : Option (List ℕ)) → Cuts 32 words hz rest → (hz ≡ p.hz_text) × (rest ≡ Some (p.v_text ++ 32 ∷ p.distance_text))
@@ -56,7 +58,7 @@ module _ (words : List ℕ) (t : Target) (p : IsPrism words t) where
   has_distance hz rest v distance cut next none =
       none t.distance (subst (λ (x : List ℕ). Spells x t.distance.digits t.distance.scale) (sym (some_is distance p.distance_text (second_cut hz rest v (Some distance) cut next).1)) p.distance_is)
 
--- what a line's first byte says of it
+-- the first byte of a line that says this: the first letter of `serial`, `name` or `target`
 abbrev head : SceneLine → ℕ
 head (says.Serial n) = 115
 head (says.Name bytes) = 110
@@ -95,10 +97,10 @@ one_target line t u x y =
     let words : x.words ≡ y.words = append_cancel_left (codes "target ") x.words y.words (sym x.line_is ∙ y.line_is) in
     one_prism y.words t u (subst (λ (ws : List ℕ). IsPrism ws t) words x.prism) y.prism
 
--- a line says one thing at most
+-- a line says one serial number, one name or one target at most
 one_line : (line : List ℕ) (a b : SceneLine) → IsSceneLine line a → IsSceneLine line b → a ≡ b
 one_line line a b x y = by_kind a b x y (sym (head_is line a x) ∙ head_is line b y) where
-  -- two lines of one kind say one thing
+  -- where a line says a and says b, and the words of both begin with the same letter, a is b
   by_kind : (a b : SceneLine) → IsSceneLine line a → IsSceneLine line b → head a ≡ head b → a ≡ b
   by_kind (says.Serial m) (says.Serial n) x y h = ap says.Serial (one_serial line m n x y)
   by_kind (says.Serial m) (says.Name cs) x y h = absurd (omega (arith, h))
@@ -110,7 +112,7 @@ one_line line a b x y = by_kind a b x y (sym (head_is line a x) ∙ head_is line
   by_kind (says.Target t) (says.Name cs) x y h = absurd (omega (arith, h))
   by_kind (says.Target t) (says.Target u) x y h = ap says.Target (one_target line t u x y)
 
--- a text says one list of things at most
+-- the lines of a text say one list of serial numbers, names and targets at most
 one_lines : (text : List ℕ) (xs ys : List SceneLine) → IsText IsSceneLine text xs → IsText IsSceneLine text ys → xs ≡ ys
 one_lines text xs ys h k = one_list IsSceneLine one_line (filter is_kept (text_lines text)) xs ys h k
 

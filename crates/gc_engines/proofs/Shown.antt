@@ -1,4 +1,5 @@
--- The text of a report is that of the run that it shows.
+-- The text of a report is that of the run that it shows. A run of events ends with a wire: the line, the instrument, and the
+-- lists and counts of what has happened.
 use Rattle.std.proofs.Common.{◌≡◌, ℕ, List, [], ◌++◌, Bool, true, false, if◌then◌else◌, length, refl, sym, ap, ◌∙◌}
 use Rattle.std.proofs.lemmas.List.{length-map}
 use Rattle.gc_client.specs.Settlements.{settlement_seen}
@@ -34,7 +35,7 @@ text_shown r w totals is =
     (length w.made) (length w.settled) w.refused w.idle
     sent (ap length is.executed) made settled is.refused is.idle)
 
--- what a drill writes is the text of the wire that its events come to
+-- what a drill writes of events is the text of the wire with which their run ends
 text_of_run : (opening : State) (width : ℕ) (events : List Event) (totals : Bool) → drill_text_on opening width events totals ≡ wire_text (played width opening events).wire totals
 text_of_run opening width events totals = unfold drill_text_on in refl
 

@@ -1,4 +1,5 @@
--- What a check writes, and how it ends: this project's own.
+-- What a check writes, and how it ends: this project's own. `given` are the bytes that the source gave, and `old` and `new` are
+-- what the sink had taken before and has taken after, where that is known.
 use Rattle.std.specs.Prelude.{◌≡◌, ℕ, ◌+◌, ◌-◌, ◌*◌, ◌<◌, ◌≤◌, min, ◌^◌, List, [], ◌∷◌, ◌++◌, length, take, Option, Some, None, Result, Ok, Err}
 use Rattle.std.specs.Io.KnownBytes.{Appends, Consumes}
 use Rattle.gc_lines.specs.Answering.{Ports, HasEnded, all_of}
@@ -12,14 +13,15 @@ use Rattle.gc_engines.specs.Verdicts.{IsVerdict, verdict_line, AreLinesOf, AreVe
 use Rattle.gc_engines.specs.declared.check.Judge.{Judge}
 use Rattle.gc_engines.specs.declared.verdict.Verdict.{Verdict}
 
--- the lines of the verdicts on all frames went out whole, and there are count of them
+-- the lines of the verdicts on all frames of these bytes went out whole, and they are `count` lines
 pub record ChecksAll (given : List ℕ) (old new : Option (List ℕ)) (count : ℕ) : Type 0 where
   pub lines : List (List ℕ)
   pub are : AreVerdictLines given lines
   pub counts : count ≡ length lines
   pub took : Appends old new (all_of lines)
 
--- the lines of the verdicts on the first frames went out: count of them whole, and of one more the first bytes, which aren't all of it
+-- the lines of the verdicts on the first frames of these bytes went out: `count` lines whole, and of one more the first `bytes`
+-- bytes, which aren't all of it
 pub record ChecksPart (given : List ℕ) (old new : Option (List ℕ)) (count bytes : ℕ) : Type 0 where
   pub seen : List Frame
   pub later : List Frame
@@ -43,11 +45,11 @@ pub record IsChecking (old new : Ports) (most : ℕ) (result : Result Served Ser
   -- the sink took the lines of the verdicts on the bytes that the source gave, or the part of them that the fault says
   pub checks : (given : List ℕ) × Consumes old.remaining new.remaining given
       × (length given ≤ 256 * (new.reads - old.reads)) × Checks given old.taken new.taken result
-  -- why it ended; over ports that hadn't failed before, each result comes exactly where its cause is
+  -- why it ended, and what that says of the ports, as `HasEnded` has it
   pub ended : HasEnded old new most result
 
--- what the judge writes of a frame: the line of its verdict, numbered by a count that grows as far as 64 bits go; nothing of a frame that no
--- line feed has ended. No part of a promise
+-- one step of the judge: of a frame it writes the line of its verdict, numbered by a count that grows as far as 64 bits go; of
+-- a frame that no line feed has ended it writes nothing. It serves the proofs of a check, and no promise speaks of it
 abbrev pub JudgesFrame : Judge → Frame → Judge → Option (List ℕ) → Type 0
 JudgesFrame before More after text = (after ≡ before) × (text ≡ None)
 JudgesFrame before frame after text = (v : Verdict) × IsVerdict frame v × (after.frames ≡ min (before.frames + 1) (2 ^ 64 - 1)) × (text ≡ Some (verdict_line after.frames v))

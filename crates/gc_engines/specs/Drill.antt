@@ -1,4 +1,5 @@
--- What a schedule that is played writes: this project's own.
+-- What a schedule that is played writes: this project's own. A run of events ends with a wire: the line, the instrument, and
+-- the lists and counts of what has happened.
 use Rattle.std.specs.Prelude.{◌≡◌, ℕ, ◌+◌, ◌<◌, ◌≤◌, Bool, true, false, List, [], ◌++◌, length, take, Option, Result, Ok, Err, if◌then◌else◌}
 use Rattle.std.specs.Io.KnownBytes.{Appends}
 use Rattle.gc_instrument.specs.State.{State, simulator_opening}
@@ -12,7 +13,7 @@ use Rattle.gc_texts.specs.declared.text.TheConstants.{TEXT_LIMIT}
 use Rattle.gc_texts.specs.declared.fault.RunFault.{RunFault}
 use Rattle.gc_texts.specs.declared.fault.RunFault.TheVariants.{Read, Schedule, Memory, InputTooLong, Output}
 
--- the line of totals of a run
+-- the line of totals of a run, by the wire with which it ends
 abbrev pub totals_line : Wire State → List ℕ
 totals_line w = totals_text (length w.sent) (length w.executed) (length w.made) (length w.settled) w.refused w.idle
 
@@ -32,8 +33,9 @@ drill_text width events totals = drill_text_on simulator_opening width events to
 abbrev pub TookPart : Option (List ℕ) → Option (List ℕ) → List ℕ → Type 0
 TookPart old new text = (n : ℕ) × (n < length text) × Appends old new (take n text)
 
--- these bytes were given as a schedule, to be played on an instrument with this opening state and a window of this width: why that ended, and
--- what a sink took, by the result
+-- these bytes were given as a schedule, to be played on an instrument with this opening state and a window of this width: why
+-- that ended, and what a sink took, by the result. `totals` says whether the line of totals is asked for; `old` and `new` are
+-- what the sink had taken before and has taken after
 abbrev pub DrillsOn : State → ℕ → List ℕ → Bool → Option (List ℕ) → Option (List ℕ) → Result (Unit {0}) RunFault → Type 0
 DrillsOn opening width given totals old new (Ok _) = (length given ≤ TEXT_LIMIT) × ((events : List Event) × IsSchedule given events × Appends old new (drill_text_on opening width events totals))
 DrillsOn opening width given totals old new (Err Read) = (length given ≤ TEXT_LIMIT) × (new ≡ old)
@@ -44,7 +46,7 @@ DrillsOn opening width given totals old new (Err Output) = (length given ≤ TEX
     × ((events : List Event) × IsSchedule given events × TookPart old new (drill_text_on opening width events totals))
 DrillsOn opening width given totals old new (Err _) = ⊥
 
--- the same as `DrillsOn`, with the simulator
+-- what a drill on the simulator did with the bytes given as a schedule, as `DrillsOn` has it
 abbrev pub Drills : ℕ → List ℕ → Bool → Option (List ℕ) → Option (List ℕ) → Result (Unit {0}) RunFault → Type 0
 Drills width given totals old new result = DrillsOn simulator_opening width given totals old new result
 
@@ -55,12 +57,12 @@ is_read_whole (Err (Schedule n)) = true
 is_read_whole (Err Output) = true
 is_read_whole (Err _) = false
 
--- whether the source has failed behind a drill with this result; `failed` says whether it had before
+-- whether the source has failed after a drill with this result; `failed` says whether it had before
 abbrev pub source_failed : Result (Unit {0}) RunFault → Bool → Bool
 source_failed (Err Read) failed = true
 source_failed _ failed = failed
 
--- whether the sink has failed behind a drill with this result; `failed` says whether it had before
+-- whether the sink has failed after a drill with this result; `failed` says whether it had before
 abbrev pub sink_failed : Result (Unit {0}) RunFault → Bool → Bool
 sink_failed (Err Output) failed = true
 sink_failed _ failed = failed

@@ -1,4 +1,4 @@
--- Laws of schedules, scenes and verdicts. They are this project's own, as these are.
+-- Laws of schedules, scenes and verdicts: both the laws and what they speak of are this project's own.
 use Rattle.std.specs.Prelude.{◌≡◌, ℕ, List}
 use Rattle.gc_lines.specs.declared.frame.Frame.{Frame}
 use Rattle.gc_world.specs.declared.event.Event.{Event}

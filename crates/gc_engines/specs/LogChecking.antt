@@ -1,4 +1,6 @@
--- What a check of a log says of each of its lines: this project's own.
+-- What a check of a log says of each of its lines: this project's own. `given` are the bytes that the source gave, `rest` those
+-- of a line that no line feed has ended, and `old` and `new` what the sink had taken before and has taken after, where that is
+-- known.
 use Rattle.std.specs.Prelude.{◌≡◌, ℕ, ◌+◌, ◌*◌, ◌-◌, ◌<◌, ◌≤◌, ◌==◌, ◌&&◌, Bool, true, false, not, nat_lt, List, [], ◌∷◌, ◌++◌, length, take, get_or, Option, Result, Ok, Err, if◌then◌else◌, codes}
 use Rattle.std.specs.Io.KnownBytes.{Appends, Consumes}
 use Rattle.gc_lines.specs.Answering.{Ports, HasEnded, all_of}
@@ -14,7 +16,7 @@ use Rattle.gc_engines.specs.declared.check_log.Underway.{Underway}
 use Rattle.gc_engines.specs.declared.verdict.Verdict.{Verdict}
 use Rattle.gc_engines.specs.declared.verdict.Verdict.TheVariants as verdict
 
--- what is said of a line that went or came whole: its verdict, or that it is longer than a line may be
+-- what is said of a line that went or came whole: `overlong` where it has more than 512 bytes, else its verdict
 pub data IsWholeVerdict (bytes text : List ℕ) : Type 0 where
   overlong : 512 < length bytes → text ≡ verdict_text verdict.Overlong → IsWholeVerdict bytes text
   line : (v : Verdict) → length bytes ≤ 512 → IsLineVerdict bytes v → text ≡ verdict_text v → IsWholeVerdict bytes text
@@ -35,21 +37,22 @@ IsSaid mark.Came bytes text = IsWholeVerdict bytes text
 IsSaid mark.CamePart bytes text = text ≡ part_verdict bytes
 IsSaid mark.Link bytes text = text ≡ escaped bytes
 
--- what is written of a line: its moment and its mark as they stand, and what is said of it; or that it is no log line
+-- what is written of a line of the checked text. Where it reads as a log line: its moment and its mark as they stand, and what
+-- is said of its bytes. Where it doesn't: that it is no log line
 pub data IsLogVerdict (line text : List ℕ) : Type 0 where
   reads : (moment said bytes : List ℕ) (mark : LogMark) → length line ≤ 2100 → length bytes ≤ 514 → IsLogLine line moment mark bytes → IsSaid mark bytes said
       → text ≡ moment ++ 32 ∷ (mark_text mark ++ 32 ∷ (said ++ 10 ∷ [])) → IsLogVerdict line text
   unread : (length line ≤ 2100 → (moment : List ℕ) (mark : LogMark) (bytes : List ℕ) → length bytes ≤ 514 → IsLogLine line moment mark bytes → ⊥)
       → text ≡ codes "no log line\n" → IsLogVerdict line text
 
--- these texts are written of these lines, one for one
+-- the texts are what is written of the lines of a checked log, one for one
 abbrev pub AreSaid : List (List ℕ) → List (List ℕ) → Type 0
 AreSaid [] [] = Unit {0}
 AreSaid [] (t ∷ ts) = ⊥
 AreSaid (l ∷ ls) [] = ⊥
 AreSaid (l ∷ ls) (t ∷ ts) = IsLogVerdict l t × AreSaid ls ts
 
--- what is kept of the bytes since the last line feed: all of them, or the mark that they are more than 2100
+-- what is kept of the bytes since the last line feed: all of them, or only that they are more than 2100
 pub record KeepsLine (kept : Underway) (rest : List ℕ) : Type 0 where
   pub whole : kept.is_long ≡ false → rest ≡ kept.bytes.items
   pub long : kept.is_long ≡ true → 2100 < length rest
@@ -87,5 +90,5 @@ ChecksLog given old new (Err (TooManyReads count)) = SaysAll [] given old new 0 
 pub record IsCheckingLog (old new : Ports) (most : ℕ) (result : Result Served ServeFault) : Type 0 where
   -- the sink took what is said of the lines of the bytes that the source gave, or the part of it that the fault says
   pub checks : (given : List ℕ) × Consumes old.remaining new.remaining given × (length given ≤ 256 * (new.reads - old.reads)) × ChecksLog given old.taken new.taken result
-  -- why it ended; over ports that hadn't failed before, each result comes exactly where its cause is
+  -- why it ended, and what that says of the ports, as `HasEnded` has it
   pub ended : HasEnded old new most result

@@ -25,7 +25,7 @@ pub record IsName (line bytes : List ℕ) : Type 0 where
   pub line_is : line ≡ codes "name " ++ bytes
   pub text : text.IsText bytes
 
--- `HZ V DISTANCE`: three decimals, parted by one space each
+-- `HZ V DISTANCE`: three decimals, with one space between two of them
 pub record IsPrism (words : List ℕ) (target : Target) : Type 0 where
   pub hz_text : List ℕ
   pub v_text : List ℕ
@@ -49,14 +49,14 @@ IsSceneLine line (says.Serial n) = IsSerial line n
 IsSceneLine line (says.Name bytes) = IsName line bytes
 IsSceneLine line (says.Target target) = IsTarget line target
 
--- the serial number of the last of these lines that says one, else this one
+-- the serial number of the last of these lines that says one, or `n` where none does
 abbrev pub serial_of : ℤ → List SceneLine → ℤ
 serial_of n [] = n
 serial_of n (says.Serial m ∷ rest) = serial_of m rest
 serial_of n (says.Name bytes ∷ rest) = serial_of n rest
 serial_of n (says.Target target ∷ rest) = serial_of n rest
 
--- the name of the last of these lines that says one, else this one
+-- the name of the last of these lines that says one, or `name` where none does
 abbrev pub name_of : List ℕ → List SceneLine → List ℕ
 name_of name [] = name
 name_of name (says.Serial m ∷ rest) = name_of name rest

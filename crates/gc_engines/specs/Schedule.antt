@@ -12,7 +12,7 @@ pub record IsNumbered (word line : List ℕ) (n max : ℕ) : Type 0 where
   pub line_is : line ≡ word ++ digits
   pub number : IsNumber digits n max
 
--- `T D RPC` or `T D RPC PARAMS`
+-- `T D RPC` or `T D RPC PARAMS`: the target T, the deadline D and the procedure of a request, with one space between them
 pub record IsRequested (text : List ℕ) (target : ℕ) (call : Call) (deadline : ℕ) : Type 0 where
   pub target_text : List ℕ
   pub deadline_text : List ℕ
@@ -22,7 +22,7 @@ pub record IsRequested (text : List ℕ) (target : ℕ) (call : Call) (deadline 
   pub deadline_is : IsNumber deadline_text deadline 18446744073709551615
   pub procedure_is : IsProcedure procedure call
 
--- `send T D RPC` or `send T D RPC PARAMS`
+-- `send T D RPC` or `send T D RPC PARAMS`: the word, and behind it a request as `IsRequested` has it
 pub record IsSend (line : List ℕ) (target : ℕ) (call : Call) (deadline : ℕ) : Type 0 where
   pub rest : List ℕ
   pub line_is : line ≡ codes "send " ++ rest
@@ -54,14 +54,6 @@ IsCounted (DownRepeat k) = Unit {0}
 IsCounted (Expire moment) = Unit {0}
 IsCounted _ = ⊥
 
--- an event that is words alone
-abbrev pub IsWords : Event → Type 0
-IsWords UpDeliver = Unit {0}
-IsWords DownDeliver = Unit {0}
-IsWords RestartClient = Unit {0}
-IsWords RestartInstrument = Unit {0}
-IsWords _ = ⊥
-
 -- the text is a schedule of these events: one for each line that isn't skipped
 abbrev pub IsSchedule : List ℕ → List Event → Type 0
 IsSchedule text events = IsText IsEvent text events
@@ -70,6 +62,7 @@ IsSchedule text events = IsText IsEvent text events
 abbrev pub IsFirstFaulty : List ℕ → ℕ → Type 0
 IsFirstFaulty text n = FirstFaulty IsEvent text n
 
--- a line has the form of an event, and no line before it is faulty
+-- some line has the form of an event, and no line before it is faulty: the reading comes to that line, and may want memory
+-- there
 abbrev pub IsBehindAnEvent : List ℕ → Type 0
 IsBehindAnEvent text = BehindAnItem IsEvent text

@@ -18,7 +18,8 @@ impl Answers for Judge {
 
     ghost answers = { JudgesFrame };
 
-    // Appends the line with the frame's number and its verdict, and returns true, where a line feed has ended the frame.
+    // Where a line feed has ended the frame, appends the line with its number and its verdict, and returns true. Else returns
+    // false.
     fn answer(&mut self, frame: Lent<'_>, text: &mut Outgoing) -> bool {
         let Some(verdict) = verdict_of(frame) else {
             return false;
@@ -46,8 +47,8 @@ impl Answers for Judge {
 /// | any other line | `fault F`, F being its fault as a request, 1 to 4 |
 ///
 /// Bytes behind the last line feed get no line. `replies` in an answer counts the lines that went out whole. The lines of one
-/// read go out together, before the next read. It takes no memory. N can't pass 2^40, because each frame has at least one byte and
-/// there are fewer than 2^32 reads.
+/// read go out together, before the next read. It takes no memory. N can't pass 2^40, because each frame has at least one byte
+/// and there are fewer than 2^32 reads.
 ///
 /// It returns [`Served`] exactly where the last read was the end. Over ports that hadn't failed before, it fails with `Read` (42)
 /// exactly where the source failed, with `Write` (43) exactly where the sink did, and with `TooManyReads` (44) exactly where all

@@ -59,8 +59,8 @@ impl Underway {
 /// | `>\|`, `<\|` | `cleared` where the bytes end in a line feed without a CR before it, else `part` |
 /// | `-` | the words as they stand in the log |
 ///
-/// Of a line that is none of a log it writes `no log line`. Bytes behind the last line feed get no line. `replies` in an answer
-/// counts the lines that went out whole. It takes no memory.
+/// For a line that has no form of a log's lines it writes `no log line`. Bytes behind the last line feed get no line. `replies`
+/// in an answer counts the lines that went out whole. It takes no memory.
 ///
 /// It returns [`Served`] exactly where the last read was the end. Over ports that hadn't failed before, it fails with `Read` (42)
 /// exactly where the source failed, with `Write` (43) exactly where the sink did, and with `TooManyReads` (44) exactly where all
@@ -92,8 +92,8 @@ pub fn run_check_log<S: Source, K: Sink>(
     Err(ServeFault::TooManyReads { replies })
 }
 
-// Checks the lines that end in a piece, and adds to `replies` how many lines went out whole. `Err(n)`: the sink took the first
-// n bytes of one more line, which aren't all, and failed.
+// Checks the lines that end in a piece, and adds to `replies` how many verdicts went out whole. `Err(n)`: the sink took the
+// first n bytes of one more verdict's line, which aren't all, and failed.
 fn check_piece<K: Sink>(
     kept: &mut Underway,
     replies: &mut u64,
@@ -115,8 +115,8 @@ fn check_piece<K: Sink>(
     Ok(())
 }
 
-// Takes one more byte. Where it ends a line, a line with what is said of that one is written. `Err(n)`: the sink took the first
-// n bytes of the line written, which aren't all, and failed.
+// Takes one more byte of a log. A line feed ends a line of the log, and one line is written that says what that line is.
+// `Err(n)`: the sink took the first n bytes of the line to be written, which aren't all, and failed.
 fn check_byte<K: Sink>(
     kept: &mut Underway,
     replies: &mut u64,
@@ -143,7 +143,7 @@ fn check_byte<K: Sink>(
     Ok(())
 }
 
-// What is written of the line that is kept, with a line feed.
+// What is written of a line of the log, whose bytes are kept, once its line feed has come. It ends in a line feed, too.
 fn said_of(kept: &Underway) -> Outgoing
     ensures { (rest : List ℕ) → KeepsLine kept.now rest → IsLogVerdict rest result.items }
 {

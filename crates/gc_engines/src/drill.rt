@@ -21,7 +21,7 @@ use std::alloc::{AllocError, Global};
 /// read and played, and the whole text made. The lines are this project's own.
 ///
 /// `Read` comes where the source failed, and `InputTooLong` where it gave more than 65,536 bytes. `Schedule` names the first
-/// line that has the form of no event, counted from 1. `Memory` comes only where a growth was refused. After each of these
+/// line that has the form of no event, counted from 1. `Memory` comes only where memory was refused. After each of these
 /// the sink has taken nothing. `Output` comes where the sink failed, and then it has taken a part of the text.
 pub fn run_drill_on<S: Source, K: Sink>(
     alloc: Global,
@@ -35,7 +35,7 @@ pub fn run_drill_on<S: Source, K: Sink>(
     requires most { width ≤ WINDOW }
 
     // Which bytes the source gave, and how much of their schedule's output the sink took. Each read gave at least one byte,
-    // except a last one that was the end. Behind the end nothing was read.
+    // except a last one that was the end. After the end nothing was read.
     ensures drills { (given : List ℕ) × Consumes (S.remaining source.old) (S.remaining source.new) given
         × (S.reads source.new ≤ S.reads source.old + length given + end_reads (S.ended source.new))
         × DrillsOn instrument width given totals (K.taken sink.old) (K.taken sink.new) result }
@@ -47,7 +47,7 @@ pub fn run_drill_on<S: Source, K: Sink>(
     ensures whole { is_read_whole result ≡ true
         → IsAtEnd (S.remaining source.new) × (S.ended source.new ≡ true) × (S.reads source.old < S.reads source.new) }
 
-    // `Memory` comes only behind a read that was answered.
+    // `Memory` comes only after a read that was answered.
     ensures memory { result ≡ Err RunFault.Memory → S.reads source.old < S.reads source.new }
 
     // `Read` exactly where the source failed, and `Output` exactly where the sink did.
@@ -65,7 +65,7 @@ pub fn run_drill_on<S: Source, K: Sink>(
     }
 }
 
-/// Plays a schedule on the simulator as `run_drill_on` does on an instrument, and has the same ends.
+/// Plays a schedule as `run_drill_on` does, but on the simulator; the clauses mean what they mean there.
 pub fn run_drill_width<S: Source, K: Sink>(
     alloc: Global,
     source: &mut S,
@@ -88,7 +88,7 @@ pub fn run_drill_width<S: Source, K: Sink>(
     run_drill_on(alloc, Instrument::simulator(), source, sink, totals, width)
 }
 
-/// Plays a schedule as `run_drill_width` does, with a client that lets seven requests wait, and has the same ends.
+/// Plays a schedule as `run_drill_width` does, with a client that lets seven requests wait, with the same results.
 pub fn run_drill<S: Source, K: Sink>(
     alloc: Global,
     source: &mut S,

@@ -2,7 +2,7 @@
 
 ghost use Rattle.std.specs.Prelude.{◌≡◌, ◌≢◌, ◌≤◌, ◌↔◌, IsTrue, ℕ, List, length, take, drop, ◌++◌, ◌∷◌, IfSome, IfNone, MatchOption, Option};
 ghost use Rattle.gc_texts.specs.Procedures.{IsNumber, IsProcedure};
-ghost use Rattle.gc_engines.specs.Schedule.{IsNumbered, IsEvent, IsSend, IsRequested, IsCounted, IsWords};
+ghost use Rattle.gc_engines.specs.Schedule.{IsNumbered, IsEvent, IsSend, IsRequested, IsCounted};
 ghost use Rattle.gc_catalogue.specs.declared.call.Call.{Call};
 ghost use Rattle.gc_world.specs.declared.event.Event.{Event};
 
@@ -99,25 +99,6 @@ fn read_numbered(line: &[u8]) -> Option<Event>
     None
 }
 
-// Reads an event that is words alone. `None`: the line is no such event.
-fn read_words(line: &[u8]) -> Option<Event>
-    ensures { MatchOption result ((event : Event) → IsWords event → IsEvent line.now event → ⊥) (λ event. IsEvent line.now event) }
-{
-    if is_plain(b"up deliver", line) {
-        return Some(Event::UpDeliver);
-    }
-    if is_plain(b"down deliver", line) {
-        return Some(Event::DownDeliver);
-    }
-    if is_plain(b"restart client", line) {
-        return Some(Event::RestartClient);
-    }
-    if is_plain(b"restart instrument", line) {
-        return Some(Event::RestartInstrument);
-    }
-    None
-}
-
 /// The form of a schedule's lines: each is an event.
 pub(crate) struct EventForm;
 
@@ -126,21 +107,24 @@ impl LineForm for EventForm {
 
     ghost form = { IsEvent };
 
-    // The event that a line is, if it is one.
+    // The event that a line is, if it is one. Each kind of event is returned where it is read: an event has 176 bytes, and each
+    // function that hands it on copies it.
     fn read(line: &[u8]) -> Option<Event> {
-        read_event(line)
+        if let Some((target, call, deadline)) = read_send(line) {
+            return Some(Event::Send(target, call, deadline));
+        }
+        if is_plain(b"up deliver", line) {
+            return Some(Event::UpDeliver);
+        }
+        if is_plain(b"down deliver", line) {
+            return Some(Event::DownDeliver);
+        }
+        if is_plain(b"restart client", line) {
+            return Some(Event::RestartClient);
+        }
+        if is_plain(b"restart instrument", line) {
+            return Some(Event::RestartInstrument);
+        }
+        read_numbered(line)
     }
-}
-
-// Reads one line of a schedule. `None`: it has the form of no event.
-fn read_event(line: &[u8]) -> Option<Event>
-    ensures { MatchOption result ((event : Event) → IsEvent line.now event → ⊥) (λ event. IsEvent line.now event) }
-{
-    if let Some((target, call, deadline)) = read_send(line) {
-        return Some(Event::Send(target, call, deadline));
-    }
-    if let Some(event) = read_words(line) {
-        return Some(event);
-    }
-    read_numbered(line)
 }

@@ -25,7 +25,7 @@ const MOST_TARGETS: usize = 32;
 ///
 /// `InputTooLong` refuses a text of more than 65,536 bytes, before any line is looked at. `Schedule` names the first line that
 /// has no form, counted from 1. `SceneFull` refuses more than 32 targets, where each line has a form. `Memory` comes only where
-/// a growth was refused, at a line that has a form.
+/// the list of lines couldn't grow, at a line that has a form.
 pub fn read_scene(alloc: Global, text: &[u8]) -> Result<Instrument, RunFault>
     ensures found { IfOk result (λ instrument. IsScene text.now instrument) }
     ensures fits { IfOk result (λ instrument. IsFittingState instrument) }
@@ -83,7 +83,7 @@ fn name_of(lines: &[SceneLine]) -> Text
     name
 }
 
-// The simulator's name, as gc_instrument, too, makes it for itself.
+// The simulator's name, which gc_instrument has in private, too. These ten plain bytes always make a text.
 fn simulator_name() -> Text
     ensures { result ≡ simulator_opening.name }
 {

@@ -82,7 +82,7 @@ fn read_name(line: &[u8]) -> Option<Text>
     }
 }
 
-// The text that these bytes are. `None`: there are too many, or one may not stand in a text.
+// The text that these bytes are. `None`: they are more than 64 bytes, or one of them may not stand in a text.
 fn text_of(bytes: &[u8]) -> Option<Text>
     ensures { MatchOption result (IsText bytes.now → ⊥) (λ name. (name ≡ bytes.now) × IsText bytes.now) }
 {
@@ -92,7 +92,7 @@ fn text_of(bytes: &[u8]) -> Option<Text>
     }
 }
 
-// Reads `target HZ V DISTANCE`: a target. `None`: the line has no such form.
+// Reads `target HZ V DISTANCE`: a target's angles in radians and its slope distance in metres. `None`: the line has no such form.
 fn read_target(line: &[u8]) -> Option<Target>
     ensures { MatchOption result ((target : Target) → IsTarget line.now target → ⊥) (λ target. IsTarget line.now target) }
 {
@@ -102,7 +102,8 @@ fn read_target(line: &[u8]) -> Option<Target>
     }
 }
 
-// Reads `HZ V DISTANCE`: where a target stands. `None`: the words have no such form.
+// Reads `HZ V DISTANCE`: where a target stands, by its angles in radians and its slope distance in metres. `None`: the words have
+// no such form.
 fn read_prism(words: &[u8]) -> Option<Target>
     ensures { MatchOption result ((target : Target) → IsPrism words.now target → ⊥) (λ target. IsPrism words.now target) }
 {

@@ -14,7 +14,8 @@ use std::alloc::Global;
 /// Reads the text of a schedule: its events, in order.
 ///
 /// `InputTooLong` refuses a text of more than 65,536 bytes, before any line is looked at. `Schedule` names the first line that
-/// has the form of no event, counted from 1. `Memory` comes only where a growth was refused, at a line that is an event.
+/// has the form of no event, counted from 1. `Memory` comes only where the list of events couldn't grow, at a line that is an
+/// event.
 pub fn read_schedule(alloc: Global, text: &[u8]) -> Result<Vec<Event>, RunFault>
     ensures found { IfOk result (λ events. IsSchedule text.now events.items) }
     ensures too_long { (result ≡ Err RunFault.InputTooLong) ↔ (TEXT_LIMIT < length text.now) }

@@ -6,14 +6,14 @@ ghost use Rattle.gc_catalogue.specs.Calls.{IsCall};
 ghost use Rattle.gc_catalogue.specs.declared.call.Call.{Call};
 
 use crate::cuts::cut_at;
-use gc_catalogue::{Call, decode_call};
+use gc_catalogue::{Call, decode_call_into};
 use gc_lines::Request;
 use gc_values::read_whole;
 
 /// The greatest target.
 pub const TARGET_MAX: u64 = 4294967295;
 
-/// The number that digits write, without a sign. `None`: they write none, or one above `max`.
+/// The number that a text of digits writes, without a sign. `None`: the text is no such number, or the number is above `max`.
 pub fn number_of(digits: &[u8], max: u64) -> Option<u64>
     ensures { MatchOption result ((n : ℕ) → IsNumber digits.now n max → ⊥) (λ n. IsNumber digits.now n max) }
 {
@@ -25,6 +25,7 @@ pub fn number_of(digits: &[u8], max: u64) -> Option<u64>
 
 /// Reads the call of a procedure's number and its parameters: `RPC`, or `RPC PARAMS` with one byte of parameters at least.
 /// `None`: the text has no such form, no procedure has the number, or the parameters don't read as its own.
+#[inline(always)]
 pub fn read_procedure(text: &[u8]) -> Option<Call>
     ensures { MatchOption result ((call : Call) → IsProcedure text.now call → ⊥) (λ call. IsProcedure text.now call) }
 {
@@ -50,8 +51,9 @@ fn read_call(rpc: u16, params: &[u8]) -> Option<Call>
         id: None,
         params,
     };
-    match decode_call(&request) {
-        Ok(call) => Some(call),
+    let mut call = Call::NullProc;
+    match decode_call_into(&request, &mut call) {
+        Ok(()) => Some(call),
         Err(_) => None,
     }
 }

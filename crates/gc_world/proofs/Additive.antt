@@ -1,4 +1,5 @@
--- Delivering bytes in one event leaves the same streams as delivering them in two, in either direction.
+-- Delivering bytes in one event leaves the same streams as delivering them in two, in either direction. The cut of lines at n
+-- bytes (`cut`) says how many lines these bytes complete, and how many bytes of the next line they reach.
 use Rattle.std.proofs.Common.{◌≡◌, ℕ, zero, suc, ◌+◌, ◌-◌, ◌<◌, ◌≤◌, Bool, true, false, cond, List, [], ◌∷◌, ◌++◌, length, map, drop, refl, sym, ◌∙◌, ap, subst, arith, ltb}
 use mathlib.Core.Path.{ap₂}
 use Rattle.std.specs.Prelude.{replicate}
@@ -16,19 +17,19 @@ use Rattle.gc_world.proofs.Handed.{cut_long}
 abbrev behind : ℕ → Cut → Cut
 behind k c = record { lines = k + c.lines; gone = c.gone }
 
--- no further line in front of a cut is the cut
+-- a cut with no more lines in front of it is the same cut
 behind_none : (c : Cut) → behind 0 c ≡ c
 behind_none c = let e : 0 + c.lines ≡ c.lines = omega arith in ap (λ k. record { lines = k; gone = c.gone }) e
 
--- one more line in front of k others is k + 1 in front
+-- a cut with k more lines in front, and then one more, is the cut with k + 1 more
 behind_one : (k : ℕ) (c : Cut) → one_more (behind k c) ≡ behind (suc k) c
 behind_one k c = let e : suc (k + c.lines) ≡ suc k + c.lines = omega arith in ap (λ n. record { lines = n; gone = c.gone }) e
 
--- the cut of n further bytes behind a cut of the lines
+-- the cut c of these lines, continued by n further bytes
 abbrev again : List (List ℕ) → ℕ → Cut → Cut
 again lines n c = behind c.lines (cut (drop c.lines lines) (c.gone + n))
 
--- the cut of more bytes is the cut of the further ones behind that of the first ones
+-- the cut at m + n bytes is the cut at m bytes, continued by n further ones
 cut_add : (lines : List (List ℕ)) (m n : ℕ) → cut lines (m + n) ≡ again lines n (cut lines m)
 cut_add [] m n = sym (behind_none (record { lines = 0; gone = 0 }))
 cut_add (line ∷ lines) m n = by_size (ltb m (length line)) refl (cut_add lines (m - length line) n)
@@ -61,23 +62,23 @@ cut_end lines m n e =
     let same : c.lines + 0 ≡ c.lines = omega arith in
     cut_add lines m n ∙ ap (λ q. behind c.lines (cut q (c.gone + n))) e ∙ ap₂ (λ k g. record { lines = k; gone = g }) same (sym (cut_all lines m e))
 
--- k + l times a step are k times and l times
+-- a step k + l times is the step k times, and then l times
 replicate_add : (k l : ℕ) (step : Step) → replicate (k + l) step ≡ replicate k step ++ replicate l step
 replicate_add zero l step = let e : 0 + l ≡ l = omega arith in ap (λ n. replicate n step) e
 replicate_add (suc k) l step = let e : suc k + l ≡ suc (k + l) = omega arith in ap (λ n. replicate n step) e ∙ ap (λ s. step ∷ s) (replicate_add k l step)
 
--- of the empty list nothing is left
+-- dropping elements of the empty list leaves the empty list
 drop_none : {A : Type 0} (k : ℕ) (xs : List A) → xs ≡ [] → drop k xs ≡ []
 drop_none zero xs e = e
 drop_none (suc k) [] e = refl
 drop_none (suc k) (x ∷ xs) e = cc
 
--- without one element and without k more is without k + 1
+-- dropping one element, and then k more, is dropping k + 1
 drop_one : {A : Type 0} (k : ℕ) (xs : List A) → drop k (drop 1 xs) ≡ drop (suc k) xs
 drop_one k [] = drop_none k [] refl
 drop_one k (x ∷ xs) = refl
 
--- a function over what is left is what is left of the function over all
+-- mapping a function and dropping k elements may be done in either order
 drop_map : {A B : Type 0} (f : A → B) (k : ℕ) (xs : List A) → map f (drop k xs) ≡ drop k (map f xs)
 drop_map f zero xs = refl
 drop_map f (suc k) [] = refl
@@ -104,7 +105,8 @@ module _ {Client State : Type 0} (ends : Ends State) (rule : Rule Client) (d : D
   some_bytes : (v : Streams Client State) (n : ℕ) → 0 < length (lines d v.world.wire) → flows ends rule v (bytes d (n + 1)) ≡ to ends rule d v (cut (lines d v.world.wire) (gone d v + (n + 1)))
   some_bytes v n some = bytes_pass ends rule d v (n + 1) ∙ some_pass v n (lines d v.world.wire) some
 
-  -- going to a cut with more lines in front is going to those lines, and then to the cut
+  -- going to the cut b, and then on to the cut c, is going to one cut: the one with the lines of both, and with as many bytes of
+  -- the next line as c
   to_behind : (v : Streams Client State) (b : Cut) (c : Cut) → to ends rule d v (behind b.lines c) ≡ to ends rule d (to ends rule d v b) c
   to_behind v b c =
       let w = run ends rule (replicate b.lines (deliver d)) v.world in
@@ -140,7 +142,7 @@ module _ {Client State : Type 0} (ends : Ends State) (rule : Rule Client) (d : D
       ∙ sym (some_bytes u n under_u)
       ∙ ap (λ x. flows ends rule x (bytes d (n + 1))) (sym first)
 
-  -- where bytes leave no line under way, further bytes of these lines change nothing
+  -- where the first m + 1 bytes of an event complete all lines `q` that are under way, n further bytes change nothing
   stops : (v : Streams Client State) (m n : ℕ) (q : List (List ℕ)) → lines d v.world.wire ≡ q → lines d (flows ends rule v (bytes d (m + 1))).world.wire ≡ []
       → flows ends rule v (bytes d (m + 1 + n)) ≡ flows ends rule v (bytes d (m + 1))
   stops v m n [] e none =

@@ -1,4 +1,5 @@
--- The client that knows ids does what the client that is told the numbers does.
+-- The client that knows ids does what the client that is told the numbers does. `Sound` is the invariant of the run by numbers:
+-- what always holds of its wire and its client.
 use Rattle.std.proofs.Common.{◌≡◌, ℕ, zero, suc, ◌+◌, ◌-◌, ◌%◌, ◌<◌, ◌≤◌, Bool, true, false, List, [], ◌∷◌, ◌++◌, length, map, take, drop, Option, Some, None, refl, sym, ◌∙◌, ap, subst, arith, length-drop, ltb, eqb}
 use mathlib.Core.Path.{ap₂}
 use Rattle.std.proofs.lemmas.List.{drop-drop, drop-append-le, length_push, drop_all}
@@ -32,16 +33,16 @@ SameSend (Some x) (Some y) = SameSending x y
 SameSend None (Some y) = ⊥
 SameSend (Some x) None = ⊥
 
--- both clients settle the same, and are alike then
+-- both clients make the same settlements, and are alike afterwards
 pub record SameSettled (a : Settled ById) (b : Settled ByNumber) : Type 0 where
   pub settlements : a.settlements ≡ b.settlements
   pub client : Alike a.client b.client
 
--- of clients that are alike the one has as many requests that wait as the other
+-- clients that are alike have equally many waiting requests
 waiting_count : (a : ById) (b : ByNumber) → Alike a b → length a.waiting ≡ length b.requests - b.count
 waiting_count a b h = ap length h.window ∙ length-drop b.count b.requests
 
--- clients that are alike both refuse a send, or both send it with one id and are alike then
+-- clients that are alike both refuse a send, or both send it with the same id and are alike afterwards
 same_send : (a : ById) (b : ByNumber) (target : ℕ) (call : Call) (deadline : ℕ) (full : Bool) → b.since ≤ b.count → b.count ≤ length b.requests → Alike a b
     → SameSend (id_send a target call deadline full) (number_send b target call deadline full)
 same_send a b target call deadline true h1 h2 h = tt
@@ -55,7 +56,8 @@ same_send a b target call deadline false h1 h2 h =
       };
     }
 
--- a moment that the waiting requests get changes those that wait behind the count, and no others
+-- in a list of requests: expiring all but the first k, and then dropping the first k, gives the same as dropping the first k and
+-- then expiring the rest
 drop_expired : (now k : ℕ) (ps : List Pending) → map (expired now) (drop k ps) ≡ drop k (take k ps ++ map (expired now) (drop k ps))
 drop_expired now zero ps = refl
 drop_expired now (suc k) [] = refl
@@ -67,7 +69,7 @@ module _ {State : Type 0} (width : ℕ) (narrow : width ≤ 7) (ends : Ends Stat
     pub wire : a.wire ≡ b.wire
     pub client : Alike a.client b.client
 
-  -- a reply under way settles the same for both clients
+  -- a reply under way settles the same for both clients, whether its request is settled already (`old`) or not
   same_reply : (a : ById) (b : ByNumber) (x : Numbered (List ℕ)) (old : Bool) → ltb x.number b.count ≡ old → b.since ≤ b.count → b.count ≤ length b.requests
       → length b.requests ≤ b.count + width → b.count ≤ x.number + 1 → IsComing width ends Good b.since (length b.requests) x → Alike a b
       → SameSettled (hears a x.line (Some ((x.number - b.since) % 8))) (number_reply b x old)
@@ -99,7 +101,7 @@ module _ {State : Type 0} (width : ℕ) (narrow : width ≤ 7) (ends : Ends Stat
         };
       }))
 
-  -- worlds that agree do so, too, after both clients refused a send, or sent it with one id
+  -- worlds that agree still agree after both clients refused a send, or sent it with the same id
   same_requested : (a : World ById State) (b : World ByNumber State) (target : ℕ) (call : Call) (o : Option (Sending ById)) (o' : Option (Sending ByNumber))
       → SameSend o o' → Agree a b → Agree (requested a target call o) (requested b target call o')
   same_requested a b target call None None s h = record { wire = ap (λ (w : Wire State). record w { refused = w.refused + 1 }) h.wire; client = h.client }
@@ -115,7 +117,7 @@ module _ {State : Type 0} (width : ℕ) (narrow : width ≤ 7) (ends : Ends Stat
   same_requested a b target call None (Some y) s h = absurd s
   same_requested a b target call (Some x) None s h = absurd s
 
-  -- on one wire, once both clients settled the same and are alike, the worlds agree
+  -- where two wires are equal, and both clients settled the same and are alike, the two worlds agree
   same_booked : (v w : Wire State) (x : Settled ById) (y : Settled ByNumber) → v ≡ w → SameSettled x y → Agree (with_settled v x) (with_settled w y)
   same_booked v w x y e s =
       record { wire = ap₂ (λ (u : Wire State) (l : List _). record u { settled = u.settled ++ l }) e s.settlements; client = s.client }

@@ -1,4 +1,4 @@
--- An entry that is written where it was appended.
+-- An entry that is appended blank, and then written in its place in the list: the list is the old one with that entry appended.
 use Rattle.std.proofs.Common.{◌≡◌, ℕ, List, [], ◌∷◌, ◌++◌, length, get_or, refl, ◌∙◌, ap}
 use Rattle.std.specs.Prelude.{slice_set}
 use Rattle.std.proofs.Math.Seq.{set-append_seam}
@@ -9,16 +9,16 @@ last_of : {A : Type 0} (xs : List A) (x d : A) → get_or (xs ++ x ∷ []) (leng
 last_of [] x d = refl
 last_of (y ∷ xs) x d = last_of xs x d
 
--- the element at the place of the one that was appended is that one
+-- where a blank was appended at place n, the element at place n is the blank
 pub at_last : {A : Type 0} (xs items : List A) (n : ℕ) (blank now : A) → items ≡ xs ++ blank ∷ [] → n ≡ length xs → now ≡ get_or items n now → now ≡ blank
 at_last xs items n blank now are at is = is ∙ ap (λ l. get_or l n now) are ∙ ap (λ k. get_or (xs ++ blank ∷ []) k now) at ∙ last_of xs blank now
 
--- a list whose blank last place was written over is the list with that entry appended
+-- where a blank was appended to xs at place n, and place n was then overwritten by `new`, the list is xs with that entry appended
 pub set_last : {A : Type 0} (xs items : List A) (n : ℕ) (blank new entry : A) → items ≡ xs ++ blank ∷ [] → n ≡ length xs → new ≡ entry → slice_set items n new ≡ xs ++ entry ∷ []
 set_last xs items n blank new entry are at is =
     ap (λ l. slice_set l n new) are ∙ ap (λ k. slice_set (xs ++ blank ∷ []) k new) at ∙ set-append_seam xs blank [] new ∙ ap (λ e. xs ++ e ∷ []) is
 
--- lines with the same bytes are one
+-- lines with the same bytes are equal
 line_of : (xs ys : List ℕ) → xs ≡ ys → ◌≡◌ {A = ArrayVec ℕ} (record { items = xs }) (record { items = ys })
 line_of xs ys e = ap {A = List ℕ} {B = ArrayVec ℕ} (λ l. record { items = l }) e
 

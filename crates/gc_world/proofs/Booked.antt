@@ -1,4 +1,5 @@
--- An answer that is booked is a line that was made for that very request.
+-- An answer that is booked is a line that was made for that very request. Replies and answers are *backed* where each stands
+-- among the replies made, with the number of its request.
 use Rattle.std.proofs.Common.{◌≡◌, ℕ, zero, suc, ◌+◌, ◌-◌, ◌≤◌, inl, inr, Bool, true, false, List, [], ◌∷◌, ◌++◌, length, map, drop, Some, refl, sym, ap, subst, arith, ltb, ◌⊎◌}
 use Rattle.std.specs.Prelude.{slice_get}
 use Rattle.std.proofs.lemmas.Bool.{ltb-false}
@@ -18,7 +19,7 @@ abbrev pub Has : {A : Type 0} → A → List A → Type 0
 Has a [] = ⊥
 Has a (x ∷ xs) = (x ≡ a) ⊎ Has a xs
 
--- a list has an element also with others behind it
+-- an element of a list is one of the list with others behind it, too
 pub has_more : {A : Type 0} (a : A) (xs ys : List A) → Has a xs → Has a (xs ++ ys)
 has_more a [] ys h = absurd h
 has_more a (x ∷ xs) ys (inl e) = inl e
@@ -35,7 +36,7 @@ has_at a [] h = absurd h
 has_at a (x ∷ xs) (inl e) = (0, ap Some e)
 has_at a (x ∷ xs) (inr h) = (suc (has_at a xs h).0, (has_at a xs h).1)
 
--- an answer at place n is a line that was made for the request of this number
+-- if this outcome of request n is an answer, its line was made for request n; of the other outcomes this says nothing
 abbrev pub IsMade : List (Numbered (List ℕ)) → ℕ → Outcome → Type 0
 IsMade made n (Answered line) = Has (record { number = n; line = line }) made
 IsMade made n Late = Unit {0}
@@ -62,7 +63,7 @@ all_made_append : (made : List (Numbered (List ℕ))) (n m : ℕ) (ss ts : List 
 all_made_append made n m [] ts e h g = let e' : m ≡ n = omega arith in subst (λ k. AllMade made k ts) e' g
 all_made_append made n m (s ∷ ss) ts e h g = (h.0, all_made_append made (n + 1) m ss ts (omega arith) h.1 g)
 
--- lost requests have no answer to vouch for
+-- among settlements as lost there is no answer, so each answer among them was made for its request
 all_made_lost : (made : List (Numbered (List ℕ))) (n : ℕ) (ps : List Pending) → AllMade made n (map lost ps)
 all_made_lost made n [] = tt
 all_made_lost made n (p ∷ ps) = (tt, all_made_lost made (n + 1) ps)
@@ -73,7 +74,8 @@ made_met : (made : List (Numbered (List ℕ))) (n : ℕ) (line : List ℕ) (p : 
 made_met made n line p true e h = subst (λ b. IsMade made n (met (record p { given_up = b }) line).outcome) (sym e) tt
 made_met made n line p false e h = subst (λ b. IsMade made n (met (record p { given_up = b }) line).outcome) (sym e) h
 
--- settling through the place of a reply that was made for its request leaves answers that were
+-- where a reply made for request m settles the requests from n through m, each answer among these settlements was made for its
+-- request
 all_made_settle : (made : List (Numbered (List ℕ))) (n m k : ℕ) (line : List ℕ) (ps : List Pending) → n + k ≡ m → Has (record { number = m; line = line }) made → AllMade made n (settle k line ps)
 all_made_settle made n m k line [] e h = tt
 all_made_settle made n m zero line (p ∷ ps) e h =
@@ -104,7 +106,7 @@ module _ {State : Type 0} (width : ℕ) (ends : Ends State) (Good : State → Ty
         booked = all_made_more w.made _ 0 w.settled h.booked;
       }
 
-  -- delivering a reply keeps the replies and answers backed
+  -- delivering a reply, whether its request is settled already (`old`) or not, keeps the replies and answers backed
   backed_reply : (w : World ByNumber State) (x : Numbered (List ℕ)) (rest : List (Numbered (List ℕ))) (old : Bool) → ltb x.number w.client.count ≡ old
       → w.wire.down ≡ x ∷ rest → length w.wire.settled ≡ w.client.count → IsBacked w.wire.made w.wire.down w.wire.settled
       → IsBacked w.wire.made rest (w.wire.settled ++ (number_reply w.client x old).settlements)

@@ -1,4 +1,4 @@
--- A bound on the lists and the counts of a run, which each event raises by one.
+-- A bound n on the lists and the counts of a run: after each event they are within n + 1.
 use Rattle.std.proofs.Common.{ℕ, zero, suc, ◌+◌, ◌-◌, ◌<◌, ◌≤◌, Bool, true, false, List, [], ◌∷◌, ◌++◌, Option, Some, None, length, map, arith, subst, ltb, cond, refl, ap, ◌≡◌, ◌∙◌}
 use Rattle.std.specs.Prelude.{replicate}
 use Rattle.std.proofs.lemmas.List.{length-drop, length-map, length_push}
@@ -25,7 +25,7 @@ pub record IsWithin {State : Type 0} (n : ℕ) (w : Wire State) : Type 0 where
   pub refused : w.refused ≤ n
   pub idle : w.idle ≤ n
 
--- a loss makes a list no longer
+-- a list is at most one longer after a loss: in fact it isn't longer at all, but this bound is the one that is needed
 few_left : {A : Type 0} (k : ℕ) (xs : List A) → length (without k xs) ≤ length xs + 1
 few_left k [] = omega arith
 few_left zero (x ∷ xs) = omega arith
@@ -95,12 +95,13 @@ module _ {Client State : Type 0} (ends : Ends State) (rule : Rule Client) (n : �
         idle = omega (arith, h.idle);
       }
 
-  -- a request that is no longer under way adds at most one execution
+  -- a request that is answered moves from those under way (1 + `more`) to the executions, if it was executed (b): executions and
+  -- requests under way together are still at most n
   executes : (executed : List ℕ) (k more : ℕ) (b : Bool) → length executed + suc more ≤ n → length (cond b (executed ++ k ∷ []) executed) + more ≤ n
   executes executed k more true h = omega (arith, h, length_push executed k)
   executes executed k more false h = omega (arith, h)
 
-  -- a request that is answered moves from those under way to the executions and replies
+  -- a request that is answered moves from those under way to the executions and replies, so the bound stays
   answers : (w : Wire State) (x : Numbered Request) (rest : List (Numbered Request)) (hd : Handed State) → w.up ≡ x ∷ rest → IsWithin n w → IsWithin n (replied w x.number rest hd)
   answers w x rest hd e h =
       let m : Numbered (List ℕ) = record { number = x.number; line = hd.reply } in

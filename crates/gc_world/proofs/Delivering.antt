@@ -22,7 +22,7 @@ cut_zero (text ∷ texts) =
     (lt-ltb 0 (length (with_end text)) (omega (arith, end_length text)))
 
 module _ (ends : Ends State) (rule : Rule ById) (v : Streams ById State) where
-  -- the bytes that remain of the reply in front are its delivery
+  -- an event of exactly the bytes that remain of the reply in front does what the delivery of that reply does
   exactly : (n : ℕ) → remaining v.down_gone (down_lines v.world.wire) ≡ n + 1 → flows ends rule v (DownBytes (n + 1)) ≡ flows ends rule v DownDeliver
   exactly n e =
       let g = v.down_gone in

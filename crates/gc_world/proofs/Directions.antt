@@ -1,4 +1,5 @@
--- What holds in either direction of the line: by cases here, so that the lemmas that stand on it are said once.
+-- What holds in either direction of the line. The two directions are told apart here, so that other files state each lemma once
+-- for both.
 use Rattle.std.proofs.Common.{◌≡◌, ℕ, ◌<◌, List, [], ◌∷◌, length, map, drop, Some, refl, ap, arith}
 use Rattle.std.specs.Prelude.{replicate}
 use Rattle.gc_catalogue.specs.Texts.{request_line}
@@ -11,17 +12,17 @@ use Rattle.gc_world.specs.World.{Request, Numbered, Ends, Rule, Wire, World, idl
 module _ {Client State : Type 0} where
   -- What has gone.
 
-  -- what has gone of the front line is what was put there
+  -- once `reaches` set that n bytes of the front line have gone, n have gone
   pub gone_reached : (d : Direction) (v : Streams Client State) (w : World Client State) (n : ℕ) → gone d (reaches d v w n) ≡ n
   gone_reached Up v w n = refl
   gone_reached Down v w n = refl
 
-  -- putting a world and what has gone twice is putting the second
+  -- setting a world and the count of gone bytes twice leaves the second of each
   pub reaches_again : (d : Direction) (v : Streams Client State) (w : World Client State) (n : ℕ) (w' : World Client State) (n' : ℕ) → reaches d (reaches d v w n) w' n' ≡ reaches d v w' n'
   reaches_again Up v w n w' n' = refl
   reaches_again Down v w n w' n' = refl
 
-  -- putting what stands there changes nothing
+  -- setting the world and the count of gone bytes that are there already changes nothing
   pub reaches_same : (d : Direction) (v : Streams Client State) → reaches d v v.world (gone d v) ≡ v
   reaches_same Up v = refl
   reaches_same Down v = refl
@@ -34,11 +35,11 @@ module _ {Client State : Type 0} where
     delivered Up v = refl
     delivered Down v = refl
 
-    -- the streams behind n bytes of a direction, where these lines are under way
+    -- the streams after n bytes of a direction, where these lines are under way
     abbrev pub passing : Direction → Streams Client State → List (List ℕ) → ℕ → Streams Client State
     passing d v q n = reaches d v (run ends rule (passed (deliver d) q (gone d v) n) v.world) (left_gone q (gone d v) n)
 
-    -- the event of n bytes passes them over the lines under way
+    -- the event of n bytes leads to the streams that `passing` gives for the lines under way
     pub bytes_pass : (d : Direction) (v : Streams Client State) (n : ℕ) → flows ends rule v (bytes d n) ≡ passing d v (lines d v.world.wire) n
     bytes_pass Up v n = refl
     bytes_pass Down v n = refl
@@ -47,7 +48,7 @@ module _ {Client State : Type 0} where
     abbrev pub to : Direction → Streams Client State → Cut → Streams Client State
     to d v c = reaches d v (run ends rule (replicate c.lines (deliver d)) v.world) c.gone
 
-    -- What is under way behind a step.
+    -- What is under way after a step.
 
     -- delivering a request takes its line out of those under way
     up_less : (w : Wire State) (q : List (Numbered Request)) → w.up ≡ q

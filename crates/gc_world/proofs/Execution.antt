@@ -1,4 +1,6 @@
--- The record of execution, with the state before each, and what each reply answers.
+-- The executions of a run are as `IsExecution` has them, and each booked answer was made for its request. Both are drawn from a
+-- replay (`Replays`): the executions of requests ns, one after the other, with replies ms, from the state s to the state t; j
+-- executions had been before.
 use Rattle.std.proofs.Common.{◌≡◌, ℕ, zero, suc, ◌+◌, ◌-◌, ◌<◌, Bool, true, false, inl, inr, List, [], ◌∷◌, length, Option, Some, refl, sym, ◌∙◌, ap, subst, arith, eqb}
 use Rattle.std.specs.Prelude.{slice_get}
 use Rattle.gc_catalogue.specs.declared.call.Call.{Call}
@@ -16,7 +18,7 @@ use Rattle.gc_world.proofs.Replay.{IsReply, Replays}
 use Rattle.gc_world.proofs.Options.{some_is, none_is_not}
 use Rattle.gc_world.proofs.Places.{each_get, in_range, below}
 
--- what each element of a list has, an element of it has
+-- a property that each element of a list has holds of any element that is in the list
 pub each_has : {A : Type 0} (P : A → Type 0) (xs : List A) (x : A) → Each P xs → Has x xs → P x
 each_has P [] x h e = absurd e
 each_has P (y ∷ xs) x h (inl e) = subst P e h.0
@@ -31,7 +33,7 @@ digits width c target call deadline x e = digit (eqb (length c.requests - c.coun
     digit false e = subst (λ (y : Sending ByNumber). y.id < 8) (some_is _ x e) (omega arith)
 
 module _ {State : Type 0} (ends : Ends State) where
-  -- the state before execution k of those that are left
+  -- the state before execution k of a replay, counted from 0
   pub before_in : (sent : List Sent) (starts : List ℕ) (j : ℕ) (s : State) (ns : List ℕ) (ms : List (Numbered (List ℕ))) (t : State) → Replays ends sent starts j s ns ms t → ℕ → State
   before_in sent starts j s [] [] t h k = s
   before_in sent starts j s (n ∷ ns) (m ∷ ms) t h zero = s
@@ -39,7 +41,7 @@ module _ {State : Type 0} (ends : Ends State) where
   before_in sent starts j s [] (m ∷ ms) t h k = absurd h
   before_in sent starts j s (n ∷ ns) [] t h k = absurd h
 
-  -- the state before the first execution is the one that the run begins with
+  -- the state before the first execution is the one that the replay begins with
   before_first : (sent : List Sent) (starts : List ℕ) (j : ℕ) (s : State) (ns : List ℕ) (ms : List (Numbered (List ℕ))) (t : State)
       (h : Replays ends sent starts j s ns ms t) → before_in sent starts j s ns ms t h 0 ≡ s
   unfolding before_in
@@ -48,7 +50,7 @@ module _ {State : Type 0} (ends : Ends State) where
   before_first sent starts j s [] (m ∷ ms) t h = absurd h
   before_first sent starts j s (n ∷ ns) [] t h = absurd h
 
-  -- the state behind the last execution is the one that the run ends with
+  -- the state after the last execution is the one that the replay ends with
   before_last : (sent : List Sent) (starts : List ℕ) (j : ℕ) (s : State) (ns : List ℕ) (ms : List (Numbered (List ℕ))) (t : State)
       (h : Replays ends sent starts j s ns ms t) → t ≡ before_in sent starts j s ns ms t h (length ns)
   unfolding before_in
@@ -57,14 +59,15 @@ module _ {State : Type 0} (ends : Ends State) where
   before_last sent starts j s [] (m ∷ ms) t h = absurd h
   before_last sent starts j s (n ∷ ns) [] t h = absurd h
 
-  -- there are as many replies as executions
+  -- a replay has as many replies as executions
   replays_entries : (sent : List Sent) (starts : List ℕ) (j : ℕ) (s : State) (ns : List ℕ) (ms : List (Numbered (List ℕ))) (t : State) → Replays ends sent starts j s ns ms t → length ms ≡ length ns
   replays_entries sent starts j s [] [] t h = refl
   replays_entries sent starts j s (n ∷ ns) (m ∷ ms) t h = ap suc (replays_entries sent starts (j + 1) _ ns ms t h.2)
   replays_entries sent starts j s [] (m ∷ ms) t h = absurd h
   replays_entries sent starts j s (n ∷ ns) [] t h = absurd h
 
-  -- execution k of those that are left is that of request n
+  -- an execution of request n, which is the i-th execution, counted from 1: it leads from `state` to `next`, and `entry` is its
+  -- reply
   record IsStep (sent : List Sent) (starts : List ℕ) (i : ℕ) (state next : State) (entry : Option (Numbered (List ℕ))) (n : ℕ) : Type 0 where
     request : Sent
     found : slice_get sent n ≡ Some request
@@ -75,7 +78,7 @@ module _ {State : Type 0} (ends : Ends State) where
     made : entry ≡ Some (record { number = n; line = (ends.handed state id request.call).reply })
     next_is : next ≡ begun ends.restarted (has_number i starts) (ends.handed state id request.call).state
 
-  -- execution k of a replay is that of the request at place k, with the reply at place k
+  -- execution k of a replay is that of the request whose number stands at place k, and its reply is the one at place k
   step_at : (sent : List Sent) (starts : List ℕ) (j : ℕ) (s : State) (ns : List ℕ) (ms : List (Numbered (List ℕ))) (t : State)
       (h : Replays ends sent starts j s ns ms t) (k n : ℕ) → slice_get ns k ≡ Some n
       → IsStep sent starts (j + k + 1) (before_in sent starts j s ns ms t h k) (before_in sent starts j s ns ms t h (suc k)) (slice_get ms k) n
@@ -109,13 +112,16 @@ module _ {State : Type 0} (ends : Ends State) where
   step_at sent starts j s [] (m ∷ ms) t h k n e = absurd h
   step_at sent starts j s (n' ∷ ns) [] t h k n e = absurd h
 
-  -- these replies are among those that were made, each of those is one of them, and no request is executed twice
+  -- Let a replay execute what the wire w has as executed, let each of its replies be among those that the wire has as made, and
+  -- each of those be one of its replies.
   module _ (opening : State) (w : Wire State) (replies : List (Numbered (List ℕ)))
       (h : Replays ends w.sent w.starts 0 (ends.restarted opening) w.executed replies w.state)
       (each : Each (λ m. Has m w.made) replies) (among : Each (λ m. Has m replies) w.made) where
+    -- the state before execution j, by the replay
     state_before : ℕ → State
     state_before = before_in w.sent w.starts 0 (ends.restarted opening) w.executed replies w.state h
 
+    -- execution j is that of request n, as `IsExecuted` has it
     executed_at : (j n : ℕ) → slice_get w.executed j ≡ Some n → IsExecuted ends w state_before j n
     unfolding state_before
     executed_at j n e =
@@ -138,6 +144,7 @@ module _ {State : Type 0} (ends : Ends State) where
           made = at.1;
         }
 
+    -- each reply of the replay is that of one of the executions
     reply_at : (entry : Numbered (List ℕ)) → Has entry replies → IsReplyAt ends w state_before entry
     unfolding state_before executed_at
     reply_at entry has =
@@ -150,6 +157,7 @@ module _ {State : Type 0} (ends : Ends State) where
         let found : slice_get w.executed at.0 ≡ Some entry.number = n.1 ∙ ap Some number in
         subst (λ (m : Numbered (List ℕ)). IsReplyAt ends w state_before m) (sym entry_is) (record { j = at.0; executed = n.1; execution = executed_at at.0 n.0 n.1; line = refl })
 
+    -- where the executed numbers strictly increase, the executions are as `IsExecution` has them
     pub execution : Increasing 0 w.executed → IsExecution ends opening w
     unfolding state_before
     execution climbs =
@@ -164,13 +172,13 @@ module _ {State : Type 0} (ends : Ends State) where
         }
 
 module _ {State : Type 0} (ends : Ends State) (Good : State → Type 0) (ex : IsExchange ends Good) where
-  -- the entry is a reply to the call of the request of its number
+  -- the entry is a reply to the call of the request whose number it has
   pub record IsAnswerAt (sent : List Sent) (m : Numbered (List ℕ)) : Type 0 where
     pub request : Sent
     pub found : slice_get sent m.number ≡ Some request
     pub reply : IsReplyTo ends Good request.call m.line
 
-  -- the reply of an execution is one to the call of the request of its number
+  -- the reply of an execution is a reply to the call of the request whose number it has
   answer_at : (sent : List Sent) (s : State) (n : ℕ) (m : Numbered (List ℕ)) (t : State) → Good s → IsReply ends sent s n m t → IsAnswerAt sent m
   answer_at sent s n m t good h =
       record {
@@ -179,12 +187,12 @@ module _ {State : Type 0} (ends : Ends State) (Good : State → Type 0) (ex : Is
         reply = record { state = s; good = good; id = h.id; small = h.small; executed = h.executed; reply = h.line };
       }
 
-  -- an execution, with a restart behind it or without, leads to a good state
+  -- an execution, with a restart after it or without, leads to a good state
   good_next : (sent : List Sent) (s : State) (n : ℕ) (m : Numbered (List ℕ)) (t : State) (b : Bool) → Good s → IsReply ends sent s n m t → Good (begun ends.restarted b t)
   good_next sent s n m t false good h = subst Good h.leads (ex.stays_good s h.id h.request.call good h.small)
   good_next sent s n m t true good h = ex.restart_good t (subst Good h.leads (ex.stays_good s h.id h.request.call good h.small))
 
-  -- each reply of a replay is one to the call of the request of its number
+  -- each reply of a replay is a reply to the call of the request whose number it has
   pub answers_at : (sent : List Sent) (starts : List ℕ) (j : ℕ) (s : State) (ns : List ℕ) (ms : List (Numbered (List ℕ))) (t : State) → Good s
       → Replays ends sent starts j s ns ms t → Each (IsAnswerAt sent) ms
   answers_at sent starts j s [] [] t good h = tt
@@ -196,7 +204,8 @@ module _ {State : Type 0} (ends : Ends State) (Good : State → Type 0) (ex : Is
   answers_at sent starts j s [] (m ∷ ms) t good h = absurd h
   answers_at sent starts j s (n ∷ ns) [] t good h = absurd h
 
-  -- an answer at place m, among settlements made for their requests, was made for request n + m
+  -- where the answers of settlements, the first of which is number n, were made for their requests, the one at place m was made
+  -- for request n + m
   made_get : (made : List (Numbered (List ℕ))) (n : ℕ) (ss : List Settlement) (m : ℕ) (s : Settlement) → AllMade made n ss → slice_get ss m ≡ Some s → IsMade made (n + m) s.outcome
   made_get made n [] m s h e = absurd (none_is_not s e)
   made_get made n (x ∷ ss) zero s h e =
@@ -206,7 +215,8 @@ module _ {State : Type 0} (ends : Ends State) (Good : State → Type 0) (ex : Is
       let i : n + 1 + m ≡ n + suc m = omega arith in
       subst (λ k. IsMade made k s.outcome) i (made_get made (n + 1) ss m s h.1 e)
 
-  -- an answer that is booked was made for that very request
+  -- where settlements stand one for one, each answer was made for its request, and each reply made is one to its request's
+  -- call, an answer at place m is booked for request m
   pub booked : (sent : List Sent) (made : List (Numbered (List ℕ))) (settled : List Settlement) → IsOneForOne sent settled → AllMade made 0 settled
       → Each (IsAnswerAt sent) made → (m : ℕ) (s : Settlement) → slice_get settled m ≡ Some s → IsBooked ends Good made m s
   booked sent made settled one all at m s e bytes answered =

@@ -1,4 +1,5 @@
--- The report of a list of events is faithful.
+-- The report of a list of events is faithful. Two runs are *level* where they take the same steps, and as many bytes have gone
+-- of each front line.
 use Rattle.std.proofs.Common.{ℕ, List, length, refl, ◌≤◌, subst}
 use Rattle.gc_client.specs.Rule.{ById, Windowed}
 use Rattle.gc_instrument.specs.State.{State, IsFittingState, restarted}

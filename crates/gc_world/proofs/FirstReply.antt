@@ -1,4 +1,5 @@
--- The first reply to a request, where it comes unsettled, settles it: as answered, or as late where it was given up.
+-- A reply to a request that isn't settled settles it: as answered, or as late where it was given up. Two runs are *level* where
+-- they take the same steps, and as many bytes have gone of each front line.
 use Rattle.std.proofs.Common.{◌≡◌, ℕ, zero, suc, ◌+◌, ◌-◌, ◌<◌, ◌≤◌, Bool, true, false, cond, List, [], ◌∷◌, ◌++◌, length, map, take, drop, Some, refl, sym, ◌∙◌, ap, subst, arith, append_assoc, eqb}
 use mathlib.Core.Path.{ap₂}
 use Rattle.std.specs.Prelude.{slice_get}
@@ -33,28 +34,29 @@ use Rattle.gc_world.proofs.Sound.{Sound, sound_step}
 
 -- Lists.
 
--- an element behind the first k is the one at that place of the whole list
+-- element n - k of the list behind the first k is element n of the whole list
 slice_drop : {A : Type 0} (k : ℕ) (xs : List A) (n : ℕ) → k ≤ n → slice_get (drop k xs) (n - k) ≡ slice_get xs n
 slice_drop zero xs n le = let e : n - 0 ≡ n = omega arith in ap (slice_get xs) e
 slice_drop (suc k) [] n le = refl
 slice_drop (suc k) (x ∷ xs) zero le = absurd (omega (arith, le))
 slice_drop (suc k) (x ∷ xs) (suc n) le = let e : suc n - suc k ≡ n - k = omega arith in ap (slice_get (drop k xs)) e ∙ slice_drop k xs n (omega (arith, le))
 
--- where two lists are seen alike, each element of the one has an element of the other at its place that is seen alike
+-- where f over xs and g over ys give the same list, the element x at place n of xs has a partner y at place n of ys: g gives of
+-- y what f gives of x
 matched : {A B C : Type 0} (f : A → C) (g : B → C) (xs : List A) (ys : List B) (n : ℕ) (x : A) → map f xs ≡ map g ys → slice_get xs n ≡ Some x → (y : B) × (slice_get ys n ≡ Some y) × (g y ≡ f x)
 matched f g xs ys n x e h = get_seen g ys n (f x) (ap (λ l. slice_get l n) (sym e) ∙ get_map f xs n x h)
 
--- settling through place k loses the first k and meets the one at place k
+-- settling through place k settles the first k requests as lost, and the one at place k by the line
 settle_at : (k : ℕ) (line : List ℕ) (ps : List Pending) (p : Pending) → slice_get ps k ≡ Some p → settle k line ps ≡ map lost (take k ps) ++ met p line ∷ []
 settle_at k line [] p h = absurd (none_is_not p h)
 settle_at zero line (q ∷ ps) p h = ap (λ r. met r line ∷ []) (some_is q p h)
 settle_at (suc k) line (q ∷ ps) p h = ap (λ l. lost q ∷ l) (settle_at k line ps p h)
 
--- a settlement with this outcome of a request as asked
+-- the settlement, with this outcome, of a request with this target and this call
 abbrev ended_as : Outcome → Asked → Settlement
 ended_as outcome a = record { target = a.target; call = a.call; outcome = outcome }
 
--- requests that wait are lost as the requests that were sent are, where both asked the same
+-- where requests that wait and requests that were sent have the same targets and calls, their settlements as lost are the same
 lost_alike : (ps : List Pending) (rs : List Sent) → map of_pending ps ≡ map of_sent rs → map lost ps ≡ map (ended Lost) rs
 lost_alike [] [] e = refl
 lost_alike [] (r ∷ rs) e = cc
@@ -64,7 +66,8 @@ lost_alike (p ∷ ps) (r ∷ rs) e =
     let tail : map of_pending ps ≡ map of_sent rs = cc in
     ap₂ (λ (a : Asked) (l : List Settlement). ended_as Lost a ∷ l) front (lost_alike ps rs tail)
 
--- the requests that wait are those that were sent, behind those that are settled
+-- where the settled requests, followed by those that wait, are the requests that were sent, those that wait are the ones sent
+-- after the settled ones
 waiting_alike : (settled : List Settlement) (waiting : List Pending) (sent : List Sent) → map of_settled settled ++ map of_pending waiting ≡ map of_sent sent
     → map of_pending waiting ≡ map of_sent (drop (length settled) sent)
 waiting_alike settled waiting sent e =
@@ -75,7 +78,8 @@ waiting_alike settled waiting sent e =
 abbrev outcome_of : Pending → List ℕ → Outcome
 outcome_of p line = cond p.given_up Late (Answered line)
 
--- a reply to request n settles the requests before it as lost and then request n, which is one that was sent
+-- a reply with this line to request n, which the client has as p, settles the requests before n as lost and then n itself, which
+-- is one that was sent
 pub record IsGained (settled : List Settlement) (waiting : List Pending) (sent : List Sent) (n : ℕ) (line : List ℕ) (p : Pending) : Type 0 where
   pub request : Sent
   pub found : slice_get sent n ≡ Some request
@@ -117,7 +121,7 @@ module _ (width : ℕ) where
       ap (λ q. (down_delivered (by_numbers width) w q).wire.settled) e
       ∙ ap (λ old. w.wire.settled ++ (number_reply w.client x old).settlements) (lt-ltb x.number w.client.count lt) ∙ append-nil w.wire.settled
 
-  -- a send adds one request, which is the one sent
+  -- a send that isn't refused puts its request at the end of the client's list: its place is how many requests were sent before
   sent_entry : (w : World ByNumber State) (target : ℕ) (call : Call) (deadline : ℕ) (full : Bool) → length w.client.requests ≡ length w.wire.sent
       → length (requested w target call (number_send w.client target call deadline full)).wire.sent ≡ length w.wire.sent + 1
       → slice_get (requested w target call (number_send w.client target call deadline full)).client.requests (length w.wire.sent) ≡ Some
@@ -147,15 +151,16 @@ module _ (width : ℕ) (narrow : width ≤ WINDOW) (opening : State) where
   wire_in : (events : List Event) → left_by_ids width opening events ≡ (counted_by events).world.wire
   wire_in events = level_wire width narrow ends KeptFits reads (restarted opening) tt (seen_by events) (counted_by events) (level events)
 
-  -- the run of one more event is that of the others, and then the event
+  -- the run by numbers of one more event is the run of the others, and then that event
   counted_more : (events : List Event) (e : Event) → counted_by (events ++ e ∷ []) ≡ flows ends (by_numbers width) (counted_by events) e
   counted_more events e = flow_append ends (by_numbers width) events (e ∷ []) (untouched (numbers_open (restarted opening)))
 
-  -- the streams behind the send of a request, by numbers
+  -- the streams after the earlier events and then the send of a request, in the run by numbers
   abbrev behind : (earlier : List Event) (target : ℕ) (call : Call) (deadline : ℕ) → Streams ByNumber State
   behind earlier target call deadline = flows ends (by_numbers width) (counted_by earlier) (event.Send target call deadline)
 
-  -- the request that this send made, as the client that is told the numbers has it after these later events, while it isn't settled
+  -- the request that this send made, as the client that is told the numbers has it after these later events, while it isn't
+  -- settled
   abbrev mark_of : (earlier : List Event) (target : ℕ) (call : Call) (deadline : ℕ) (later : List Event) → Pending
   mark_of earlier target call deadline later = marked_all ends (by_numbers width) later (behind earlier target call deadline) (pending_of target call deadline)
 
@@ -185,7 +190,8 @@ module _ (width : ℕ) (narrow : width ≤ WINDOW) (opening : State) where
       (entry_all width ends KeptFits reads steps w n (pending_of s.target s.call deadline)
       (sound_step width ends KeptFits reads v (Send s.target s.call deadline) (sound_in s.earlier)) at (subst (λ (u : World ByNumber State). u.client.count ≤ n) whole unsettled))
 
-  -- what a delivery leaves settled is what the step of the run by numbers leaves
+  -- an event that delivers the front reply leaves in the run by ids the settlements that the step `Down_deliver` leaves in the
+  -- run by numbers
   delivered_by : (events : List Event) (delivery : Event) → IsDelivery (seen_by events) delivery → (x : Numbered (List ℕ)) (rest : List (Numbered (List ℕ)))
       → (left_by_ids width opening events).down ≡ x ∷ rest → (left_by_ids width opening (events ++ delivery ∷ [])).settled ≡
       (happens ends (by_numbers width) (counted_by events).world Down_deliver).wire.settled
@@ -197,8 +203,8 @@ module _ (width : ℕ) (narrow : width ≤ WINDOW) (opening : State) where
       ∙ sym (flow_append ends (by_ids width ends) events (DownDeliver ∷ []) (untouched (ids_open (restarted opening))))) in
       ap (λ (u : Wire State). u.settled) (one ∙ wire_in (events ++ DownDeliver ∷ [])) ∙ ap (λ (u : Streams ByNumber State). u.world.wire.settled) (counted_more events DownDeliver)
 
-  -- where the client that is told the numbers has p as request n, the delivery of the reply settles the request: as late where p was given
-  -- up, else as answered
+  -- where the client that is told the numbers has p as request n, the delivery of the reply settles the request: as late where
+  -- p was given up, else as answered
   settled_at : (events : List Event) (n : ℕ) (line : List ℕ) (p : Pending) → slice_get (counted_by events).world.client.requests n ≡ Some p
       → DeliverySettles width opening events n line (outcome_of p line)
   settled_at events n line p h delivery is next =

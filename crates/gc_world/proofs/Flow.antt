@@ -20,12 +20,12 @@ module _ {Client State : Type 0} (ends : Ends State) (rule : Rule Client) where
   taken [] v = []
   taken (e ∷ es) v = (course_on v e).steps ++ taken es (flows ends rule v e)
 
-  -- the world behind events is that behind their steps
+  -- the world after events is that after their steps
   pub flow_run : (es : List Event) (v : Streams Client State) → (flow ends rule es v).world ≡ run ends rule (taken es v) v.world
   flow_run [] v = refl
   flow_run (e ∷ es) v = flow_run es (flows ends rule v e) ∙ sym (run_append (course_on v e).steps (taken es (flows ends rule v e)) v.world)
 
-  -- events, and then others, are all of them
+  -- running events, and then others, is running all of them
   pub flow_append : (xs ys : List Event) (v : Streams Client State) → flow ends rule (xs ++ ys) v ≡ flow ends rule ys (flow ends rule xs v)
   flow_append [] ys v = refl
   flow_append (x ∷ xs) ys v = flow_append xs ys (flows ends rule v x)
@@ -47,7 +47,7 @@ module _ {State : Type 0} (width : ℕ) (narrow : width ≤ 7) (ends : Ends Stat
       ap (λ (w : World ById State). w.wire) h.ids ∙ same_wire width narrow ends Good ex h.steps state good
       ∙ sym (ap (λ (w : World ByNumber State). w.wire) h.numbers)
 
-  -- an event takes the same course on level streams
+  -- on level streams an event makes the same steps, and as many bytes have gone of each front line afterwards
   same_course : (a : Streams ById State) (b : Streams ByNumber State) (e : Event) → AreLevel a b → course_on a e ≡ course_on b e
   same_course a b e h =
       ap (λ (w : Wire State). course (up_lines w) (down_lines w) a.up_gone a.down_gone e) (level_wire a b h)

@@ -1,4 +1,6 @@
--- Bytes go over line by line, in either direction: what is left of them hands over what is left of the lines.
+-- For the loop that hands over n bytes of a direction, one completed line after the other: at each turn, handing over the bytes
+-- that are left leads to the same streams as handing over all n bytes at the start. An event *takes no memory* where `TakesNone`
+-- holds of it: no list grows, as where bytes complete no line.
 use Rattle.std.proofs.Common.{◌≡◌, ℕ, zero, suc, ◌+◌, ◌-◌, ◌<◌, ◌≤◌, Bool, true, false, cond, ◌⊎◌, inl, inr, List, [], ◌∷◌, length, map, drop, Option, Some, None, refl, sym, ◌∙◌, ap, subst, arith}
 use mathlib.Core.Path.{ap₂}
 use Rattle.std.specs.Prelude.{replicate, IsTrue, ◌↔◌}
@@ -18,7 +20,8 @@ use Rattle.gc_world.specs.World.{Numbered, Down_deliver, down_delivered, run}
 use Rattle.gc_world.proofs.Directions.{gone_reached, reaches_again, reaches_same, delivered, passing, bytes_pass, to, one_less, not_idle}
 use Rattle.gc_world.proofs.Shown.{part}
 
--- bytes that reach past the front line complete it, and then cut the lines behind it
+-- where n bytes complete the front line, the cut at n bytes is the cut of the lines behind that line at the bytes that are left,
+-- with one more completed line
 pub cut_long : (line : List ℕ) (lines : List (List ℕ)) (n : ℕ) → length line ≤ n → cut (line ∷ lines) n ≡ one_more (cut lines (n - length line))
 cut_long line lines n le = ap (λ b. cond {A = Cut} b (record { lines = 0; gone = n }) (one_more (cut lines (n - length line)))) (le-ltb n (length line) le)
 
@@ -27,7 +30,7 @@ pub in_front : (gone : ℕ) (texts : List (List ℕ)) → 0 < remaining gone (ma
 in_front gone [] some = absurd (omega (arith, some))
 in_front gone (t ∷ ts) some = (t, ts, refl)
 
--- where no byte of the front line remains, no line is in flight
+-- where no byte of the front line remains, no line is under way
 none_under_way : (gone : ℕ) (lines : List (List ℕ)) → IsPart gone lines → remaining gone lines ≡ 0 → (lines ≡ []) × (gone ≡ 0)
 none_under_way gone [] part e = (refl, part)
 none_under_way gone (line ∷ lines) part e = absurd (omega (arith, part, e))
@@ -37,9 +40,10 @@ stray_same : (c : ById) (line : List ℕ) (o : Option ℕ) → fits c o ≡ fals
 stray_same c line None e = refl
 stray_same c line (Some id) e = ap (λ b. (id_settled c line (place_in c id) b).client) e
 
--- The streams v, of which these n bytes go over; and the streams now, with this many of them left.
+-- One turn of that loop: n bytes of the direction d are to go over on the streams v, and `used` of them complete the front line.
 module _ (width : ℕ) (d : Direction) (v : Streams ById State) where
-  -- the front line takes `used` of the n bytes: the cut of all n is that of the others at the lines behind it, and one line more
+  -- the front line takes `used` of the n bytes: the cut at all n bytes is the cut of the lines behind that line at the n - used
+  -- others, and one line more
   record IsNext (n used : ℕ) : Type 0 where
     text : List ℕ
     behind : List (List ℕ)
@@ -62,11 +66,11 @@ module _ (width : ℕ) (d : Direction) (v : Streams ById State) where
         tail = sym (one_less ends (by_ids width ends) d v.world ∙ ap (drop 1) f.2);
       }
 
-  -- the streams behind the delivery of the front line
+  -- the streams after the delivery of the front line
   abbrev after : Streams ById State
   after = reaches d v (does width v.world (deliver d)) 0
 
-  -- handing over n bytes is delivering the front line, and handing over the others
+  -- handing over n bytes is delivering the front line, and then handing over the n - used others
   next_same : (n used : ℕ) → IsNext n used → handed width d v n ≡ handed width d (goes_on width v (delivery d)) (n - used)
   next_same n used h =
       let rule = by_ids width ends in
@@ -115,7 +119,8 @@ module _ (width : ℕ) (v : Streams ById State) where
             (subst (λ j. AreStrays v.world.client j w.wire.down) count (subst (λ q. AreStrays v.world.client k q) tail all.1)),
       )
 
--- where the bytes of an event take no memory, neither does the delivery of the front line nor do the other bytes, in either direction
+-- where the bytes of an event take no memory, neither does the delivery of the front line nor do the other bytes, in either
+-- direction
 spared : (width : ℕ) (d : Direction) (v : Streams ById State) (n used : ℕ) → IsNext width d v n used → TakesNone width v (bytes d n)
     → TakesNone width v (delivery d) × TakesNone width (goes_on width v (delivery d)) (bytes d (n - used))
 spared width Up v n used h t = absurd (next_takes width v n used h t)
@@ -147,7 +152,7 @@ module _ (width : ℕ) (d : Direction) (s : Seen) (v : Streams ById State) (n le
         idle = next_idle width d h.now left used one ∙ h.idle;
       }
 
-  -- the delivery of the front line takes no memory, where the bytes take none
+  -- where the n bytes of the event take no memory, the delivery of the front line takes none
   pub next_spares : (used : ℕ) → used ≡ remaining (gone d h.now) (lines d h.now.world.wire) → 0 < used → used ≤ left → TakesNone width v (bytes d n) → TakesNone width h.now (delivery d)
   next_spares used e some le t = (spared width d h.now left used (next width d h.now left used e some le) (h.spare t)).0
 
@@ -159,11 +164,11 @@ module _ (width : ℕ) (d : Direction) (s : Seen) (v : Streams ById State) (n le
   pub runs_dry : remaining (gone d h.now) (lines d h.now.world.wire) ≡ 0 → AreStreamsOf width s (handed width d v n)
   runs_dry e = subst (λ x. AreStreamsOf width s x) (sym (ended width d h.now left (part width s h.now h.shows d) e) ∙ h.same) h.shows
 
--- a test doesn't both hold and fail
+-- no truth value is both true and false
 pub is_not : (b : Bool) → b ≡ true → b ≡ false → ⊥
 is_not b t f = let wrong : true ≡ false = sym t ∙ f in cc
 
--- where bytes neither complete a line nor are fewer than remain of it, none remain
+-- where l bytes don't complete a line of which r bytes remain (b is the test for that), and aren't fewer than r either, r is 0
 pub runs_out : (b : Bool) (r l : ℕ) → IsTrue b ↔ ((0 < r) × (r ≤ l)) → b ≡ false → (l < r → ⊥) → r ≡ 0
 runs_out b zero l iff e le = refl
 runs_out b (suc r) l iff e le = absurd (is_not b (iff.1 (omega arith, least (suc r) l le)) e)
@@ -175,7 +180,7 @@ runs_out b (suc r) l iff e le = absurd (is_not b (iff.1 (omega arith, least (suc
         by_either (inl lt) = absurd (no_less lt)
         by_either (inr le1) = le1
 
--- an event of some bytes, where some are under way, hands them over
+-- an event of n bytes leads to the streams that `handed` gives, where n isn't 0 and bytes are under way
 pub under_way : (width : ℕ) (d : Direction) (v : Streams ById State) (n r : ℕ) → r ≡ remaining (gone d v) (lines d v.world.wire) → (n ≡ 0 → ⊥) → (r ≡ 0 → ⊥)
     → goes_on width v (bytes d n) ≡ handed width d v n
 under_way width d v n r e not none = bytes_pass ends (by_ids width ends) d v n ∙ by_cases n (lines d v.world.wire) not (λ z. none (e ∙ z))

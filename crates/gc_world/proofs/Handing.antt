@@ -28,11 +28,11 @@ use Rattle.gc_world.specs.Record.{IsReplyTo}
 use Rattle.gc_world.specs.Clients.{ends}
 use Rattle.gc_world.proofs.Options.{some_is}
 
--- what is kept is a reply with its id
+-- where a reply is kept, its line is a reply line with the id that it is kept with
 abbrev pub KeptFits : State → Type 0
 KeptFits s = IsFittingKept s.kept
 
--- where a choice gives a line, its test holds, and the line is the one that it names
+-- where `if b then Some l else None` is a line, b is true, and l is that line
 chosen : (b : Bool) (l line : List ℕ) → cond b (Some l) None ≡ Some line → (b ≡ true) × (l ≡ line)
 chosen true l line e = (refl, (cc))
 chosen false l line e = let never : ⊥ = cc in absurd never
@@ -44,11 +44,11 @@ kept_heard (Some k) id line e h =
     let c = chosen (eqb k.id id) k.line line e in
     ap heard (sym c.1) ∙ ap id_in (reply_again k.line h.fields h.is_reply) ∙ h.same_id ∙ ap Some (eqb-true k.id id c.0)
 
--- the line of carrying out a call reads as the reply with its id
+-- the reply line to a call that was carried out reads back as the reply with this id
 new_read : (s : State) (id : ℕ) (call : Call) → id < 8 → (let x = exec s call in reply_at (executed_line id x) ≡ Ok (reply_of id x.rc x.answer x.state.precision))
 new_read s id call digit = let x = exec s call in reply_back (reply_of id x.rc x.answer x.state.precision) (record { rc_com = lit< tt; id = digit; rc = (exec_outcome s call).code })
 
--- the line of carrying out a call may be kept with its id
+-- the reply line to a call that was carried out may be kept with this id
 new_kept : (s : State) (id : ℕ) (call : Call) → id < 8 → IsFittingReply (record { id = id; line = executed_line id (exec s call) })
 new_kept s id call digit =
     let x = exec s call in
@@ -59,7 +59,8 @@ new_kept s id call digit =
       same_id = refl;
     }
 
--- the reply to a request reads as one with the request's id, where what is kept does
+-- where the kept reply, if any, reads as one with the id that it is kept with, the reply to each request reads as one with the
+-- request's id, and the reply that is kept afterwards reads so, too
 pub reads : IsExchange ends KeptFits
 reads =
     record {
@@ -74,7 +75,7 @@ reads =
       restart_good = λ s good. tt;
     }
 
--- the two ends understand one another
+-- the client reads in each reply the id of its request, and the instrument's state stays fitting: its numbers keep their ranges
 pub exchange : IsExchange ends IsFittingState
 exchange =
     record {
@@ -90,7 +91,8 @@ exchange =
 abbrev pub kept_of : State → Option KeptReply
 kept_of s = s.kept
 
--- the instrument keeps its last reply as the world's laws ask
+-- the instrument keeps its last reply as `IsKeeper` asks: a request with the kept id gets the kept line, and any other is
+-- executed
 pub keeper : IsKeeper ends kept_of
 keeper =
     record {
@@ -112,19 +114,19 @@ new_id s id call e = elim (kept_or_not (kept_line s.kept (Some id))) [
 abbrev pub bare : State → State
 bare s = with_kept None s
 
--- apart from what is kept, executing a request is carrying out its call
+-- apart from the kept reply, the state after a request was executed is the one after carrying out its call
 pub bare_after : (s : State) (id : ℕ) (call : Call) → (handed s id call).executed ≡ true → bare (handed s id call).state ≡ (exec (bare s) call).state
 bare_after s id call e =
     ap (λ (x : Handed State). bare x.state) (handed_new s id call (new_id s id call e))
     ∙ sym (ap (λ (x : Executed). x.state) (executes_apart s None call))
 
--- the reply to a request that was executed is the line of carrying out its call apart from what is kept
+-- the reply to a request that was executed is the reply line of carrying out its call in the state with nothing kept
 pub bare_line : (s : State) (id : ℕ) (call : Call) → (handed s id call).executed ≡ true → (handed s id call).reply ≡ executed_line id (exec (bare s) call)
 bare_line s id call e =
     ap (λ (x : Handed State). x.reply) (handed_new s id call (new_id s id call e))
     ∙ sym (ap (λ (x : Executed). executed_line id x) (executes_apart s None call))
 
--- where a state is t apart from what is kept, the state restarted, or as it is, is t restarted, or as it is, apart from what is kept
+-- where s without its kept reply is t, the same holds after a restart of both (b true), and without one
 pub bare_begun : (b : Bool) (s t : State) → bare s ≡ t → bare (begun restarted b s) ≡ begun restarted b t
 bare_begun false s t e = e
 bare_begun true s t e = ap restarted e
@@ -152,7 +154,7 @@ repeated_by_id s id call same = elim (kept_or_not (kept_line s.kept (Some id))) 
   | inr e ↦ absurd (not_kept s.kept id e (same ∙ ap (λ (x : Handed State). option_map (λ (k : KeptReply). k.id) x.state.kept) (handed_new s id call e)))
 ]
 
--- a choice of two fine readings is fine
+-- where two readings are each a value or a refusal, so is the one that b chooses
 fine_if : (b : Bool) (value refusal : Reading) → IsValueOrRefusal value → IsValueOrRefusal refusal → IsValueOrRefusal (cond b value refusal)
 fine_if true value refusal v r = v
 fine_if false value refusal v r = r

@@ -1,8 +1,9 @@
--- The id gives the number back.
+-- From an id back to the request. `count` requests are settled, `total` were sent, `since` of them before the client's last
+-- start, and request `number` has the id (number - since) % 8.
 use Rattle.std.proofs.Common.{◌≡◌, ℕ, ◌+◌, ◌-◌, ◌%◌, ◌<◌, ◌≤◌, arith}
 use Rattle.gc_client.specs.Rule.{place}
 
--- the id of a number under way that isn't settled has as its place how far the number is above the count of settled requests
+-- the place of the id of a request that isn't settled is number - count: how many unsettled requests were sent before it
 pub place_within : (since count total number : ℕ) → since ≤ count → count ≤ number → number < total → total ≤ count + 7
     → place ((total - since) % 8) (total - count) ((number - since) % 8) ≡ number - count
 place_within since count total number h1 h2 h3 h4 = omega arith

@@ -23,23 +23,24 @@ abbrev pub touched_all : List Step → Pending → Pending
 touched_all [] p = p
 touched_all (e ∷ es) p = touched_all es (touched e p)
 
--- a step settles no fewer, and each request that isn't settled behind it was only touched
+-- the client d that step e makes of c has settled no fewer requests; and each request of c that d hasn't settled stands at the
+-- same place in d, changed as `touched` says
 pub record IsOnward (e : Step) (c d : ByNumber) : Type 0 where
   pub count : c.count ≤ d.count
   pub entries : (n : ℕ) (p : Pending) → slice_get c.requests n ≡ Some p → d.count ≤ n → slice_get d.requests n ≡ Some (touched e p)
 
--- a client that a step leaves as it is goes onward, where the step touches no request
+-- `IsOnward` holds of a step that leaves the client as it is, and touches no request
 stays : (e : Step) (c : ByNumber) → ((p : Pending) → touched e p ≡ p) → IsOnward e c c
 stays e c t = record { count = omega arith; entries = λ n p h le. h ∙ ap Some (sym (t p)) }
 
--- a moment marks request n, which waits
+-- where a moment is applied to the requests from place k on, request n among them is expired by it
 expired_at : (now k : ℕ) (ps : List Pending) (n : ℕ) (p : Pending) → k ≤ n → slice_get ps n ≡ Some p → slice_get (take k ps ++ map (expired now) (drop k ps)) n ≡ Some (expired now p)
 expired_at now zero ps n p le h = get_map (expired now) ps n p h
 expired_at now (suc k) [] n p le h = absurd (none_is_not p h)
 expired_at now (suc k) (q ∷ ps) zero p le h = absurd (omega (arith, le))
 expired_at now (suc k) (q ∷ ps) (suc n) p le h = expired_at now k ps n p (omega (arith, le)) h
 
--- `IsOnward` holds of a delivery to the client, by the reply
+-- `IsOnward` holds where the reply x comes to the client, be its request settled already (`old`) or not
 onward_reply : (c : ByNumber) (x : Numbered (List ℕ)) (old : Bool) → ltb x.number c.count ≡ old → IsOnward Down_deliver c (number_reply c x old).client
 onward_reply c x true t = stays Down_deliver c (λ p. refl)
 onward_reply c x false t = record { count = omega (arith, ltb-false _ _ t); entries = λ n p h le. h }
@@ -80,13 +81,13 @@ module _ {State : Type 0} (width : ℕ) (ends : Ends State) where
   onward w Nothing within = stays Nothing w.client (λ p. refl)
 
   module _ (Good : State → Type 0) (ex : IsExchange ends Good) where
-    -- a run settles no fewer
+    -- in a run the count of settled requests never falls
     count_grows : (es : List Step) (w : World ByNumber State) → Sound width ends Good w → w.client.count ≤ (run ends (by_numbers width) es w).client.count
     count_grows [] w s = omega arith
     count_grows (e ∷ es) w s =
         omega (arith, (onward w e s.within).count, count_grows es (happens ends (by_numbers width) w e) (sound_step width ends Good ex w e s))
 
-    -- where request n isn't settled at the end, it was only touched by each step
+    -- a request n that isn't settled at the end of a run is then what the run's steps, in order, make of it
     pub entry_all : (es : List Step) (w : World ByNumber State) (n : ℕ) (p : Pending) → Sound width ends Good w → slice_get w.client.requests n ≡ Some p
         → (run ends (by_numbers width) es w).client.count ≤ n → slice_get (run ends (by_numbers width) es w).client.requests n ≡ Some (touched_all es p)
     entry_all [] w n p s h le = h

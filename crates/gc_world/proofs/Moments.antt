@@ -11,7 +11,8 @@ use Rattle.gc_world.specs.World.{Ends, Rule, Step, Up_deliver, Up_lose, Up_repea
 use Rattle.gc_world.proofs.Flow.{taken}
 use Rattle.gc_world.proofs.Marks.{touched, touched_all}
 
--- what an event does to a request that waits: its deadline stays, and it is given up by a moment at or past that, or before
+-- an event makes q of a request p that waits: the deadline stays; q is given up if p was, or if the event is a moment at or
+-- past the deadline; and else it isn't
 pub record IsTouched (e : Event) (p q : Pending) : Type 0 where
   pub deadline : q.deadline ≡ p.deadline
   pub stays : p.given_up ≡ true → q.given_up ≡ true
@@ -22,16 +23,16 @@ pub record IsTouched (e : Event) (p q : Pending) : Type 0 where
 tells_none : (e : Event) (p : Pending) → ((now : ℕ) → e ≡ Expire now → ⊥) → IsTouched e p p
 tells_none e p none = record { deadline = refl; stays = λ g. g; early = λ g h. g; reached = λ now is le. absurd (none now is) }
 
--- an event is one moment
+-- equal `Expire` events have the same moment
 moment_is : (a b : ℕ) → Expire a ≡ Expire b → a ≡ b
 moment_is a b e = cc
 
--- anything or true is true
+-- `b || true` is true
 or_true : (b : Bool) → b || true ≡ true
 or_true true = refl
 or_true false = refl
 
--- a test or false is the test
+-- `b || false` is b
 or_false : (b : Bool) → b || false ≡ b
 or_false true = refl
 or_false false = refl
@@ -40,7 +41,7 @@ or_false false = refl
 abbrev IsQuiet : Step → Type 0
 IsQuiet step = (p : Pending) → touched step p ≡ p
 
--- a quiet step, if it is possible, leaves requests as they are
+-- a quiet step leaves requests as they are, and so does doing nothing in its place (b true)
 quiet_line : (k gone : ℕ) (step : Step) (p : Pending) (b : Bool) → IsQuiet step → touched_all (cond b World.Nothing step ∷ []) p ≡ p
 quiet_line k gone step p true q = refl
 quiet_line k gone step p false q = q p
@@ -61,7 +62,7 @@ touched_append : (xs ys : List Step) (p : Pending) → touched_all (xs ++ ys) p 
 touched_append [] ys p = refl
 touched_append (x ∷ xs) ys p = touched_append xs ys (touched x p)
 
--- an event that leaves a request as it is touches it so
+-- where q equals p, `IsTouched e p p` gives `IsTouched e p q`
 still : (e : Event) (p q : Pending) → q ≡ p → IsTouched e p p → IsTouched e p q
 still e p q is h = subst (λ x. IsTouched e p x) (sym is) h
 
@@ -114,7 +115,7 @@ module _ {Client State : Type 0} (ends : Ends State) (rule : Rule Client) where
   abbrev pub marked_all : List Event → Streams Client State → Pending → Pending
   marked_all es v p = touched_all (taken ends rule es v) p
 
-  -- what events with one more in front leave of a request is what they leave of what that one left
+  -- what one event and then others leave of a request is what the others leave of what the first one left
   marked_more : (e : Event) (es : List Event) (v : Streams Client State) (p : Pending) → marked_all (e ∷ es) v p ≡ marked_all es (flows ends rule v e) (marked ends rule v e p)
   marked_more e es v p = touched_append (course_on v e).steps (taken ends rule es (flows ends rule v e)) p
 
@@ -132,7 +133,8 @@ module _ {Client State : Type 0} (ends : Ends State) (rule : Rule Client) where
       ∙ in_time es (flows ends rule v e) (marked ends rule v e p) (t.early g (λ now is. h now (at_head e (Expire now) es is)))
       (λ now has. subst (λ d. now < d) (sym t.deadline) (h now (at_tail e (Expire now) es has)))
 
-  -- where a moment at or past its deadline is the first event or among the others, a request is given up
+  -- the step of the induction in `too_late`: where a moment at or past the request's deadline is the event e, or among the events
+  -- es, the request is given up; for es this is the premise
   late_by : (e : Event) (es : List Event) (v : Streams Client State) (p : Pending) (now : ℕ) → p.deadline ≤ now
       → (Contains es (Expire now) → (marked_all es (flows ends rule v e) (marked ends rule v e p)).given_up ≡ true)
       → (e ≡ Expire now) ⊎ Contains es (Expire now) → (marked_all es (flows ends rule v e) (marked ends rule v e p)).given_up ≡ true
@@ -184,12 +186,13 @@ AllEarly deadline es = (now : ℕ) → Contains es (Expire now) → now < deadli
 abbrev pub OneReaches : ℕ → List Event → Type 0
 OneReaches deadline es = (now : ℕ) × Contains es (Expire now) × (deadline ≤ now)
 
--- with an early event in front of early ones, each moment lies before the deadline
+-- where the event e and all the events es are early, a moment that is e or among es lies before the deadline
 earlier_or : (deadline now : ℕ) (e : Event) (es : List Event) → Early deadline e → AllEarly deadline es → (e ≡ Expire now) ⊎ Contains es (Expire now) → now < deadline
 earlier_or deadline now e es h hs (inl is) = h now is
 earlier_or deadline now e es h hs (inr has) = hs now has
 
--- with one more event in front, all are early or one reaches the deadline
+-- where e is early or reaches the deadline, and all events es are early or one of them reaches it, the same holds of e and es
+-- together
 either_tells : (deadline : ℕ) (e : Event) (es : List Event) → Early deadline e ⊎ Reaches deadline e → AllEarly deadline es ⊎ OneReaches deadline es
     → AllEarly deadline (e ∷ es) ⊎ OneReaches deadline (e ∷ es)
 either_tells deadline e es (inr (now, is, le)) rest = inr (now, at_head e (Expire now) es is, le)

@@ -1,4 +1,6 @@
--- The instrument that keeps its last reply executes each request at most once, in order.
+-- The instrument that keeps its last reply executes each request at most once, in order. In this file `since`, `count` and
+-- `total` are how many requests had been sent at the client's last start, are settled, and were sent; `top` is one above the
+-- number executed last.
 use Rattle.std.proofs.Common.{◌≡◌, ℕ, ◌+◌, ◌-◌, ◌%◌, ◌<◌, ◌≤◌, inl, inr, Bool, true, false, List, [], ◌∷◌, ◌++◌, length, Option, Some, None, cond, refl, sym, ◌∙◌, ap, subst, arith, ltb, eqb}
 use Rattle.std.proofs.lemmas.List.{length_push}
 use Rattle.std.proofs.lemmas.Bool.{eqb-true, eqb-false, cases_eq}
@@ -25,17 +27,18 @@ increasing_push : (low n : ℕ) (xs : List ℕ) → low ≤ n → Each (λ x. x 
 increasing_push low n [] le b h = (le, tt)
 increasing_push low n (x ∷ xs) le b h = (h.0, increasing_push (x + 1) n xs (omega (arith, b.0)) b.1 h.1)
 
--- no number under way upward is below the one in front
+-- where numbers never fall from `low` on, each number in the queue is at least low - 1
 rising_each : (low : ℕ) (xs : List (Numbered Request)) → Rising low (numbers xs) → Each (λ x. low ≤ x.number + 1) xs
 rising_each low [] h = tt
 rising_each low (x ∷ xs) h = (h.0, each_more (λ y. x.number + 1 ≤ y.number + 1) (λ y. low ≤ y.number + 1) (λ y k. omega (arith, k, h.0)) xs (rising_each (x.number + 1) xs h.1))
 
--- in numbers that never fall, those behind one of them don't fall below it
+-- where numbers never fall from `low` on, n among them is at least low - 1, and those behind n never fall below n
 rising_tail : (low n : ℕ) (xs ys : List ℕ) → Rising low (xs ++ n ∷ ys) → (low ≤ n + 1) × Rising (n + 1) ys
 rising_tail low n [] ys h = h
 rising_tail low n (x ∷ xs) ys h = let r = rising_tail (x + 1) n xs ys h.1 in (omega (arith, h.0, r.0), r.1)
 
--- how the requests in flight compare with what the instrument keeps: `top` is one above the number executed last
+-- how the requests under way upward stand to those executed. Where nothing is kept, none of them was executed. Where a reply is
+-- kept, it has the id of request top - 1, and each of them is that request or a later one
 abbrev Above : Option KeptReply → ℕ → ℕ → ℕ → List (Numbered Request) → Type 0
 Above None since count top up = Each (λ x. top ≤ x.number) up
 Above (Some k) since count top up = (since < top) × (k.id ≡ (top - 1 - since) % 8) × (count ≤ top) × Each (λ x. top ≤ x.number + 1) up
@@ -70,12 +73,12 @@ above_count : (kept : Option KeptReply) (since count count' top : ℕ) (up : Lis
 above_count None since count count' top up le h = h
 above_count (Some q) since count count' top up le h = (h.0, h.1, le, h.3)
 
--- where a choice gives a line, its test holds
+-- where `if b then Some l else None` is a line, b is true
 chosen : (b : Bool) (l line : List ℕ) → (cond b (Some l) None ≡ Some line) → b ≡ true
 chosen true l line e = refl
 chosen false l line e = cc
 
--- where a choice gives no line, its test fails
+-- where `if b then Some l else None` is none, b is false
 not_chosen : (b : Bool) (l : List ℕ) → (cond b (Some l) None ≡ None) → b ≡ false
 not_chosen true l e = cc
 not_chosen false l e = refl
@@ -100,7 +103,7 @@ is_last width (Some k) since count top total x up line narrow e h1 h2 h3 h =
     let same = eqb-true _ _ (chosen (eqb k.id ((x.number - since) % 8)) k.line line e) in
     omega (arith, same, h.0, h.1, h.2, h.3.0)
 
--- what is kept is the reply to the last request that was executed
+-- if a reply is kept, it is among these replies, as the one to the last request that was executed, number top - 1
 abbrev Held : Option KeptReply → ℕ → List (Numbered (List ℕ)) → Type 0
 Held None top replies = Unit {0}
 Held (Some k) top replies = Has (record { number = top - 1; line = k.line }) replies
@@ -120,7 +123,7 @@ held_line (Some k) id n top line replies e t h =
     let m : top - 1 ≡ n = omega arith in
     subst (λ i. Has (record { number = i; line = line }) replies) m (subst (λ (q : List ℕ). Has (record { number = top - 1; line = q }) replies) l h)
 
--- while a reply is kept, the number below the top was executed last
+-- while a reply is kept, the request executed last is number top - 1
 abbrev IsLast : Option KeptReply → ℕ → List ℕ → Type 0
 IsLast None top executed = Unit {0}
 IsLast (Some k) top executed = (earlier : List ℕ) × (executed ≡ earlier ++ (top - 1) ∷ [])
@@ -148,7 +151,9 @@ recent_of width since count top total (Some k) executed up above last few going 
 
 module _ {State : Type 0} (width : ℕ) (narrow : width ≤ 7) (ends : Ends State) (Good : State → Type 0) (ex : IsExchange ends Good)
     (kept : State → Option KeptReply) (keeper : IsKeeper ends kept) (opening : State) where
-  -- what was executed is a run of the instrument, with these replies; each entry is one of them, and each of them is an entry
+  -- the wire's executions are a replay (`Replays`) with these replies. The replies that were made are these and no others
+  -- (`among`, `each`); no start counts more executions than there were; the kept reply is that of the request executed last
+  -- (`held`); and each request under way is the one that was sent with its number (`lines`)
   pub record IsTold (w : Wire State) (top : ℕ) : Type 0 where
     pub replies : List (Numbered (List ℕ))
     pub replays : Replays ends w.sent w.starts 0 (ends.restarted opening) w.executed replies w.state
@@ -158,8 +163,8 @@ module _ {State : Type 0} (width : ℕ) (narrow : width ≤ 7) (ends : Ends Stat
     pub held : Held (kept w.state) top replies
     pub lines : Each (IsOf w.sent) w.up
 
-  -- each request was executed once: the executed numbers increase, they and those of the replies under way are below `top`, and `Above`,
-  -- `IsLast` and `IsTold` hold of the wire with this `top`
+  -- each request was executed once: the executed numbers increase, they and those of the replies under way are below `top`, and
+  -- `Above`, `IsLast` and `IsTold` hold of the wire with this `top`
   pub record IsOnce (c : ByNumber) (w : Wire State) : Type 0 where
     pub top : ℕ
     pub climbs : Increasing 0 w.executed
@@ -276,7 +281,7 @@ module _ {State : Type 0} (width : ℕ) (narrow : width ≤ 7) (ends : Ends Stat
       let exe : hd.executed ≡ true = sym (ap (λ (k : Handed State). k.executed) is) ∙ keeper.executes w.wire.state x.line.id x.line.call o in
       subst (λ v. IsOnce w.client (replied w.wire x.number rest (record hd { executed = v }))) (sym exe) (once_new w x rest hd q is o exe s h)
 
-  -- `IsOnce` holds also once a client sent one more request
+  -- `IsOnce` holds also once a client sent one more request, and its counts `since` and `count` are as before
   once_sent : (w : World ByNumber State) (target : ℕ) (call : Call) (deadline : ℕ) (x : Sending ByNumber) → x.id < 8
       → length x.client.requests ≡ length w.client.requests + 1 → x.client.since ≡ w.client.since → x.client.count ≡ w.client.count → Sound width ends Good w
       → IsOnce w.client w.wire → IsOnce x.client (requested w target call (Some x)).wire

@@ -1,10 +1,10 @@
--- Elements that may be there.
+-- `Some` and `None`.
 use Rattle.std.proofs.Common.{◌≡◌, Some, None}
 
--- two elements that may be there and are the same are one element
+-- where `Some a` equals `Some b`, a equals b
 pub some_is : {A : Type 0} (a b : A) → Some a ≡ Some b → a ≡ b
 some_is a b e = cc
 
--- no element isn't some element
+-- `None` doesn't equal `Some a`
 pub none_is_not : {A : Type 0} (a : A) → None ≡ Some a → ⊥
 none_is_not a e = cc

@@ -21,7 +21,7 @@ Plain b = (b ≢ 10) × (b ≢ 13)
 
 -- Plain bytes have no line feed.
 
--- plain bytes are a run without a line feed
+-- the bytes in front of the first line feed are all of them, where they are plain
 goes_on : (bs : List ℕ) → AllByRecursion Plain bs → prefix_len (λ b. not (is_line_feed b)) bs ≡ length bs
 goes_on [] h = refl
 goes_on (b ∷ bs) h =
@@ -45,7 +45,7 @@ take_pieces (suc g) (suc m) (x ∷ xs) le =
     let e : suc m - suc g ≡ m - g = omega arith in
     ap (λ l. x ∷ l) (ap (λ k. take g xs ++ take k (drop g xs)) e ∙ take_pieces g m xs (omega (arith, le)))
 
--- of a list with another behind it, the first bytes are those of the list
+-- the first m elements of two lists in a row are those of the first list, where it has at least m
 take_front : {A : Type 0} (m : ℕ) (xs ys : List A) → m ≤ length xs → take m (xs ++ ys) ≡ take m xs
 take_front zero xs ys le = refl
 take_front (suc m) [] ys le = absurd (omega (arith, le))
@@ -60,7 +60,7 @@ with_return : (line : List ℕ) (m : ℕ) → m ≡ length line + 1 → take m (
 with_return line m e =
     ap (take m) (sym (append_assoc line (13 ∷ []) (10 ∷ []))) ∙ take_at (line ++ 13 ∷ []) (10 ∷ []) m (length-append line (13 ∷ []) ∙ sym e)
 
--- at most 512 bytes and a CR are the frame of these bytes as a line
+-- at most 512 bytes and a CR, ended by a line feed, are a frame: the line of these bytes
 return_frame : (line : List ℕ) → length line ≤ 512 → frame_of (line ++ 13 ∷ []) ≡ Line (record { items = line })
 return_frame line fits =
     let long : length (line ++ 13 ∷ []) ≡ length line + 1 = length-append line (13 ∷ []) in
@@ -69,10 +69,13 @@ return_frame line fits =
     let items : line ≡ take (length (line ++ 13 ∷ []) - 1) (line ++ 13 ∷ []) = sym (ap (λ n. take n (line ++ 13 ∷ [])) one ∙ take_at line (13 ∷ []) (length line) refl) in
     sym (line_frame (line ++ 13 ∷ []) (record { items = line }) (omega (arith, long)) last (omega (arith, long)) items)
 
--- What an assembler stands for behind a piece of a line.
+-- What an assembler stands for once it was fed a piece of a line: the bytes of a line that it has taken so far. `old` is the
+-- assembler before, and `new` after. The premise about `position` is the contract of the call that fed the piece: there is no
+-- line feed in it.
 
 module _ {P Q : Type 0} (old new : Kept) (line : List ℕ) (plain : IsPlain line) where
-  -- feeding a piece that ends within the line stands for the line's bytes up to there
+  -- where an assembler stood (`old`) for the first g bytes of the line, and was fed those from there to place m, within the line,
+  -- it then stands (`new`) for the first m bytes
   pub fed_within : (g m : ℕ) → g ≤ m → m ≤ length line
       → (position is_line_feed (take (m - g) (drop g line)) ≡ None → P × Q × ((rest : List ℕ) → StandsFor old rest → StandsFor new (rest ++ take (m - g) (drop g line))))
       → StandsFor old (take g (with_end line)) → StandsFor new (take m (with_end line))
@@ -81,35 +84,36 @@ module _ {P Q : Type 0} (old new : Kept) (line : List ℕ) (plain : IsPlain line
       (subst (StandsFor old) (take_front g line (13 ∷ 10 ∷ []) (omega (arith, le, within))) stands) in
       subst (StandsFor new) (take_pieces g m line le ∙ sym (take_front m line (13 ∷ 10 ∷ []) within)) fed
 
-  -- feeding what remains of the line, without CR LF, stands for the line
+  -- where an assembler stood (`old`) for the first g bytes of the line, and was fed its other bytes, without CR LF, it then
+  -- stands (`new`) for the line
   pub fed_line : (g : ℕ) → g ≤ length line
       → (position is_line_feed (take (length line - g) (drop g line)) ≡ None → P × Q × ((rest : List ℕ) → StandsFor old rest → StandsFor new (rest ++ take (length line - g) (drop g line))))
       → StandsFor old (take g (with_end line)) → StandsFor new line
   fed_line g le next stands = subst (StandsFor new) (take_at line (13 ∷ 10 ∷ []) (length line) refl) (fed_within g (length line) le (omega arith) next stands)
 
--- feeding a CR behind the line stands for the line and the CR
+-- where an assembler stood for a line, and was fed a CR, it stands for the line and the CR
 pub fed_return : {P Q : Type 0} (old new : Kept) (line : List ℕ) (m : ℕ) → m ≡ length line + 1
     → (position is_line_feed (13 ∷ []) ≡ None → P × Q × ((rest : List ℕ) → StandsFor old rest → StandsFor new (rest ++ 13 ∷ [])))
     → StandsFor old line → StandsFor new (take m (with_end line))
 fed_return old new line m e next stands = subst (StandsFor new) (sym (with_return line m e)) ((next refl).2 line stands)
 
--- behind a line and its CR, a line feed makes the line
+-- where an assembler stands for a line and its CR, the frame that a line feed ends is that line
 pub fed_end : (line : List ℕ) → length line ≤ 512 → frame_of (line ++ 13 ∷ []) ≡ Line (record { items = line })
 fed_end line fits = return_frame line fits
 
--- behind all bytes of a line but the last, a line feed makes the line
+-- where an assembler stands for all bytes of a line but its line feed, the frame that a line feed ends is that line
 pub fed_feed : (line : List ℕ) (g : ℕ) → g ≡ length line + 1 → length line ≤ 512 → frame_of (take g (with_end line) ++ []) ≡ Line (record { items = line })
 fed_feed line g e fits = ap frame_of (append-nil (take g (with_end line)) ∙ with_return line g e) ∙ return_frame line fits
 
--- frames of one line have one line's bytes
+-- two frames that are equal lines have equal bytes
 line_items : (xs ys : List ℕ) → ◌≡◌ {A = Frame} (Line (record { items = xs })) (Line (record { items = ys })) → xs ≡ ys
 line_items xs ys e = let same : ◌≡◌ {A = ArrayVec ℕ} (record { items = xs }) (record { items = ys }) = cc in ap (λ (v : ArrayVec ℕ). v.items) same
 
--- a lent line that shows these bytes has them
+-- where a lent frame is the line l, and is seen as the line of these bytes, l has these bytes
 pub came_out : (f : Lent) (l : _) (items : List ℕ) → f ≡ lent.Line l → lent_seen f ≡ Line (record { items = items }) → l.now ≡ items
 came_out f l items is seen = let e : Line (record { items = l.now }) ≡ Line (record { items = items }) = ap lent_seen (sym is) ∙ seen in line_items l.now items e
 
--- a lent frame that shows a line is a line
+-- a lent frame that is seen as a line can't be anything but `Line`
 pub none_else : (f : Lent) (items : List ℕ) → lent_seen f ≡ Line (record { items = items }) → ((l : _) → f ≡ lent.Line l → ⊥) → ⊥
 none_else (lent.Line l) items seen not = not l refl
 none_else lent.Cleared items seen not = cc

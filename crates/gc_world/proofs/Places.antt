@@ -1,16 +1,16 @@
--- Places in lists: what stands at one, and what is seen there.
+-- The element at a place of a list, also of a list that was mapped or appended to.
 use Rattle.std.proofs.Common.{◌≡◌, ℕ, zero, suc, ◌<◌, List, [], ◌∷◌, ◌++◌, length, map, get_or, Some, refl, sym, ap, subst, arith}
 use Rattle.std.specs.Prelude.{slice_get}
 use Rattle.gc_world.specs.Order.{Each}
 use Rattle.gc_world.proofs.Options.{some_is, none_is_not}
 
--- a list seen by a function has at a place what the function sees of the element there
+-- where xs has x at place n, map f xs has f x there
 pub get_map : {A B : Type 0} (f : A → B) (xs : List A) (n : ℕ) (x : A) → slice_get xs n ≡ Some x → slice_get (map f xs) n ≡ Some (f x)
 get_map f [] n x e = absurd (none_is_not x e)
 get_map f (y ∷ xs) zero x e = ap (λ z. Some (f z)) (some_is y x e)
 get_map f (y ∷ xs) (suc n) x e = get_map f xs n x e
 
--- what a list seen by a function has at a place is seen of what the list has there
+-- where map f xs has y at place n, xs has an x there of which f makes y
 pub get_seen : {A B : Type 0} (f : A → B) (xs : List A) (n : ℕ) (y : B) → slice_get (map f xs) n ≡ Some y → (x : A) × (slice_get xs n ≡ Some x) × (f x ≡ y)
 get_seen f [] n y e = absurd (none_is_not y e)
 get_seen f (x ∷ xs) zero y e = (x, refl, some_is (f x) y e)
@@ -28,7 +28,7 @@ in_range [] k lt = absurd (omega arith)
 in_range (x ∷ xs) zero lt = (x, refl)
 in_range (x ∷ xs) (suc k) lt = in_range xs k (omega arith)
 
--- a list with others behind it has its elements at their places
+-- an element keeps its place in a list when others are put behind the list
 pub get_more : {A : Type 0} (xs ys : List A) (n : ℕ) (x : A) → slice_get xs n ≡ Some x → slice_get (xs ++ ys) n ≡ Some x
 get_more [] ys n x e = cc
 get_more (y ∷ xs) ys zero x e = e
@@ -39,7 +39,7 @@ pub get_push : {A : Type 0} (xs : List A) (x : A) → slice_get (xs ++ x ∷ [])
 get_push [] x = refl
 get_push (y ∷ xs) x = get_push xs x
 
--- what each element has, the one at a place has
+-- a property that each element of a list has holds of the element at place n
 pub each_get : {A : Type 0} (P : A → Type 0) (xs : List A) (n : ℕ) (x : A) → Each P xs → slice_get xs n ≡ Some x → P x
 each_get P [] n x h e = absurd (none_is_not x e)
 each_get P (y ∷ xs) zero x h e = subst P (some_is y x e) h.0

@@ -1,4 +1,5 @@
--- What a loss and a repeat leave, in std's words and under a change of each element.
+-- What a loss (`without`) and a repeat (`doubled`) leave of a queue. It is what std's `remove` and `insert` leave, and it
+-- doesn't matter whether a function is mapped over the queue before or after.
 use Rattle.std.proofs.Common.{◌≡◌, ℕ, zero, suc, ◌<◌, ◌≤◌, true, false, List, [], ◌∷◌, length, map, get_or, Option, Some, None, refl, sym, ◌∙◌, ap, arith, inl, inr}
 use Rattle.std.specs.Prelude.{IsSome, OnSome, IfNone, ◌↔◌, ◌⊎◌}
 use Rattle.std.specs.List.{remove, insert}
@@ -18,36 +19,36 @@ doubled_is (x ∷ xs) zero y h e = ap (λ z. z ∷ x ∷ xs) e
 doubled_is (x ∷ xs) (suc k) y h e = ap (λ l. x ∷ l) (doubled_is xs k y (omega arith) e)
 
 module _ {A B : Type 0} (f : A → B) where
-  -- a function goes over a list without element k as over the list
+  -- taking out element k and mapping a function may be done in either order
   pub without_map : (k : ℕ) (xs : List A) → without k (map f xs) ≡ map f (without k xs)
   without_map k [] = refl
   without_map zero (x ∷ xs) = refl
   without_map (suc k) (x ∷ xs) = ap (λ l. f x ∷ l) (without_map k xs)
 
-  -- a function goes over a list with element k twice as over the list
+  -- doubling element k and mapping a function may be done in either order
   pub doubled_map : (k : ℕ) (xs : List A) → doubled k (map f xs) ≡ map f (doubled k xs)
   doubled_map k [] = refl
   doubled_map zero (x ∷ xs) = refl
   doubled_map (suc k) (x ∷ xs) = ap (λ l. f x ∷ l) (doubled_map k xs)
 
--- a list without an element that it doesn't have is the list
+-- taking out element k changes nothing where there is none
 pub without_past : {A : Type 0} (k : ℕ) (xs : List A) → length xs ≤ k → without k xs ≡ xs
 without_past k [] h = refl
 without_past zero (x ∷ xs) h = absurd (omega arith)
 without_past (suc k) (x ∷ xs) h = ap (λ l. x ∷ l) (without_past k xs (omega arith))
 
--- a list with an element twice that it doesn't have is the list
+-- doubling element k changes nothing where there is none
 pub doubled_past : {A : Type 0} (k : ℕ) (xs : List A) → length xs ≤ k → doubled k xs ≡ xs
 doubled_past k [] h = refl
 doubled_past zero (x ∷ xs) h = absurd (omega arith)
 doubled_past (suc k) (x ∷ xs) h = ap (λ l. x ∷ l) (doubled_past k xs (omega arith))
 
--- where an option without an element gives P, and P gives Q, it gives Q
+-- where P gives Q, and P holds if the option o is `None`, Q holds if o is `None`
 pub if_none : {A P Q : Type 0} (o : Option A) → (P → Q) → IfNone o P → IfNone o Q
 if_none (Some x) f h = tt
 if_none None f h = f h
 
--- what isn't below is at least
+-- a number that isn't below n is at least n
 pub not_below : (k n : ℕ) → (k < n → ⊥) → n ≤ k
 not_below k n h = by_cases (cases_lt k n)
   where
@@ -55,7 +56,8 @@ not_below k n h = by_cases (cases_lt k n)
     by_cases (inl lt) = absurd (h lt)
     by_cases (inr ge) = ge
 
--- what is left once element k was taken out, if it was there
+-- where std's `remove` of element k makes `new` of `old`, with the result o, which is `Some` exactly if there was an element k,
+-- `new` is `old` without element k
 pub lose_left : {A : Type 0} (o : Option A) (k : ℕ) (old new : List A) → (IsSome o ↔ (k < length old)) → OnSome o (new ≡ remove old k) → IfNone o (new ≡ old) → new ≡ without k old
 lose_left (Some x) k old new v some none = some ∙ without_is old k (v.0 refl)
 lose_left None k old new v some none = none ∙ sym (without_past k old (not_below k (length old) (λ lt. let h : false ≡ true = v.1 lt in cc)))

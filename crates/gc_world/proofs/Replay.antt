@@ -1,4 +1,4 @@
--- What was executed, and the replies to it, are a run of the instrument.
+-- A replay: the executions of a run, one after the other, with the instrument's state before each and the reply to each.
 use Rattle.std.proofs.Common.{◌≡◌, ℕ, ◌+◌, ◌<◌, ◌||◌, Bool, true, false, List, [], ◌∷◌, ◌++◌, length, Some, refl, sym, ◌∙◌, ap, subst, arith, eqb}
 use Rattle.std.specs.Prelude.{slice_get}
 use Rattle.std.proofs.lemmas.Bool.{ne_eqb, eq-eqb}
@@ -18,7 +18,7 @@ has_number_push : (n m : ℕ) (xs : List ℕ) → (m ≡ n → ⊥) → has_numb
 has_number_push n m [] ne = ap (λ b. b || false) (ne_eqb m n ne)
 has_number_push n m (x ∷ xs) ne = ap (λ b. eqb x n || b) (has_number_push n m xs ne)
 
--- anything or true is true
+-- `b || true` is true
 or_true : (b : Bool) → (b || true) ≡ true
 or_true true = refl
 or_true false = refl
@@ -41,7 +41,8 @@ module _ {State : Type 0} (ends : Ends State) where
     pub line : entry.line ≡ (ends.handed state id request.call).reply
     pub leads : (ends.handed state id request.call).state ≡ after
 
-  -- these requests are executed one after another from that state on, with these replies, and lead to a last state
+  -- a replay: requests ns are executed one after the other, from state s to state t, with replies ms. j executions had been
+  -- before; and after each execution the instrument is restarted where `starts` has the count of executions until then
   abbrev pub Replays : List Sent → List ℕ → ℕ → State → List ℕ → List (Numbered (List ℕ)) → State → Type 0
   Replays sent starts j s [] [] t = s ≡ t
   Replays sent starts j s (n ∷ ns) (m ∷ ms) t = (mid : _) × IsReply sent s n m mid × Replays sent starts (j + 1) (begun ends.restarted (has_number (j + 1) starts) mid) ns ms t
@@ -63,7 +64,7 @@ module _ {State : Type 0} (ends : Ends State) where
     leads = h.leads;
   }
 
-  -- executions stay so when more requests are sent
+  -- a replay stays one when more requests are sent
   pub replays_more : (sent more : List Sent) (starts : List ℕ) (j : ℕ) (s : State) (ns : List ℕ) (ms : List (Numbered (List ℕ))) (t : State)
       → Replays sent starts j s ns ms t → Replays (sent ++ more) starts j s ns ms t
   replays_more sent more starts j s [] [] t h = h
@@ -71,7 +72,7 @@ module _ {State : Type 0} (ends : Ends State) where
   replays_more sent more starts j s [] (m ∷ ms) t h = h
   replays_more sent more starts j s (n ∷ ns) [] t h = h
 
-  -- executions, and one more with no start after the last of them, are a run of the instrument
+  -- a replay and one more execution, after which there is no start yet, are a replay
   pub replays_push : (sent : List Sent) (starts : List ℕ) (j l : ℕ) (s : State) (ns : List ℕ) (ms : List (Numbered (List ℕ))) (t : State) (n : ℕ)
       (m : Numbered (List ℕ)) (u : State) → j + length ns + 1 ≡ l → has_number l starts ≡ false → IsReply sent t n m u → Replays sent starts j s ns ms t
       → Replays sent starts j s (ns ++ n ∷ []) (ms ++ m ∷ []) u
@@ -82,12 +83,12 @@ module _ {State : Type 0} (ends : Ends State) where
   replays_push sent starts j l s [] (x ∷ ms) t n m u e none r h = absurd h
   replays_push sent starts j l s (k ∷ ns) [] t n m u e none r h = absurd h
 
-  -- restarting after a start, or without one, is restarting
+  -- a restart leads to the same state, whether there was another one directly before it (b) or not
   begun_twice : ((s : State) → ends.restarted (ends.restarted s) ≡ ends.restarted s) → (b : Bool) (s : State) → ends.restarted s ≡ ends.restarted (begun ends.restarted b s)
   begun_twice twice false s = refl
   begun_twice twice true s = sym (twice s)
 
-  -- executions, of which there is at least one, and a start behind them are a run of the instrument
+  -- a replay of at least one execution, with one more start after the last, is a replay that ends in the restarted state
   replays_start : ((s : State) → ends.restarted (ends.restarted s) ≡ ends.restarted s)
       → (sent : List Sent) (starts : List ℕ) (j l : ℕ) (s : State) (n : ℕ) (ns : List ℕ) (ms : List (Numbered (List ℕ))) (t : State) → j + length ns + 1 ≡ l
       → Replays sent starts j s (n ∷ ns) ms t → Replays sent (starts ++ l ∷ []) j s (n ∷ ns) ms (ends.restarted t)
@@ -109,7 +110,8 @@ module _ {State : Type 0} (ends : Ends State) where
   replays_start twice sent starts j l s n [] (m ∷ (x ∷ ms)) t e h = absurd h.2
   replays_start twice sent starts j l s n (k ∷ ns) [] t e h = absurd h
 
-  -- executions from the restarted opening state on, also none, and a start behind them are a run of the instrument
+  -- a replay from the restarted opening state on, also of no executions, with one more start after it, is a replay that ends
+  -- in the restarted state
   pub replays_started : ((s : State) → ends.restarted (ends.restarted s) ≡ ends.restarted s)
       → (sent : List Sent) (starts : List ℕ) (opening : State) (ns : List ℕ) (ms : List (Numbered (List ℕ))) (t : State)
       → Replays sent starts 0 (ends.restarted opening) ns ms t → Replays sent (starts ++ length ns ∷ []) 0 (ends.restarted opening) ns ms (ends.restarted t)
@@ -117,7 +119,7 @@ module _ {State : Type 0} (ends : Ends State) where
   replays_started twice sent starts opening (n ∷ ns) ms t h = replays_start twice sent starts 0 (length (n ∷ ns)) (ends.restarted opening) n ns ms t (omega arith) h
   replays_started twice sent starts opening [] (m ∷ ms) t h = absurd h
 
--- a request under way is the one of its number
+-- a request under way is the one that was sent with its number
 pub record IsOf (sent : List Sent) (x : Numbered Request) : Type 0 where
   pub request : Sent
   pub found : slice_get sent x.number ≡ Some request
@@ -125,6 +127,6 @@ pub record IsOf (sent : List Sent) (x : Numbered Request) : Type 0 where
   pub call : request.call ≡ x.line.call
   pub text : request.line ≡ request_line (Some x.line.id) x.line.call
 
--- a request under way stays the one of its number when more are sent
+-- a request under way stays the one that was sent with its number when more are sent
 pub of_more : (sent more : List Sent) (x : Numbered Request) → IsOf sent x → IsOf (sent ++ more) x
 of_more sent more x h = record { request = h.request; found = get_more sent more x.number h.request h.found; small = h.small; call = h.call; text = h.text }

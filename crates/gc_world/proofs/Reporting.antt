@@ -1,4 +1,4 @@
--- A report that shows a run has what the run has.
+-- What holds of a run's wire holds of a report that has its lists and counts (`IsReport`).
 use Rattle.std.proofs.Common.{◌≡◌, ℕ, zero, suc, ◌+◌, ◌<◌, ◌≤◌, inl, inr, List, [], ◌∷◌, length, Some, refl, sym, ◌∙◌, ap, subst, arith}
 use Rattle.std.specs.Prelude.{slice_get, All}
 use Rattle.std.proofs.lemmas.Bool.{cases_lt}
@@ -31,7 +31,7 @@ use Rattle.gc_world.proofs.Handing.{bare, bare_after, bare_line, bare_begun}
 use Rattle.gc_world.proofs.Options.{some_is, none_is_not}
 use Rattle.gc_world.proofs.Places.{get_map, get_seen, below, in_range, each_get}
 
--- what all elements have, the one at a place has
+-- a property that all elements of a list have holds of the element at place n
 all_get : {A : Type 0} (P : A → Type 0) (xs : List A) (n : ℕ) (x : A) → All P xs → slice_get xs n ≡ Some x → P x
 all_get P [] n x h e = absurd (none_is_not x e)
 all_get P (y ∷ xs) zero x h e = subst P (some_is y x e) (All-head P y xs h)
@@ -76,9 +76,11 @@ module _ (r : Report) (w : Wire State) (h : IsReport r w) where
             one.same m (settlement_seen s) (sent_seen q) (settled_at m s e) (ap (λ l. slice_get l m) (sym h.sent) ∙ get_map sent_seen r.sent m q f);
       }
 
-  -- a reply in a state that fits to a call that fits reads as a value or a refusal
+  -- Premises: a reply made in a good state to a call that fits reads as a value or a refusal, and the calls of the report fit.
   module _ (Good : State → Type 0) (fine : (call : Call) (bytes : List ℕ) (reading : Reading) → IsReplyTo ends Good call bytes → IsFitting call
       → ReadsAs call bytes reading → IsValueOrRefusal reading) (fits : Each (λ (q : Sent). IsFitting q.call) r.sent) where
+    -- where the run's answers are booked, settlement m of the report, with the outcome o, is booked for request m if it is an
+    -- answer
     booked_at : (one : OneForOne r) → ((m : ℕ) (s : Rule.Settlement) → slice_get w.settled m ≡ Some s → IsBooked ends Good w.made m s)
         → (m : ℕ) (s : Settlement) (o : Outcome) → s.outcome ≡ o → slice_get r.settled m ≡ Some s → IsWellRead s.call o → IsBookedAnswer r m s.call o
     booked_at one booked m s Late o e read = tt
@@ -99,6 +101,7 @@ module _ (r : Report) (w : Wire State) (h : IsReport r w) where
           fine = fine s.call line.items reading b.1 (subst IsFitting (sym same) (each_get (λ (p : Sent). IsFitting p.call) r.sent m q.0 fits q.1)) read;
         }
 
+    -- where the run's answers are booked, those of the report are
     pub books_answers : OneForOne r → ((m : ℕ) (s : Rule.Settlement) → slice_get w.settled m ≡ Some s → IsBooked ends Good w.made m s) → BooksAnswers r
     books_answers one booked m s e = booked_at one booked m s s.outcome refl e (all_get (λ (x : Settlement). IsWellRead x.call x.outcome) r.settled m s h.settled.read e)
 

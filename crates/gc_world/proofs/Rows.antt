@@ -6,7 +6,7 @@ use Rattle.gc_world.specs.World.{without, doubled, Numbered}
 use Rattle.gc_world.specs.Order.{Each, Rising, numbers}
 
 module _ {A : Type 0} where
-  -- what each element of two lists has, each of both in a row has
+  -- a property that each element of two lists has holds of each element of the two in a row
   pub each_append : (P : A → Type 0) (xs ys : List A) → Each P xs → Each P ys → Each P (xs ++ ys)
   each_append P [] ys h g = g
   each_append P (x ∷ xs) ys h g = (h.0, each_append P xs ys h.1 g)
@@ -16,13 +16,13 @@ module _ {A : Type 0} where
   each_more P Q f [] h = tt
   each_more P Q f (x ∷ xs) h = (f x h.0, each_more P Q f xs h.1)
 
-  -- what each element has, each has in the list without one
+  -- a property that each element has holds of each element of the list without element k
   pub each_without : (P : A → Type 0) (k : ℕ) (xs : List A) → Each P xs → Each P (without k xs)
   each_without P k [] h = tt
   each_without P zero (x ∷ xs) h = h.1
   each_without P (suc k) (x ∷ xs) h = (h.0, each_without P k xs h.1)
 
-  -- what each element has, each has in the list with one twice
+  -- a property that each element has holds of each element of the list with element k twice
   pub each_doubled : (P : A → Type 0) (k : ℕ) (xs : List A) → Each P xs → Each P (doubled k xs)
   each_doubled P k [] h = tt
   each_doubled P zero (x ∷ xs) h = (h.0, (h.0, h.1))
@@ -65,7 +65,8 @@ module _ {Line : Type 0} where
   rising_doubled_behind low (suc k) [] (x ∷ xs) h = (h.0, rising_doubled_behind (x.number + 1) k [] xs h.1)
   rising_doubled_behind low k (n ∷ ns) xs h = (h.0, rising_doubled_behind (n + 1) k ns xs h.1)
 
-  -- numbers never fall where the line of the number behind a queue goes to the queue's back
+  -- where the number n stands next behind a queue's, a line with that number may go to the queue's back: the numbers still
+  -- never fall
   pub rising_moved : (low n : ℕ) (line : Line) (xs : List (Numbered Line)) (ns : List ℕ) → Rising low (numbers xs ++ n ∷ ns)
       → Rising low (numbers (xs ++ record { number = n; line = line } ∷ []) ++ ns)
   rising_moved low n line [] ns h = h

@@ -41,7 +41,7 @@ module _ {State : Type 0} (width : ℕ) (narrow : width ≤ 7) (ends : Ends Stat
   same : wire ≡ by_number.wire
   same = same_wire width narrow ends Good ex es (ends.restarted opening) good
 
-  -- what the run by ids executed is an execution of its requests from the restarted opening state on
+  -- the executions of the run by ids are as `IsExecution` has them, from the restarted opening state on
   pub execution_at : IsExecution ends opening wire
   execution_at =
       let t = once.once.told in

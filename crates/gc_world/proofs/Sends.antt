@@ -42,12 +42,12 @@ module _ {Client S : Type 0} (ends : Ends S) (rule : Rule Client) where
   at_up w [] = refl
   at_up w (x ∷ rest) = refl
 
-  -- another upward queue sends nothing
+  -- putting another upward queue in place sends nothing
   at_with_up : (w : Wire S) (up : List (Numbered Request)) (b : Bool) → (with_up w up b).sent ≡ w.sent
   at_with_up w up true = refl
   at_with_up w up false = refl
 
-  -- another downward queue sends nothing
+  -- putting another downward queue in place sends nothing
   at_with_down : (w : Wire S) (down : List (Numbered (List ℕ))) (b : Bool) → (with_down w down b).sent ≡ w.sent
   at_with_down w down true = refl
   at_with_down w down false = refl
@@ -74,7 +74,7 @@ module _ {Client S : Type 0} (ends : Ends S) (rule : Rule Client) where
   at_instrument w [] (y ∷ down) = refl
   at_instrument w (x ∷ up) down = refl
 
-  -- a step that sends nothing does so, too, where it isn't possible
+  -- where a step sends nothing, nothing is sent either where it isn't possible (b) and only counted
   at_begun : (w : World Client S) (step : Step) (b : Bool) → (happens ends rule w step).wire.sent ≡ w.wire.sent → (happens ends rule w (cond b World.Nothing step)).wire.sent ≡ w.wire.sent
   at_begun w step true e = refl
   at_begun w step false e = e
@@ -129,7 +129,8 @@ module _ (width : ℕ) (opening : State) (n : ℕ) where
   abbrev pub IsSentIn : List Event → Type 0
   IsSentIn events = (deadline : ℕ) × (later : List Event) × IsSentBefore width opening events n deadline later
 
-  -- where n requests were sent before an event that sends one, that is the send of request n
+  -- The event e sends a request. Where n requests were sent before it (b), e is the send of request n. Where fewer were, the last
+  -- premise gives the send among the rest
   found_at : (earlier : List Event) (e : Event) (rest : List Event) (b : Bool) → eqb (sent_in earlier) n ≡ b → sent_in earlier ≤ n → IsSend e
       → sent_in (earlier ++ e ∷ []) ≡ sent_in earlier + 1 → (sent_in (earlier ++ e ∷ []) ≤ n → IsSentIn (earlier ++ e ∷ rest)) → IsSentIn (earlier ++ e ∷ rest)
   found_at earlier e rest true t le (target, call, deadline, is) more again =
@@ -147,20 +148,21 @@ module _ (width : ℕ) (opening : State) (n : ℕ) where
       )
   found_at earlier e rest false t le send more again = again (omega (arith, eqb-false _ _ t, le, more))
 
-  -- the send of request n is this event, or comes later
+  -- where at most n requests were sent before the event e, the send of request n is e, or is among the rest, by the last premise
   found_by : (earlier : List Event) (e : Event) (rest : List Event) → sent_in earlier ≤ n
       → (sent_in (earlier ++ e ∷ []) ≡ sent_in earlier) ⊎ (IsSend e × (sent_in (earlier ++ e ∷ []) ≡ sent_in earlier + 1))
       → (sent_in (earlier ++ e ∷ []) ≤ n → IsSentIn (earlier ++ e ∷ rest)) → IsSentIn (earlier ++ e ∷ rest)
   found_by earlier e rest le (inl same) again = again (omega (arith, same, le))
   found_by earlier e rest le (inr (send, more)) again = found_at earlier e rest (eqb (sent_in earlier) n) refl le send more again
 
-  -- an event behind others sends nothing, or is a send of one request
+  -- an event after others sends nothing, or is a send of one request
   sends_one_in : (earlier : List Event) (e : Event) → (sent_in (earlier ++ e ∷ []) ≡ sent_in earlier) ⊎ (IsSend e × (sent_in (earlier ++ e ∷ []) ≡ sent_in earlier + 1))
   sends_one_in earlier e =
       subst (λ (w : Wire State). (length w.sent ≡ sent_in earlier) ⊎ (IsSend e × (length w.sent ≡ sent_in earlier + 1))) (sym (left_more earlier e))
       (sends_one ends (by_ids width ends) (streams_by_ids width ends earlier (restarted opening)) e)
 
-  -- between events by which at most n were sent and those by which more were, there is the send of request n
+  -- where the events `earlier` send at most n requests, and `earlier` and `later` together more than n, the send of request n
+  -- is in the list
   found : (earlier later : List Event) → sent_in earlier ≤ n → n < sent_in (earlier ++ later) → IsSentIn (earlier ++ later)
   found earlier [] le lt = absurd (omega (arith, le, lt, ap sent_in (append-nil earlier)))
   found earlier (e ∷ rest) le lt =
@@ -172,7 +174,8 @@ module _ (width : ℕ) (opening : State) (n : ℕ) where
   pub is_sent : (events : List Event) → n < sent_in events → IsSentIn events
   is_sent events lt = found [] events (omega arith) lt
 
--- a request whose send is in the list is in time or too late
+-- a request whose send is in the list is in time where each moment after the send lies before its deadline, and too late where
+-- one reaches it
 told : (width : ℕ) (opening : State) (events : List Event) (n deadline : ℕ) (later : List Event) → IsSentBefore width opening events n deadline later
     → AllEarly deadline later ⊎ OneReaches deadline later → IsInTime width opening events n ⊎ IsTooLate width opening events n
 told width opening events n deadline later s (inl early) = inl (record { deadline = deadline; later = later; sent = s; early = early })
@@ -187,7 +190,7 @@ one_or_other width opening events n lt =
 -- The send of a request stands once in the list.
 
 module _ (rule : Rule ById) (n : ℕ) where
-  -- the streams behind these events, by ids
+  -- the streams after these events, by ids
   abbrev runs : List Event → Streams ById State → Streams ById State
   runs es v = flow ends rule es v
 
@@ -201,7 +204,8 @@ module _ (rule : Rule ById) (n : ℕ) where
   sent_grows [] w = omega arith
   sent_grows (e ∷ es) w = omega (arith, no_fewer w e (sends_one ends rule w e), sent_grows es (flows ends rule w e))
 
-  -- the step that sends request n stands at one place of a run: two splits of the run at it have one rest
+  -- the send of request n stands at one place of a list of events: where two splits of the list, at the events a and b, each
+  -- have n requests sent before that event and n + 1 after it, what follows is the same
   one_split : (xs ys : List Event) (a b : Event) (later rest : List Event) (w : Streams ById State) → xs ++ a ∷ later ≡ ys ++ b ∷ rest
       → length (runs xs w).world.wire.sent ≡ n → length (runs ys w).world.wire.sent ≡ n → length (runs (xs ++ a ∷ []) w).world.wire.sent ≡ n + 1
       → length (runs (ys ++ b ∷ []) w).world.wire.sent ≡ n + 1 → a ∷ later ≡ b ∷ rest
@@ -224,11 +228,11 @@ module _ (rule : Rule ById) (n : ℕ) where
       (subst (λ z. length (runs ys (flows ends rule w z)).world.wire.sent ≡ n) same hy) tx
       (subst (λ z. length (runs (ys ++ b ∷ []) (flows ends rule w z)).world.wire.sent ≡ n + 1) same ty)
 
--- two sends that are one have one deadline
+-- lists that are equal, and begin with sends, begin with sends of the same deadline
 same_deadline : (t u : ℕ) (c d : Call) (k m : ℕ) (later rest : List Event) → Send t c k ∷ later ≡ Send u d m ∷ rest → k ≡ m
 same_deadline t u c d k m later rest e = cc
 
--- two lists that are one have one rest
+-- lists that are equal have equal rests behind their first elements
 same_later : (a b : Event) (later rest : List Event) → a ∷ later ≡ b ∷ rest → later ≡ rest
 same_later a b later rest e = cc
 

@@ -14,12 +14,12 @@ use Rattle.gc_world.specs.Record.{IsOneForOne}
 use Rattle.gc_world.proofs.Stable.{IsStable, stable_all}
 use Rattle.gc_world.proofs.Options.{some_is, none_is_not}
 
--- whom a request that was sent was for, and what it asked for
+-- the target and the call of a request that was sent
 abbrev pub of_sent : Sent → Asked
 of_sent r = record { target = r.target; call = r.call }
 
 module _ {State : Type 0} (width : ℕ) (ends : Ends State) where
-  -- what is settled and what waits are the requests that were sent
+  -- a world is whole: the settled requests, and behind them those that wait, are those that were sent, in order
   abbrev pub Whole : World ById State → Type 0
   Whole w = map of_settled w.wire.settled ++ map of_pending w.client.waiting ≡ map of_sent w.wire.sent
 
@@ -34,7 +34,8 @@ module _ {State : Type 0} (width : ℕ) (ends : Ends State) where
       ∙ ap (λ l. l ++ record { target = target; call = call } ∷ []) h) in
       subst (λ z. Whole (requested w target call (Some z))) (some_is y x e) done
 
-  -- settlements keep a world whole, where they and those that then wait are those that waited
+  -- a settling keeps a world whole, where the requests settled, and behind them those that then wait, are those that waited
+  -- before
   whole_booked : (w : World ById State) (wire : Wire State) (x : Settled ById) → wire.settled ≡ w.wire.settled → wire.sent ≡ w.wire.sent
       → map of_settled x.settlements ++ map of_pending x.client.waiting ≡ map of_pending w.client.waiting → Whole w → Whole (with_settled wire x)
   whole_booked w wire x e1 e2 p h =
@@ -70,7 +71,8 @@ module _ {State : Type 0} (width : ℕ) (ends : Ends State) where
   pub whole_at : (es : List Step) (state : State) → Whole (run ends (by_ids width ends) es (ids_open state))
   whole_at es state = stable_all ends (by_ids width ends) Whole keeps_whole es (ids_open state) refl
 
--- the settlement at a place asked what the request at that place asks
+-- where the settled requests, with `rest` behind them, are those that were sent, settlement m has the target and the call of
+-- request m
 same_at : (settled : List Settlement) (rest : List Asked) (sent : List Sent) (m : ℕ) (s : Settlement) (r : Sent)
     → map of_settled settled ++ rest ≡ map of_sent sent → slice_get settled m ≡ Some s → slice_get sent m ≡ Some r → of_settled s ≡ of_sent r
 same_at [] rest sent m s r e g h = absurd (none_is_not s g)

@@ -1,4 +1,7 @@
--- What each step of a stage has to show, over plain variables.
+-- For the proofs of `stage.rt`. A report, two queues and a client *show* a world where they are those of the world (`AreOf`).
+-- Each lemma says: where they show a world, and a function has done to them what its contract says, they show the world after
+-- that step. Variables such as `executed` and `made` are the values that the function left; the premises are what its contract
+-- says of them.
 use Rattle.std.proofs.Common.{◌≡◌, ℕ, ◌+◌, ◌<◌, ◌≤◌, Bool, true, false, cond, List, [], ◌∷◌, ◌++◌, length, map, Option, Some, None, ◌⊎◌, inl, inr, refl, sym, ◌∙◌, ap, subst, ltb, eqb, arith}
 use Rattle.std.specs.Option.{option_map}
 use mathlib.Core.Path.{ap₂}
@@ -37,11 +40,13 @@ use Rattle.gc_world.proofs.Rows.{each_append, each_more, each_without, each_doub
 use Rattle.gc_world.proofs.Options.{some_is, none_is_not}
 use Rattle.gc_world.proofs.Places.{get_map, get_more, get_push}
 
--- what the instrument does with a line that a client wrote
+-- where the line is the request line of a call, with whatever id, the instrument got from `before` to `after`, and gave this
+-- reply, as `IsExchanged` has it
 abbrev pub ExchangesAny : State → List ℕ → State → Option (List ℕ) → Type 0
 ExchangesAny before line after reply = (id : ℕ) (call : Call) → id < 8 → IsFitting call → line ≡ request_line (Some id) call → IsExchanged before id call after reply
 
--- a reply that was appended to an empty line, or none, is what the instrument does with the line
+-- where the reply to a line, if there is one (b), was appended to the empty text `old`, the text `new` is the reply, and
+-- `ExchangesAny` holds of it
 pub exchanges_any : (before : State) (bytes line : List ℕ) (after : State) (old new : List ℕ) (b : Bool) → bytes ≡ line → old ≡ []
     → ((id : ℕ) (call : Call) → id < 8 → IsFitting call → bytes ≡ request_line (Some id) call → AppendsAnswer (IsExchanged before id call after) old new b)
     → ExchangesAny before line after (cond b (Some new) None)
@@ -65,7 +70,7 @@ either_id (Some x) (Some y) = elim (cases_eq x y) [
   | inr ne ↦ inr (λ e. ne (some_is x y e))
 ]
 
--- what was noted as executed is what was executed
+-- where a number was noted exactly if the kept id changed, it was noted exactly if the request was executed
 noted : (s : State) (id : ℕ) (call : Call) (after : State) (n : ℕ) (old new : List ℕ) → after ≡ (handed s id call).state → Notes s after n old new
     → new ≡ cond (handed s id call).executed (old ++ n ∷ []) old
 noted s id call after n old new is h =
@@ -90,7 +95,7 @@ reports_queues : (r : Report) (w : Wire State) (up : List (Numbered Request)) (d
 reports_queues r w up down h =
     record { sent = h.sent; executed = h.executed; made = h.made; settled = h.settled; starts = h.starts; instrument = h.instrument; refused = h.refused; idle = h.idle }
 
--- settlements that are the rule's are so together with others behind them that are
+-- where the settlements xs are us of the client's rule, and ys are vs of it, xs followed by ys are us followed by vs
 are_more : (xs ys : List Settlement) (us vs : List Rule.Settlement) → AreSettlements xs us → AreSettlements ys vs → AreSettlements (xs ++ ys) (us ++ vs)
 are_more xs ys us vs h g =
     record {
@@ -126,7 +131,7 @@ made_last made entry =
     ap (λ l. slice_get l (length made)) (map-append made_seen made (entry ∷ []))
     ∙ subst (λ n. slice_get (map made_seen made ++ made_seen entry ∷ []) n ≡ Some (made_seen entry)) (length-map made made_seen) (get_push (map made_seen made) (made_seen entry))
 
--- one more reply leaves what places name
+-- one more reply made doesn't change which replies the places of a queue name
 named_more : (made : List Made) (entry : Made) (places : List ℕ) (xs : List (Numbered (List ℕ))) → named made places ≡ map Some xs → named (made ++ entry ∷ []) places ≡ map Some xs
 named_more made entry [] [] h = refl
 named_more made entry [] (x ∷ xs) h = cc
@@ -136,7 +141,7 @@ named_more made entry (p ∷ ps) (x ∷ xs) h =
     let others : named made ps ≡ map Some xs = cc in
     ap₂ (λ (a : Option (Numbered (List ℕ))) b. a ∷ b) (made_more made entry p x one) (named_more made entry ps xs others)
 
--- the place of the reply that was made last names it
+-- a queue with the place of the reply made last at its back names that reply behind the others
 named_push : (made : List Made) (entry : Made) (places : List ℕ) (xs : List (Numbered (List ℕ))) → named made places ≡ map Some xs
     → named (made ++ entry ∷ []) (places ++ length made ∷ []) ≡ map Some (xs ++ made_seen entry ∷ [])
 named_push made entry places xs h =
@@ -144,13 +149,13 @@ named_push made entry places xs h =
     ∙ ap₂ (λ (a : List (Option (Numbered (List ℕ)))) b. a ++ b ∷ []) (named_more made entry places xs h) (made_last made entry)
     ∙ sym (map-append Some xs (made_seen entry ∷ []))
 
--- a line that settles nothing leaves the settlements
+-- where a line settles nothing (o isn't `Settled`), appending its settlements `more` leaves the settlements as they are
 pub none_settled : (old new : ById) (line : List ℕ) (o : Hearing) (more settled : List Settlement) → HearsInto old line o more new → (o ≡ Settled → ⊥) → settled ≡ settled ++ more
 none_settled old new line Settled more settled h not = absurd (not refl)
 none_settled old new line Stray more settled h not = sym (ap (λ l. settled ++ l) h.2 ∙ append-nil settled)
 none_settled old new line (Unread fault) more settled h not = sym (ap (λ l. settled ++ l) h.1 ∙ append-nil settled)
 
--- a list of which a function sees nothing is empty
+-- where mapping a function over a list gives the empty list, the list is empty
 pub map_none : {A B : Type 0} (f : A → B) (xs : List A) → map f xs ≡ [] → xs ≡ []
 map_none f [] e = refl
 map_none f (x ∷ xs) e = cc
@@ -177,7 +182,8 @@ module _ (width : ℕ) (r : Report) (up down : List ℕ) (c : Windowed) (w : Wor
   pub no_down : down ≡ [] → w.wire.down ≡ []
   no_down e = map_none Some w.wire.down (sym h.down_is ∙ ap (named r.made) e)
 
-  -- another upward queue, if there is a line at place k, shows the world with that queue
+  -- once the upward queue was replaced by `places`, if there is a line k (b), or else the event was counted as idle, report and
+  -- queues show the world in which the same was done
   up_changed : (k : ℕ) (b : Bool) (places : List ℕ) (us : List (Numbered Request)) → b ≡ ltb k (length up) → (length up ≤ k → places ≡ up)
       → places ≡ numbers us → Each (IsSentIn r.sent) us → AreOf width (counted b r) places down c (on_wire w (with_up w.wire us (ltb k (length w.wire.up))))
   up_changed k true places us e past is each =
@@ -189,19 +195,20 @@ module _ (width : ℕ) (r : Report) (up down : List ℕ) (c : Windowed) (w : Wor
       subst (λ v. AreOf width (counted false r) places down c (on_wire w (with_up w.wire us v))) (sym e1)
       (subst (λ q. AreOf width (counted false r) q down c (on_wire w (idle w.wire))) (sym (past (ltb-false _ _ (sym e)))) shows_idle)
 
-  -- losing line k of the upward queue shows that step of the world
+  -- once line k of the upward queue was lost, if there is one, the world after that step is shown
   pub shows_up_lose : (k : ℕ) (b : Bool) → b ≡ ltb k (length up) → AreOf width (counted b r) (without k up) down c (does width w (Up_lose k))
   shows_up_lose k b e =
       up_changed k b (without k up) (without k w.wire.up) e (without_past k up)
       (ap (without k) h.up_is ∙ without_map (λ x. x.number) k w.wire.up) (each_without (IsSentIn r.sent) k w.wire.up h.requests)
 
-  -- repeating line k of the upward queue shows that step of the world
+  -- once line k of the upward queue was repeated, if there is one, the world after that step is shown
   pub shows_up_repeat : (k : ℕ) (b : Bool) → b ≡ ltb k (length up) → AreOf width (counted b r) (doubled k up) down c (does width w (Up_repeat k))
   shows_up_repeat k b e =
       up_changed k b (doubled k up) (doubled k w.wire.up) e (doubled_past k up)
       (ap (doubled k) h.up_is ∙ doubled_map (λ x. x.number) k w.wire.up) (each_doubled (IsSentIn r.sent) k w.wire.up h.requests)
 
-  -- another downward queue, if there is a line at place k, shows the world with that queue
+  -- once the downward queue was replaced by `places`, if there is a line k (b), or else the event was counted as idle, report and
+  -- queues show the world in which the same was done
   down_changed : (k : ℕ) (b : Bool) (places : List ℕ) (ds : List (Numbered (List ℕ))) → b ≡ ltb k (length down) → (length down ≤ k → places ≡ down)
       → named r.made places ≡ map Some ds → AreOf width (counted b r) up places c (on_wire w (with_down w.wire ds (ltb k (length w.wire.down))))
   down_changed k true places ds e past is =
@@ -213,13 +220,13 @@ module _ (width : ℕ) (r : Report) (up down : List ℕ) (c : Windowed) (w : Wor
       subst (λ v. AreOf width (counted false r) up places c (on_wire w (with_down w.wire ds v))) (sym e1)
       (subst (λ q. AreOf width (counted false r) up q c (on_wire w (idle w.wire))) (sym (past (ltb-false _ _ (sym e)))) shows_idle)
 
-  -- losing line k of the downward queue shows that step of the world
+  -- once line k of the downward queue was lost, if there is one, the world after that step is shown
   pub shows_down_lose : (k : ℕ) (b : Bool) → b ≡ ltb k (length down) → AreOf width (counted b r) up (without k down) c (does width w (Down_lose k))
   shows_down_lose k b e =
       down_changed k b (without k down) (without k w.wire.down) e (without_past k down)
       (sym (without_map (slice_get (map made_seen r.made)) k down) ∙ ap (without k) h.down_is ∙ without_map Some k w.wire.down)
 
-  -- repeating line k of the downward queue shows that step of the world
+  -- once line k of the downward queue was repeated, if there is one, the world after that step is shown
   pub shows_down_repeat : (k : ℕ) (b : Bool) → b ≡ ltb k (length down) → AreOf width (counted b r) up (doubled k down) c (does width w (Down_repeat k))
   shows_down_repeat k b e =
       down_changed k b (doubled k down) (doubled k w.wire.down) e (doubled_past k down)
@@ -248,7 +255,7 @@ module _ (width : ℕ) (r : Report) (up down : List ℕ) (c : Windowed) (w : Wor
   pub down_line : (p : ℕ) (rest : List ℕ) (m : Made) (e : down ≡ p ∷ rest) → slice_get r.made p ≡ Some m → made_seen m ≡ (down_front p rest e).0
   down_line p rest m e found = let f = down_front p rest e in some_is (made_seen m) f.0 (sym (get_map made_seen r.made p m found) ∙ f.3)
 
-  -- sending a request, whose line is then under way, shows that step of the world
+  -- once the client sent a request, and its number was put at the back of the upward queue, the world after that step is shown
   pub shows_send : (entry : Sent) (deadline : ℕ) (client : Windowed) (sent : List Sent) (up' : List ℕ)
       → sends c.width c.ids entry.target entry.call deadline ≡ Some (record { id = c.ids.next; client = client.ids }) → client.width ≡ c.width
       → entry.line.items ≡ request_line (Some c.ids.next) entry.call → IsFitting entry.call → sent ≡ r.sent ++ entry ∷ [] → up' ≡ up ++ length r.sent ∷ []
@@ -288,7 +295,7 @@ module _ (width : ℕ) (r : Report) (up down : List ℕ) (c : Windowed) (w : Wor
         calls = each_append _ r.sent (entry ∷ []) h.calls (fits, tt);
       }))
 
-  -- handing the front request to the instrument, and noting its reply, shows that step of the world
+  -- once the front request was handed to the instrument, and its reply noted, the world after that step is shown
   pub shows_up_deliver : (n : ℕ) (rest down' : List ℕ) (request : Sent) (entry : Made) (executed : List ℕ) (made : List Made) (state : State)
       (o : Option (List ℕ)) → up ≡ n ∷ rest → slice_get r.sent n ≡ Some request → ExchangesAny r.instrument request.line.items state o
       → o ≡ Some entry.line.items → entry.number ≡ n → Notes r.instrument state n r.executed executed → made ≡ r.made ++ entry ∷ []
@@ -341,7 +348,7 @@ module _ (width : ℕ) (r : Report) (up down : List ℕ) (c : Windowed) (w : Wor
       let did = replied f.0.line.id f.0.line.call sound.0.digit sound.0.fits line in
       none_is_not _ (sym told ∙ did.line)
 
-  -- handing the front reply to the client, and noting what it settles, shows that step of the world
+  -- once the front reply was handed to the client, and what it settles noted, the world after that step is shown
   pub shows_down_deliver : (p : ℕ) (rest : List ℕ) (m : Made) (bytes : List ℕ) (more settled : List Settlement) (client : Windowed) → down ≡ p ∷ rest
       → slice_get r.made p ≡ Some m → bytes ≡ m.line.items → AreSettlements more (hears c.ids bytes (heard bytes)).settlements
       → client ≡ record c { ids = (hears c.ids bytes (heard bytes)).client } → settled ≡ r.settled ++ more
@@ -372,7 +379,7 @@ module _ (width : ℕ) (r : Report) (up down : List ℕ) (c : Windowed) (w : Wor
         calls = h.calls;
       })
 
-  -- restarting the client while no line is under way shows that step of the world
+  -- once the client was restarted, and the instrument with it, while no line is under way, the world after that step is shown
   pub shows_restart_client : (more settled : List Settlement) (client : Windowed) (starts : List ℕ) (state : State) → up ≡ [] → down ≡ []
       → AreSettlements more (restarts c.ids).settlements → client ≡ record c { ids = (restarts c.ids).client } → settled ≡ r.settled ++ more
       → starts ≡ r.starts ++ length r.executed ∷ [] → state ≡ restarted r.instrument
@@ -400,7 +407,7 @@ module _ (width : ℕ) (r : Report) (up down : List ℕ) (c : Windowed) (w : Wor
         calls = h.calls;
       }))
 
-  -- restarting the instrument while no line is under way shows that step of the world
+  -- once the instrument was restarted, while no line is under way, the world after that step is shown
   pub shows_restart_instrument : (starts : List ℕ) (state : State) → up ≡ [] → down ≡ [] → starts ≡ r.starts ++ length r.executed ∷ []
       → state ≡ restarted r.instrument → AreOf width (record r { starts = starts; instrument = state }) up down c (does width w Restart_instrument)
   shows_restart_instrument starts state eu ed starts_is state_is =

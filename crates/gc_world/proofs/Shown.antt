@@ -1,4 +1,5 @@
--- What each event has to show of a stage, over plain variables: the steps of `Showing`, with the assemblers and what has gone.
+-- For the proofs of `stage.rt`, as `Showing`, but with the assemblers and the bytes that have gone: where a stage shows streams
+-- (`AreStreamsOf`), and a function has done to its parts what its contract says, the stage shows the streams after the event.
 use Rattle.std.proofs.Common.{◌≡◌, ℕ, zero, suc, ◌+◌, ◌<◌, ◌⊎◌, inl, inr, Bool, true, false, cond, List, [], ◌∷◌, ◌++◌, length, map, Option, Some, refl, sym, ◌∙◌, ap, subst, ltb, arith}
 use mathlib.Core.Path.{ap₂}
 use Rattle.std.specs.Option.{option_map}
@@ -37,7 +38,7 @@ use Rattle.gc_world.proofs.Queues.{without_map, doubled_map}
 use Rattle.gc_world.proofs.Showing.{Notes, ExchangesAny, counted, shows_idle, shows_up_lose, shows_up_repeat, shows_down_lose, shows_down_repeat, shows_send, shows_up_deliver, shows_down_deliver, shows_restart_client, busy_client, busy_instrument, up_front, down_front}
 use Rattle.gc_world.proofs.Streaming.{flow_start, flow_push, flow_without, flow_doubled, cut_short}
 
--- The queues behind a step.
+-- The queues after a step.
 
 module _ (P : List (Numbered Request) → Type 0) where
   -- what holds of both upward queues holds of the one that is chosen
@@ -97,7 +98,7 @@ names_down r (p ∷ ps) (x ∷ xs) h =
 from_start : (s : Side) (texts : List (List ℕ)) → s.gone ≡ 0 → StandsFor s.assembler [] → Each IsPlain texts → IsFlow s.assembler s.gone texts
 from_start s texts none stands plain = subst (λ g. IsFlow s.assembler g texts) (sym none) (flow_start s.assembler texts stands plain)
 
--- where no further byte has gone, only the world changes
+-- setting the count of gone bytes that is there already changes only the world
 unmoved : (d : Direction) (v : Streams ById State) (w : World ById State) → reaches d v w (gone d v) ≡ record { world = w; up_gone = v.up_gone; down_gone = v.down_gone }
 unmoved Up v w = refl
 unmoved Down v w = refl
@@ -115,7 +116,7 @@ idle_bytes width d v (line ∷ q) (suc n) e (inr z) part = absurd (omega (arith,
 abbrev counts : Bool → Report → Report
 counts b r = record r { idle_events = cond b r.idle_events (r.idle_events + 1) }
 
--- both ways to count an idle event are one
+-- `counted` and `counts` give the same report
 counted_is : (b : Bool) (r : Report) → counted b r ≡ counts b r
 counted_is true r = refl
 counted_is false r = refl
@@ -131,7 +132,7 @@ module _ (width : ℕ) (s : Seen) (v : Streams ById State) (h : AreStreamsOf wid
   carries Up = record { names = ap (map (written Up s.report)) h.lines.up_is ∙ names_up s.report v.world.wire.up h.lines.requests; flow = h.up_flow }
   carries Down = record { names = names_down s.report s.down.queue v.world.wire.down h.lines.down_is; flow = h.down_flow }
 
-  -- of the front line of a direction not all bytes have gone
+  -- not all bytes of the front line of a direction have gone
   pub part : (d : Direction) → IsPart (gone d v) (lines d v.world.wire)
   part d = subst (λ g. IsPart g (lines d v.world.wire)) (gone_is d) (carries d).flow.part
 
@@ -157,7 +158,7 @@ module _ (width : ℕ) (s : Seen) (v : Streams ById State) (h : AreStreamsOf wid
       let m = get_seen made_seen s.report.made p f.0 f.3 in
       (m.0, m.1)
 
-  -- where both queues stay, the streams show the new world with as much gone
+  -- where both queues stay, and report and client show a new world, the stage shows the streams of that world, with as much gone
   kept : (r' : Report) (c' : Windowed) (w : World ById State) → AreOf width r' s.up.queue s.down.queue c' w
       → (w.wire.up ≡ v.world.wire.up) × (w.wire.down ≡ v.world.wire.down)
       → AreStreamsOf width (record s { report = r'; client = c' }) (record { world = w; up_gone = v.up_gone; down_gone = v.down_gone })
@@ -176,7 +177,7 @@ module _ (width : ℕ) (s : Seen) (v : Streams ById State) (h : AreStreamsOf wid
 
   -- Losses and repeats.
 
-  -- another upward queue, if the event is possible, shows the streams with that queue
+  -- once the upward queue was replaced, if the event is possible, the streams with that queue are shown
   up_queue : (b : Bool) (queue : List ℕ) (us : List (Numbered Request)) (k : ℕ)
       → AreOf width (counted b s.report) queue s.down.queue s.client (on_wire v.world (with_up v.world.wire us (ltb k (length v.world.wire.up))))
       → IsFlow s.up.assembler s.up.gone (map (λ x. bytes_of x.line) us)
@@ -192,7 +193,7 @@ module _ (width : ℕ) (s : Seen) (v : Streams ById State) (h : AreStreamsOf wid
         down_flow = subst (λ q. IsFlow s.down.assembler s.down.gone (map (λ x. x.line) q)) (sym (down_of_up v.world.wire us t)) h.down_flow;
       }
 
-  -- another downward queue, if the event is possible, shows the streams with that queue
+  -- once the downward queue was replaced, if the event is possible, the streams with that queue are shown
   down_queue : (b : Bool) (queue : List ℕ) (ds : List (Numbered (List ℕ))) (k : ℕ)
       → AreOf width (counted b s.report) s.up.queue queue s.client (on_wire v.world (with_down v.world.wire ds (ltb k (length v.world.wire.down))))
       → IsFlow s.down.assembler s.down.gone (map (λ x. x.line) ds) → AreStreamsOf width
@@ -208,11 +209,13 @@ module _ (width : ℕ) (s : Seen) (v : Streams ById State) (h : AreStreamsOf wid
         down_flow = either_down (λ q. IsFlow s.down.assembler s.down.gone (map (λ x. x.line) q)) v.world.wire ds t flow h.down_flow;
       }
 
-  -- the streams behind a step at which no byte goes over
+  -- the streams after a step at which no byte goes over
   abbrev behind : Step → Streams ById State
   behind step = record { world = does width v.world step; up_gone = v.up_gone; down_gone = v.down_gone }
 
-  -- a loss or a repeat of line k, possible only before it has begun to go, shows the streams behind that step
+  -- a loss or a repeat of line k, possible only before its first byte has gone, shows the streams after that step. `old` is
+  -- the side before it and `side` after it, `g` is how many bytes of its front line have gone, and `put` sets a side and a
+  -- count of idle events in the stage
   changes : (old : Side) (g : ℕ) (put : Side → ℕ → Seen) (k : ℕ) (queue : List ℕ) (step : Step) (side : Side) (count : ℕ) → old.gone ≡ g
       → put old (s.report.idle_events + 1) ≡ record s { report = counted false s.report } → Changes k queue old side s.report.idle_events count
       → (is_begun k old.gone ≡ false → (b : Bool) → b ≡ ltb k (length old.queue)
@@ -233,28 +236,28 @@ module _ (width : ℕ) (s : Seen) (v : Streams ById State) (h : AreStreamsOf wid
     abbrev with_down_side : Side → ℕ → Seen
     with_down_side x n = record s { report = record s.report { idle_events = n }; down = x }
 
-    -- losing line k of the upward side shows the streams behind that event
+    -- once line k of the upward side was lost, if that was possible, the streams after that event are shown
     pub up_lost : Changes k (without k s.up.queue) s.up side s.report.idle_events count → AreStreamsOf width (with_up_side side count) (goes_on width v (event.UpLose k))
     up_lost c =
         changes s.up v.up_gone with_up_side k (without k s.up.queue) (Up_lose k) side count h.up_is refl c
         (λ e b is. up_queue b (without k s.up.queue) (without k v.world.wire.up) k (shows_up_lose width s.report s.up.queue s.down.queue s.client v.world h.lines k b is)
         (subst (IsFlow s.up.assembler s.up.gone) (without_map (λ x. bytes_of x.line) k v.world.wire.up) (flow_without k s.up.assembler s.up.gone (up_texts v.world.wire) e h.up_flow)))
 
-    -- repeating line k of the upward side shows the streams behind that event
+    -- once line k of the upward side was repeated, if that was possible, the streams after that event are shown
     pub up_repeated : Changes k (doubled k s.up.queue) s.up side s.report.idle_events count → AreStreamsOf width (with_up_side side count) (goes_on width v (event.UpRepeat k))
     up_repeated c =
         changes s.up v.up_gone with_up_side k (doubled k s.up.queue) (Up_repeat k) side count h.up_is refl c
         (λ e b is. up_queue b (doubled k s.up.queue) (doubled k v.world.wire.up) k (shows_up_repeat width s.report s.up.queue s.down.queue s.client v.world h.lines k b is)
         (subst (IsFlow s.up.assembler s.up.gone) (doubled_map (λ x. bytes_of x.line) k v.world.wire.up) (flow_doubled k s.up.assembler s.up.gone (up_texts v.world.wire) e h.up_flow)))
 
-    -- losing line k of the downward side shows the streams behind that event
+    -- once line k of the downward side was lost, if that was possible, the streams after that event are shown
     pub down_lost : Changes k (without k s.down.queue) s.down side s.report.idle_events count → AreStreamsOf width (with_down_side side count) (goes_on width v (event.DownLose k))
     down_lost c =
         changes s.down v.down_gone with_down_side k (without k s.down.queue) (Down_lose k) side count h.down_is refl c
         (λ e b is. down_queue b (without k s.down.queue) (without k v.world.wire.down) k (shows_down_lose width s.report s.up.queue s.down.queue s.client v.world h.lines k b is)
         (subst (IsFlow s.down.assembler s.down.gone) (without_map (λ x. x.line) k v.world.wire.down) (flow_without k s.down.assembler s.down.gone (down_texts v.world.wire) e h.down_flow)))
 
-    -- repeating line k of the downward side shows the streams behind that event
+    -- once line k of the downward side was repeated, if that was possible, the streams after that event are shown
     pub down_repeated : Changes k (doubled k s.down.queue) s.down side s.report.idle_events count → AreStreamsOf width (with_down_side side count) (goes_on width v (event.DownRepeat k))
     down_repeated c =
         changes s.down v.down_gone with_down_side k (doubled k s.down.queue) (Down_repeat k) side count h.down_is refl c
@@ -263,7 +266,7 @@ module _ (width : ℕ) (s : Seen) (v : Streams ById State) (h : AreStreamsOf wid
 
   -- A send.
 
-  -- sending a request shows the streams behind that event
+  -- once a request was sent, the streams after that event are shown
   pub streams_send : (entry : Sent) (deadline : ℕ) (client : Windowed) (sent : List Sent) (queue : List ℕ)
       → sends s.client.width s.client.ids entry.target entry.call deadline ≡ Some (record { id = s.client.ids.next; client = client.ids })
       → client.width ≡ s.client.width → entry.line.items ≡ request_line (Some s.client.ids.next) entry.call → IsPlain entry.line.items → IsFitting entry.call
@@ -290,7 +293,8 @@ module _ (width : ℕ) (s : Seen) (v : Streams ById State) (h : AreStreamsOf wid
 
   -- Restarts.
 
-  -- restarting the client while no line is under way shows the streams behind that event
+  -- once the client was restarted, and the instrument with it, while no line is under way, the streams after that event are
+  -- shown
   pub streams_restart_client : (more settled : List Settlement) (client : Windowed) (starts : List ℕ) (state : State) → s.up.queue ≡ [] → s.down.queue ≡ []
       → AreSettlements more (restarts s.client.ids).settlements → client ≡ record s.client { ids = (restarts s.client.ids).client }
       → settled ≡ s.report.settled ++ more → starts ≡ s.report.starts ++ length s.report.executed ∷ [] → state ≡ restarted s.report.instrument
@@ -316,7 +320,7 @@ module _ (width : ℕ) (s : Seen) (v : Streams ById State) (h : AreStreamsOf wid
 
   -- Deliveries.
 
-  -- delivering the front request shows the streams behind that event
+  -- once the front request was delivered, and its reply noted, the streams after that event are shown
   pub streams_up_deliver : (n : ℕ) (side : Side) (queue : List ℕ) (request : Sent) (entry : Made) (executed : List ℕ) (made : List Made) (state : State)
       (o : Option (List ℕ)) → s.up.queue ≡ n ∷ side.queue → slice_get s.report.sent n ≡ Some request
       → ExchangesAny s.report.instrument request.line.items state o → o ≡ Some entry.line.items → entry.number ≡ n
@@ -348,7 +352,7 @@ module _ (width : ℕ) (s : Seen) (v : Streams ById State) (h : AreStreamsOf wid
             (λ y. y.line) v.world.wire.down (m ∷ []))) (flow_push s.down.assembler s.down.gone (down_texts v.world.wire) reply plain h.down_flow));
       }
 
-  -- delivering the front reply shows the streams behind that event
+  -- once the front reply was delivered, and what it settles noted, the streams after that event are shown
   pub streams_down_deliver : (p : ℕ) (side : Side) (m : Made) (line : List ℕ) (more settled : List Settlement) (client : Windowed)
       → s.down.queue ≡ p ∷ side.queue → slice_get s.report.made p ≡ Some m → line ≡ m.line.items
       → AreSettlements more (hears s.client.ids line (heard line)).settlements
@@ -370,7 +374,7 @@ module _ (width : ℕ) (s : Seen) (v : Streams ById State) (h : AreStreamsOf wid
 
   -- Bytes.
 
-  -- handing over n bytes that don't complete the front line shows the streams with n more gone
+  -- once n bytes were handed over that don't complete the front line, the streams with n more gone are shown
   pub streams_begin : (d : Direction) (n : ℕ) (side : Side) → n < remaining (gone d v) (lines d v.world.wire)
       → IsFlow side.assembler side.gone (texts d v.world.wire) → side.gone ≡ (pick d s.up s.down).gone + n → side.queue ≡ (pick d s.up s.down).queue
       → AreStreamsOf width (record s { up = pick d side s.up; down = pick d s.down side }) (Stages.handed width d v n)
@@ -392,6 +396,6 @@ module _ (width : ℕ) (s : Seen) (v : Streams ById State) (h : AreStreamsOf wid
   streams_idle_bytes d n r e none = subst (λ x. AreStreamsOf width (record s { report = counted false s.report }) x)
       (sym (bytes_pass ends (by_ids width ends) d v n ∙ idle_bytes width d v (lines d v.world.wire) n e none (part d))) nothing
 
--- where the test that no line is under way fails, one is
+-- where P says that no line is under way, and the test for P gives false, P doesn't hold
 pub is_busy : {P : Type 0} (quiet : Bool) → IsTrue quiet ↔ P → quiet ≡ false → P → ⊥
 is_busy quiet iff not p = let e : quiet ≡ true = iff.1 p in cc

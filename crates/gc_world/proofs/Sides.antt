@@ -9,14 +9,14 @@ use Rattle.gc_world.specs.Streams.{remaining}
 use Rattle.gc_world.proofs.Options.{some_is}
 use Rattle.gc_world.proofs.Streaming.{IsFront, front_of, remaining_is}
 
--- the first place of a queue names the first text, and the others the texts behind it
+-- the texts begin with a text that f finds at this place
 record AreNamed (f : ℕ → Option (List ℕ)) (place : ℕ) (rest : List ℕ) (texts : List (List ℕ)) : Type 0 where
   text : List ℕ
   behind : List (List ℕ)
   are : texts ≡ text ∷ behind
   found : f place ≡ Some text
 
--- a queue that begins with a place, and names texts, names one first
+-- where f finds the texts at the places of a queue, in order, and the queue begins with this place, f finds the first text there
 named_first : (f : ℕ → Option (List ℕ)) (queue : List ℕ) (place : ℕ) (rest : List ℕ) (texts : List (List ℕ)) → queue ≡ place ∷ rest → map f queue ≡ map Some texts → AreNamed f place rest texts
 named_first f queue place rest texts e h = by_texts texts (sym (ap (map f) e) ∙ h)
   where
@@ -24,7 +24,7 @@ named_first f queue place rest texts e h = by_texts texts (sym (ap (map f) e) �
     by_texts [] g = cc
     by_texts (t ∷ ts) g = let one : f place ≡ Some t = cc in record { text = t; behind = ts; are = refl; found = one }
 
--- taking the front place from the queue changes nothing of what the side carries until its line has gone
+-- a side whose queue equals `place ∷ rest` carries the same texts with its queue written so
 pub taken : (d : Direction) (r : Report) (s : Side) (texts : List (List ℕ)) (place : ℕ) (rest : List ℕ) → s.queue ≡ place ∷ rest → Carries d r s texts
     → Carries d r (record s { queue = place ∷ rest }) texts
 taken d r s texts place rest e h = record { names = ap (map (written d r)) (sym e) ∙ h.names; flow = h.flow }
@@ -42,7 +42,7 @@ module _ (d : Direction) (r : Report) (s : Side) (texts : List (List ℕ)) (h : 
       subst (λ (t : List ℕ). IsFront t s.assembler s.gone (map with_end texts)) same
       (subst (λ ts. IsFront f.text s.assembler s.gone (map with_end ts)) (sym f.are) (front_of s.assembler s.gone f.text f.behind (subst (λ ts. IsFlow s.assembler s.gone ts) f.are h.flow)))
 
-  -- the front line and those behind it flow through the assembler
+  -- the assembler carries the front line and those behind it, as `IsFlow` has it
   pub front_flow : (place : ℕ) (rest : List ℕ) (line : List ℕ) → s.queue ≡ place ∷ rest → written d r place ≡ Some line → (behind : List (List ℕ)) × IsFlow s.assembler s.gone (line ∷ behind)
   front_flow place rest line e found =
       let f = named_first (written d r) s.queue place rest texts e h.names in

@@ -1,4 +1,5 @@
--- What holds of the line in every world of the client that is told the numbers.
+-- The invariant of the run by numbers: what holds of the client and of the line in every world of it. A world of which it holds
+-- is *sound*.
 use Rattle.std.proofs.Common.{◌≡◌, ℕ, zero, suc, ◌+◌, ◌-◌, ◌%◌, ◌<◌, ◌≤◌, Bool, true, false, List, [], ◌∷◌, ◌++◌, length, map, take, drop, Some, refl, sym, ◌∙◌, ap, subst, arith, length-append, length-drop, ltb, eqb}
 use Rattle.std.proofs.lemmas.List.{length-map}
 use Rattle.std.proofs.lemmas.Bool.{ltb-false, eqb-false}
@@ -15,26 +16,28 @@ use Rattle.gc_world.proofs.Rows.{each_append, each_more, each_number, each_witho
 use Rattle.gc_world.proofs.Stable.{IsStable, stable, stable_all}
 use Rattle.gc_world.proofs.Options.{some_is}
 
--- a moment leaves as many requests as there were
+-- expiring all but the first k of a list of requests leaves as many requests as before
 pub length_expired : (now k : ℕ) (ps : List Pending) → length (take k ps ++ map (expired now) (drop k ps)) ≡ length ps
 length_expired now zero ps = length-map ps (expired now)
 length_expired now (suc k) [] = refl
 length_expired now (suc k) (p ∷ ps) = ap suc (length_expired now k ps)
 
--- a request under way: its number is of the client's present start, and its id is that of the number
+-- a request under way: it was sent since the client's last start, and its id is that of its number
 pub record IsGoing (since total : ℕ) (x : Numbered Request) : Type 0 where
   pub recent : since ≤ x.number
   pub sent : x.number < total
   pub id : x.line.id ≡ (x.number - since) % 8
 
 module _ {State : Type 0} (width : ℕ) (ends : Ends State) (Good : State → Type 0) where
-  -- a reply under way: its number is of the client's present start, and it is heard with the id of that number
+  -- a reply under way: its request was sent since the client's last start, and it is heard with the id of its number
   pub record IsComing (since total : ℕ) (x : Numbered (List ℕ)) : Type 0 where
     pub recent : since ≤ x.number
     pub sent : x.number < total
     pub id : ends.heard x.line ≡ Some ((x.number - since) % 8)
 
-  -- what holds of a client that is told the numbers, of its counts, and of what is under way
+  -- the invariant. The client has as many requests as were sent, and counts as settled as many as there are settlements. No
+  -- more had been sent at its last start than are settled, no more are settled than were sent, and at most `width` aren't
+  -- settled. The numbers under way never fall, and each line under way belongs to a request sent since the last start
   pub record IsSound (c : ByNumber) (sent settled : ℕ) (down : List (Numbered (List ℕ))) (up : List (Numbered Request)) (state : State) : Type 0 where
     pub good : Good state
     pub counted : length c.requests ≡ sent
@@ -50,11 +53,11 @@ module _ {State : Type 0} (width : ℕ) (ends : Ends State) (Good : State → Ty
   abbrev pub Sound : World ByNumber State → Type 0
   Sound w = IsSound w.client (length w.wire.sent) (length w.wire.settled) w.wire.down w.wire.up w.wire.state
 
-  -- a request under way stays so when more are sent
+  -- `IsGoing` still holds of a request when more were sent
   going_more : (since total total' : ℕ) → total ≤ total' → (x : Numbered Request) → IsGoing since total x → IsGoing since total' x
   going_more since total total' le x h = record { recent = h.recent; sent = omega (arith, h.sent); id = h.id }
 
-  -- a reply under way stays so when more requests are sent
+  -- `IsComing` still holds of a reply when more requests were sent
   coming_more : (since total total' : ℕ) → total ≤ total' → (x : Numbered (List ℕ)) → IsComing since total x → IsComing since total' x
   coming_more since total total' le x h = record { recent = h.recent; sent = omega (arith, h.sent); id = h.id }
 

@@ -1,4 +1,5 @@
--- Events that take no memory: what a world says of them, its stage says.
+-- Events that take no memory: each condition for that, which `TakesNone` states of a world, holds of the stage that shows the
+-- world.
 use Rattle.std.proofs.Common.{◌≡◌, ℕ, ◌≤◌, true, false, List, [], ◌∷◌, length, Some, inl, inr, sym, ◌∙◌, ap, subst, arith}
 use mathlib.Core.Path.{ap₂}
 use Rattle.std.specs.Prelude.{slice_get}

@@ -1,11 +1,13 @@
--- What each elementary change keeps, each step keeps, and each run.
+-- A property P of worlds that each elementary change keeps is kept by each step and by each run.
 use Rattle.std.proofs.Common.{◌≡◌, ℕ, ◌+◌, Bool, true, false, List, [], ◌∷◌, length, Option, Some, None, refl, ltb}
 use Rattle.gc_catalogue.specs.declared.call.Call.{Call}
 use Rattle.gc_client.specs.Rule.{Sending}
 use Rattle.gc_world.specs.World.{Request, Numbered, Ends, Rule, Step, Send, Up_deliver, Up_lose, Up_repeat, Down_deliver, Down_lose, Down_repeat, Expire, Restart_client, Restart_instrument, Nothing, World, without, doubled, idle, replied, up_delivered, with_up, with_down, started, instrument_restarted, on_wire, requested, with_settled, down_delivered, client_restarted, happens, run}
 
 module _ {Client State : Type 0} (ends : Ends State) (rule : Rule Client) (P : World Client State → Type 0) where
-  -- each elementary change of a world keeps P
+  -- each elementary change of a world keeps P: an idle event, a refused send, a send, a reply of the instrument, a loss and a
+  -- repeat in either queue, a reply that the client hears, a moment, and with no line under way a restart of the client and of
+  -- the instrument
   pub record IsStable : Type 0 where
     pub idles : (w : World Client State) → P w → P (on_wire w (idle w.wire))
     pub refuses : (w : World Client State) → P w → P (on_wire w (record w.wire { refused = w.wire.refused + 1 }))
@@ -33,12 +35,12 @@ module _ {Client State : Type 0} (ends : Ends State) (rule : Rule Client) (P : W
     at_up w [] e h = st.idles w h
     at_up w (x ∷ rest) e h = st.answers w x rest e h
 
-    -- another upward queue keeps P, if that is possible or not
+    -- putting another upward queue in place, or counting an idle event instead, keeps P
     at_with_up : (w : World Client State) (up : List (Numbered Request)) (b : Bool) → P (on_wire w (record w.wire { up = up })) → P w → P (on_wire w (with_up w.wire up b))
     at_with_up w up false u h = st.idles w h
     at_with_up w up true u h = u
 
-    -- another downward queue keeps P, if that is possible or not
+    -- putting another downward queue in place, or counting an idle event instead, keeps P
     at_with_down : (w : World Client State) (down : List (Numbered (List ℕ))) (b : Bool) → P (on_wire w (record w.wire { down = down })) → P w → P (on_wire w (with_down w.wire down b))
     at_with_down w down false u h = st.idles w h
     at_with_down w down true u h = u

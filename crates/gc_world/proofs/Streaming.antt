@@ -1,4 +1,5 @@
--- What an assembler stands for, and what has gone of a front line, behind each change of a queue.
+-- How a queue may change while bytes of its front line have gone. An assembler *carries* the texts of a queue where it stands
+-- for the bytes of the front line that have gone, not all of them, and no text has a CR or an LF in it (`IsFlow`).
 use Rattle.std.proofs.Common.{◌≡◌, ℕ, zero, suc, ◌+◌, ◌-◌, ◌<◌, ◌≤◌, false, cond, List, [], ◌∷◌, ◌++◌, length, map, take, refl, sym, ap, subst, arith}
 use Rattle.std.proofs.lemmas.Bool.{lt-ltb, ltb-false}
 use Rattle.gc_lines.specs.Assembler.{Kept, StandsFor}
@@ -24,7 +25,7 @@ pub flow_push : (kept : Kept) (gone : ℕ) (texts : List (List ℕ)) (text : Lis
 flow_push kept gone [] text p h = subst (λ g. IsFlow kept g (text ∷ [])) (sym h.part) (flow_start kept (text ∷ []) h.stands (p, tt))
 flow_push kept gone (t ∷ ts) text p h = record { part = h.part; stands = h.stands; plain = each_append _ (t ∷ ts) (text ∷ []) h.plain (p, tt) }
 
--- where nothing has gone, other plain texts are carried as well
+-- where no byte of the front line has gone, the assembler carries any other plain texts (`rest`), too
 flow_tail : (kept : Kept) (gone : ℕ) (text : List ℕ) (texts rest : List (List ℕ)) → gone ≡ 0 → IsFlow kept gone (text ∷ texts) → Each IsPlain rest → IsFlow kept gone rest
 flow_tail kept gone text texts rest e h p =
     let at = subst (λ g. IsFlow kept g (text ∷ texts)) e h in
@@ -42,7 +43,7 @@ flow_doubled k kept gone [] e h = h
 flow_doubled zero kept gone (t ∷ ts) e h = flow_tail kept gone t ts (t ∷ t ∷ ts) (not_begun gone e) h (h.plain.0, h.plain)
 flow_doubled (suc k) kept gone (t ∷ ts) e h = record { part = h.part; stands = h.stands; plain = each_doubled _ (suc k) (t ∷ ts) h.plain }
 
--- this is the front line, and the assembler stands for what has gone of it
+-- `line` is the front line of `lines`, `gone` of its bytes have gone, not all, and the assembler stands for these
 pub record IsFront (line : List ℕ) (kept : Kept) (gone : ℕ) (lines : List (List ℕ)) : Type 0 where
   pub behind : List (List ℕ)
   pub lines_are : lines ≡ with_end line ∷ behind
@@ -61,7 +62,7 @@ remaining_is line kept gone lines h =
     let at : remaining gone lines ≡ length (with_end line) - gone = ap (remaining gone) h.lines_are in
     omega (arith, at, end_length line)
 
--- n more bytes that don't complete the front line are carried on
+-- once n more bytes have gone, which don't complete the front line, the texts are still carried
 pub flow_more : (kept after : Kept) (gone n : ℕ) (line : List ℕ) (texts : List (List ℕ)) → IsFront line kept gone (map with_end texts)
     → n < remaining gone (map with_end texts) → StandsFor after (take (gone + n) (with_end line)) → IsFlow kept gone texts → IsFlow after (gone + n) texts
 flow_more kept after gone n line [] front lt s h = absurd (omega (arith, lt))

@@ -13,7 +13,7 @@ use Rattle.gc_world.specs.World.{World}
 use Rattle.gc_world.proofs.Counts.{IsWithin, within_all}
 use Rattle.gc_world.proofs.Flow.{flow_append}
 
--- the streams behind one more event are those behind the others, and then the event
+-- the streams after the first i + 1 events are those after the first i, and then event i
 pub played_more : (width : ℕ) (opening : State) (events : List Event) (i : ℕ) (e : Event) → i < length events → e ≡ get_or events i e
     → streamed width opening (take (i + 1) events) ≡ goes_on width (streamed width opening (take i events)) e
 played_more width opening events i e lt is =
@@ -28,7 +28,7 @@ played_within width opening events =
     (within_all ends (by_ids width ends) events (begins opening) 0 (record
     { sent = omega arith; executed = omega arith; made = omega arith; starts = omega arith; refused = omega arith; idle = omega arith }))
 
--- which assemblers a report has doesn't count for its lists
+-- a report with other assemblers has the same lists and counts, so it is still that of the world
 with_kept : (width : ℕ) (r : Report) (up down : List ℕ) (c : Windowed) (w : World ById State) (a b : Kept) → AreOf width r up down c w → AreOf width (record r { up = a; down = b }) up down c w
 with_kept width r up down c w a b h =
     let g = h.reports in
@@ -42,7 +42,7 @@ with_kept width r up down c w a b h =
       calls = h.calls;
     }
 
--- behind the last event the report that is handed back is that of the whole run
+-- after the last event the report that is handed back is that of the whole run
 pub at_end : (width : ℕ) (opening : State) (events : List Event) (s : Seen) (i : ℕ) (r : Report) → length events ≤ i
     → AreStreamsOf width s (streamed width opening (take i events)) → r ≡ record s.report { up = s.up.assembler; down = s.down.assembler }
     → AreOf width r s.up.queue s.down.queue s.client (played width opening events)
@@ -51,7 +51,7 @@ at_end width opening events s i r all h is =
     subst (λ (x : Report). AreOf width x s.up.queue s.down.queue s.client (played width opening events)) (sym is)
     (with_kept width s.report s.up.queue s.down.queue s.client (played width opening events) s.up.assembler s.down.assembler shows.lines)
 
--- the stage behind the first i events has counted at most i refused sends and i idle events
+-- the stage after the first i events has counted at most i refused sends and i idle events
 pub counts_at : (width : ℕ) (opening : State) (events : List Event) (i : ℕ) (report : Report) → IsReport report (played width opening (take i events)).wire
     → i ≤ length events → (report.refused_sends ≤ i) × (report.idle_events ≤ i)
 counts_at width opening events i report h le =

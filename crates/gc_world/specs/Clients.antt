@@ -25,8 +25,8 @@ by_ids width ends =
 
 -- By numbers.
 
--- the client that is told the numbers: how many requests are settled, all that were sent, settled or not, and how many of them had been
--- sent at the client's last start
+-- the client that is told the numbers: `count` requests are settled, `requests` are all that were sent, settled or not, and
+-- `since` of them had been sent at the client's last start
 pub record ByNumber : Type 0 where
   pub count : ℕ
   pub requests : List Pending

@@ -76,9 +76,9 @@ pub record AreBefore (opening : State) (r : Report) (before : ℕ → State) : T
       (j n : ℕ) (request : Sent) → slice_get r.executed j ≡ Some n → slice_get r.sent n ≡ Some request →
       before (j + 1) ≡ begun restarted (has_number (j + 1) r.starts) (exec (before j) request.call).state
 
--- an entry of `made` for request n replies to execution j, which is that of request n, and no other is: the request's line is
--- that of its call with some id from 0 to 7, and the entry's line is the reply line with that id of what carrying out the call
--- gives in the state before, with the precision that stands after it
+-- an entry of `made` for request n is the reply of execution j, the one execution of request n. The request's line is that of
+-- its call with some id from 0 to 7. The entry's line is the reply line, with that id, of what the call gives when it is
+-- executed in the state before execution j, written with the precision that the execution leaves
 pub record IsReplyOf (r : Report) (before : ℕ → State) (entry : Made) : Type 0 where
   pub j : ℕ
   pub executed : slice_get r.executed j ≡ Some entry.number
@@ -97,7 +97,7 @@ pub record RecordsExecution (opening : State) (r : Report) : Type 0 where
   pub replies : (k : ℕ) (entry : Made) → slice_get r.made k ≡ Some entry → IsReplyOf r before entry
   pub replied : (j n : ℕ) → slice_get r.executed j ≡ Some n → (k : ℕ) × (entry : Made) × (slice_get r.made k ≡ Some entry) × (entry.number ≡ n)
 
--- each request acts once: the executed numbers strictly increase, and the instrument, apart from what it keeps, is in the state
+-- each request acts once: the executed numbers strictly increase, and the instrument, apart from its kept reply, is in the state
 -- after the last execution
 pub record ActsOnce (opening : State) (r : Report) : Type 0 where
   pub climbs : (i j n m : ℕ) → i < j → slice_get r.executed i ≡ Some n → slice_get r.executed j ≡ Some m → n < m

@@ -55,12 +55,12 @@ pub record IsNextFor (w : Wire State) (n : ℕ) (line : List ℕ) : Type 0 where
 abbrev pub ended : Outcome → Sent → Settlement
 ended outcome r = record { target = r.target; call = r.call; outcome = outcome }
 
--- the requests from number m on that stand before number n
+-- the requests from number m through number n - 1
 abbrev pub between : ℕ → ℕ → List Sent → List Sent
 between m n sent = take (n - m) (drop m sent)
 
--- from the one wire to the other all requests from the count settled to n - 1, given up or not, were settled as lost, in
--- order, and then request n with this outcome, and nothing else
+-- between the two wires the requests before request n that weren't settled, given up or not, were settled as lost, in order, and
+-- then request n with this outcome, and nothing else
 pub record IsSettledAs (before after : Wire State) (n : ℕ) (outcome : Outcome) : Type 0 where
   pub request : Sent
   pub found : slice_get before.sent n ≡ Some request
@@ -70,8 +70,8 @@ pub record IsSettledAs (before after : Wire State) (n : ℕ) (outcome : Outcome)
 abbrev pub IsDelivery : Streams ById State → Event → Type 0
 IsDelivery v e = (e ≡ DownDeliver) ⊎ ((n : ℕ) × (e ≡ DownBytes (n + 1)) × (remaining v.down_gone (down_lines v.world.wire) ≡ n + 1))
 
--- behind these events, if this line is the reply in front of the downward queue, and request n, to which it belongs, isn't settled: its
--- delivery settles request n with this outcome, and the unsettled requests before that one as lost
+-- after these events, if this line is the reply in front of the downward queue, and request n, to which it belongs, isn't
+-- settled: its delivery settles request n with this outcome, and the unsettled requests before that one as lost
 abbrev pub DeliverySettles : ℕ → State → List Event → ℕ → List ℕ → Outcome → Type 0
 DeliverySettles width opening events n line outcome =
     (delivery : Event) → IsDelivery (streams_by_ids width ends events (restarted opening)) delivery → IsNextFor (left_by_ids width opening events) n line →

@@ -1,4 +1,5 @@
--- What the laws of the runs say of the order of the line: which numbers can be under way. This project's own.
+-- What the laws of the runs say of the order of the line: which numbers can be under way. A request's number is its place among
+-- those sent, counted from 0, and a reply has its request's number. This project's own.
 use Rattle.std.specs.Prelude.{◌≡◌, ℕ, ◌+◌, ◌<◌, ◌≤◌, List, [], ◌∷◌, ◌++◌, length, map, Option, Some, None}
 use Rattle.gc_instrument.specs.State.{KeptReply}
 use Rattle.gc_world.specs.World.{Numbered, Wire}
@@ -21,7 +22,8 @@ numbers xs = map (λ x. x.number) xs
 abbrev pub under_way : {State : Type 0} → Wire State → List ℕ
 under_way w = numbers w.down ++ numbers w.up
 
--- while a reply is kept, something was executed, and each of these numbers is the one last executed or one of the `width` above it
+-- while a reply is kept, some request was executed, and each of the numbers `up` is the one executed last or one of the `width`
+-- above it
 abbrev pub IsRecent : ℕ → Option KeptReply → List ℕ → List ℕ → Type 0
 IsRecent width None executed up = Unit {0}
 IsRecent width (Some k) executed up = (earlier : List ℕ) × (last : ℕ) × (executed ≡ earlier ++ last ∷ []) × Each (λ n. (last ≤ n) × (n ≤ last + width)) up
@@ -31,8 +33,8 @@ pub record IsOrderly {State : Type 0} (width : ℕ) (w : Wire State) : Type 0 wh
   -- at most `width` requests are unsettled
   pub settled : length w.settled ≤ length w.sent
   pub few : length w.sent ≤ length w.settled + width
-  -- in each queue the numbers never fall from front to back, no number downward passes one upward, and every number
-  -- is at least the count settled less one
+  -- in each queue the numbers never fall from front to back, no number downward is above one upward, and every number is at
+  -- least the count of settlements less one
   pub order : Rising (length w.settled) (under_way w)
-  -- every number is below the count sent
+  -- every number is below the count of requests sent
   pub sent : Each (λ n. n < length w.sent) (under_way w)

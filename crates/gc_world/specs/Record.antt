@@ -1,4 +1,5 @@
--- What the laws of the runs say of the lists of a run: how they stand to one another. This project's own.
+-- What the laws of the runs say of a run's lists of requests, executions, replies and settlements: how they correspond. This
+-- project's own.
 use Rattle.std.specs.Prelude.{◌≡◌, ℕ, ◌+◌, ◌<◌, ◌≤◌, List, [], ◌∷◌, length, true, Some, slice_get}
 use Rattle.gc_catalogue.specs.declared.call.Call.{Call}
 use Rattle.gc_catalogue.specs.Texts.{request_line}
@@ -35,8 +36,8 @@ module _ {State : Type 0} (ends : Ends State) where
       (bytes : List ℕ) → s.outcome ≡ Answered bytes →
       ((j : ℕ) × (slice_get made j ≡ Some (record { number = m; line = bytes }))) × IsReplyTo Good s.call bytes
 
-  -- execution j is that of request n: its line is that of its call with some id from 0 to 7, the call is executed in the state
-  -- before it, and this is the next state
+  -- execution j is that of request n. The request's line is that of its call with some id from 0 to 7; the call is executed in
+  -- the state `before j`; and `before (j + 1)` is the state that comes of it, restarted where `starts` has the number j + 1
   pub record IsExecuted (w : Wire State) (before : ℕ → State) (j n : ℕ) : Type 0 where
     pub request : Sent
     pub found : slice_get w.sent n ≡ Some request
@@ -56,8 +57,8 @@ module _ {State : Type 0} (ends : Ends State) where
     pub execution : IsExecuted w before j entry.number
     pub line : entry.line ≡ (ends.handed (before j) execution.id execution.request.call).reply
 
-  -- the executions of a run: `before j` is the state before execution j, at first the restarted opening state, and the state behind the last
-  -- one is the wire's; each reply that was made is that of an execution
+  -- the executions of a run: `before j` is the state before execution j, at first the restarted opening state, and the state
+  -- after the last one is the wire's; each reply that was made is that of an execution
   pub record IsExecution (opening : State) (w : Wire State) : Type 0 where
     pub before : ℕ → State
     pub first : before 0 ≡ ends.restarted opening

@@ -1,4 +1,5 @@
--- No part of a promise: what a stage shows of the streams of a run.
+-- No part of a promise: what a stage shows of the streams of a run. A stage is what the code keeps while it plays events: the
+-- report so far, the client, and for each direction a side, with the lines under way in it.
 use Rattle.std.specs.Prelude.{◌≡◌, ℕ, ◌+◌, ◌<◌, List, Option, Some, map, replicate, slice_get}
 use Rattle.gc_catalogue.specs.Calls.{IsFitting}
 use Rattle.gc_catalogue.specs.Texts.{request_line}
@@ -24,15 +25,15 @@ use Rattle.gc_world.specs.World.{Request, Numbered, Step, World, happens, run}
 abbrev pub begins : State → Streams ById State
 begins opening = untouched (ids_open (restarted opening))
 
--- the world behind one step of the run by ids, with a window of this width
+-- the world after one step of the run by ids, with a window of this width
 abbrev pub does : ℕ → World ById State → Step → World ById State
 does width w step = happens ends (by_ids width ends) w step
 
--- the streams behind one event of the run by ids, with a window of this width
+-- the streams after one event of the run by ids, with a window of this width
 abbrev pub goes_on : ℕ → Streams ById State → Event → Streams ById State
 goes_on width v e = flows ends (by_ids width ends) v e
 
--- the streams behind the next n bytes of a direction
+-- the streams after the next n bytes of a direction
 abbrev pub handed : ℕ → Direction → Streams ById State → ℕ → Streams ById State
 handed width d v n =
     let c = cut (lines d v.world.wire) (gone d v + n) in
@@ -42,7 +43,7 @@ handed width d v n =
 abbrev pub bytes_of : Request → List ℕ
 bytes_of r = request_line (Some r.id) r.call
 
--- the request in flight with this number is the one that was sent with it: its id is a digit below 8, and its call's numbers
+-- the request under way with this number is the one that was sent with it: its id is a digit below 8, and its call's numbers
 -- lie in their types
 pub record IsSentIn (sent : List Sent) (x : Numbered Request) : Type 0 where
   pub request : Sent
@@ -56,7 +57,7 @@ abbrev pub named : List Made → List ℕ → List (Option (Numbered (List ℕ))
 named made places = map (slice_get (map made_seen made)) places
 
 -- the report, the queues and the client are those of this world, for a client with a window of this width: the queue upward
--- has the numbers of the requests in flight, and the queue downward names the replies
+-- has the numbers of the requests under way, and the queue downward names the replies
 pub record AreOf (width : ℕ) (report : Report) (up down : List ℕ) (client : Windowed) (w : World ById State) : Type 0 where
   pub reports : IsReport report w.wire
   pub up_is : up ≡ numbers w.wire.up
@@ -93,6 +94,6 @@ Shows width s v = AreStreamsOf width (seen s) v
 abbrev pub IsShown : {W : Type 0} → Stage W → Type 0
 IsShown s = (width : ℕ) × (v : Streams ById State) × Shows width s v
 
--- whatever streams the one stage shows, the other, whose client's window is as wide, shows those behind this event
+-- whatever streams the stage s shows, the stage t, whose client's window is as wide, shows the streams after this event
 abbrev pub Follows : {W : Type 0} → Stage W → Event → Stage W → Type 0
 Follows s e t = (width : ℕ) (v : Streams ById State) → Shows width s v → Shows width t (goes_on width v e)

@@ -32,7 +32,7 @@ pub record Streams (Client State : Type 0) : Type 0 where
   pub up_gone : ℕ
   pub down_gone : ℕ
 
--- a world of which no byte has gone
+-- a world of whose lines under way no byte has gone
 abbrev pub untouched : {Client State : Type 0} → World Client State → Streams Client State
 untouched w = record { world = w; up_gone = 0; down_gone = 0 }
 
@@ -53,7 +53,7 @@ pub record Cut : Type 0 where
   pub lines : ℕ
   pub gone : ℕ
 
--- a cut with one more line in front
+-- a cut with one more completed line in front
 abbrev pub one_more : Cut → Cut
 one_more c = record { lines = suc c.lines; gone = c.gone }
 
@@ -68,7 +68,7 @@ pub record Course : Type 0 where
   pub up_gone : ℕ
   pub down_gone : ℕ
 
--- the course of an event that is this one step, behind which `up` and `down` bytes of the two front lines have gone
+-- the course of an event that is this one step, after which `up` and `down` bytes of the two front lines have gone
 abbrev pub moved : Step → ℕ → ℕ → Course
 moved step up down = record { steps = step ∷ []; up_gone = up; down_gone = down }
 
@@ -76,12 +76,13 @@ moved step up down = record { steps = step ∷ []; up_gone = up; down_gone = dow
 abbrev pub is_begun : ℕ → ℕ → Bool
 is_begun k gone = nat_eq k 0 && nat_lt 0 gone
 
--- a loss or a repeat of line k as a step, which is possible only before the first byte of that line has gone
+-- the step that loses or repeats line k, where `gone` bytes of the front line have gone; it isn't possible once the first byte of
+-- line k has gone
 abbrev pub at_line : ℕ → ℕ → Step → Step
 at_line k gone step = if is_begun k gone then Nothing else step
 
--- the steps of the next n bytes, where n is not 0 and a byte is under way: each line that they complete is handed over, in
--- order. Else they are not possible
+-- the steps that the next n bytes of a direction make, where `gone` bytes of the front line have gone: `step`, which hands over a
+-- line, once for each line that they complete. Where n is 0, or no line is under way, it is the one step that isn't possible
 abbrev pub passed : Step → List (List ℕ) → ℕ → ℕ → List Step
 passed step [] gone n = Nothing ∷ []
 passed step (line ∷ lines) gone zero = Nothing ∷ []
@@ -93,7 +94,7 @@ left_gone [] gone n = gone
 left_gone (line ∷ lines) gone zero = gone
 left_gone (line ∷ lines) gone (suc n) = (cut (line ∷ lines) (gone + suc n)).gone
 
--- the course of an event, with these lines in flight, of whose front lines `up` and `down` bytes have gone
+-- the course of an event, with these lines under way, of whose front lines `up` and `down` bytes have gone
 abbrev pub course : (ups downs : List (List ℕ)) (up down : ℕ) → Event → Course
 course ups downs up down (event.Send target call deadline) = moved (Send target call deadline) up down
 course ups downs up down event.UpDeliver = moved Up_deliver 0 down
@@ -115,11 +116,11 @@ module _ {Client State : Type 0} where
   abbrev pub course_on : Streams Client State → Event → Course
   course_on v e = course (up_lines v.world.wire) (down_lines v.world.wire) v.up_gone v.down_gone e
 
-  -- the streams behind an event
+  -- the streams after an event
   abbrev pub flows : Ends State → Rule Client → Streams Client State → Event → Streams Client State
   flows ends rule v e = let c = course_on v e in record { world = run ends rule c.steps v.world; up_gone = c.up_gone; down_gone = c.down_gone }
 
-  -- the streams behind all events of a list, in order
+  -- the streams after all events of a list, in order
   abbrev pub flow : Ends State → Rule Client → List Event → Streams Client State → Streams Client State
   flow ends rule [] v = v
   flow ends rule (e ∷ es) v = flow ends rule es (flows ends rule v e)

@@ -25,14 +25,15 @@ boundary_of_eight =
     ∷ DownDeliver
     ∷ []
 
--- with a width of eight that schedule leaves different wires by ids and by numbers
+-- with a width of eight, the schedule `boundary_of_eight` leaves one wire by ids and another by numbers
 abbrev pub EightDiffers : Type 0
 EightDiffers = (opening : State) → left_by_ids 8 opening boundary_of_eight ≢ left_by_numbers 8 opening boundary_of_eight
 
--- the client that knows ids takes the repeat for the ninth request's reply, and settles all nine
+-- over `boundary_of_eight` the client that knows ids takes the first reply, when it comes again, for the ninth request's, and
+-- settles all nine
 abbrev pub EightSettlesNine : Type 0
 EightSettlesNine = (opening : State) → length (left_by_ids 8 opening boundary_of_eight).settled ≡ 9
 
--- the client that is told the numbers settles the first alone
+-- over `boundary_of_eight` the client that is told the numbers settles the first request alone
 abbrev pub NumbersSettleOne : Type 0
 NumbersSettleOne = (opening : State) → length (left_by_numbers 8 opening boundary_of_eight).settled ≡ 1

@@ -109,7 +109,8 @@ module _ {State : Type 0} where
   abbrev pub idle : Wire State → Wire State
   idle w = record w { idle = w.idle + 1 }
 
-  -- the wire after the instrument did this with the front request, of number n; `rest` is the queue behind that request
+  -- the wire after the instrument got the front request, of number n, and did with it what `h` says; `rest` is the queue behind
+  -- it
   abbrev pub replied : Wire State → ℕ → List (Numbered Request) → Handed State → Wire State
   replied w n rest h =
       record w {
@@ -163,7 +164,8 @@ module _ {Client State : Type 0} where
         client = x.client;
       }
 
-  -- the world of this wire once the client settled requests: the settlements come behind the wire's, and the client is the one behind them
+  -- the world of this wire once the client settled requests, as `x` says: their settlements are appended to the wire's, and the
+  -- client is the one that `x` leaves
   abbrev pub with_settled : Wire State → Settled Client → World Client State
   with_settled wire x = record { wire = record wire { settled = wire.settled ++ x.settlements }; client = x.client }
 

@@ -26,7 +26,7 @@ impl<T> Model for Entries<T> {
 }
 
 impl<T> Entries<T> {
-    /// No entries yet. There is room for so many, where memory for it is had: else the list grows entry by entry.
+    /// An empty list, with room for `count` entries. Where memory for that room is refused, the list grows entry by entry.
     pub(crate) fn with_room(alloc: Global, count: usize) -> Entries<T>
         ensures { result ≡ [] }
     {
@@ -124,6 +124,7 @@ impl Entries<Sent> {
 
 impl Entries<Made> {
     /// Appends a reply that was made, with the number of its request. `Err`: memory for it was refused.
+    #[inline(always)]
     pub(crate) fn push_made(&mut self, number: usize, line: &Line) -> Result<(), AllocError>
         ensures { OnOk result (self.new ≡ self.old ++ record { number = number; line = line.now } ∷ []) }
     {
@@ -140,6 +141,7 @@ impl Entries<Made> {
 
 impl Entries<Settlement> {
     /// Appends these settlements, in order. `Err`: memory was refused for one of them; those before it were appended.
+    #[inline(always)]
     pub(crate) fn append_all(&mut self, settlements: &[Settlement]) -> Result<(), AllocError>
         ensures { OnOk result (self.new ≡ self.old ++ settlements.now) }
     {

@@ -1,4 +1,5 @@
-//! Feeding: the bytes of a line under way, and its CR LF, go to the assembler of their end from where they stand.
+//! Feeding: the bytes of a line under way, and then its CR LF, are handed to the assembler at the far end of their direction,
+//! all at once or in parts, without a copy of the line.
 
 ghost use Rattle.std.specs.Prelude.{◌≡◌, ◌+◌, ◌<◌, ◌≤◌, [], length, take};
 ghost use Rattle.gc_lines.specs.Assembler.{StandsFor};
@@ -8,7 +9,8 @@ ghost use Rattle.gc_lines.specs.declared.frame.Frame.{Frame};
 
 use gc_lines::{Assembler, Lent, Line};
 
-/// Feeds `n` more bytes of a line of which `gone` have gone, and not the last one: no line comes out.
+/// Feeds the next `n` bytes of a line whose first `gone` bytes have gone. The line's last byte isn't among them, so no line comes
+/// out. `cut` is where the assembler puts the line together.
 #[inline(never)]
 pub fn feed_some(assembler: &mut Assembler, line: &[u8], gone: usize, n: usize, cut: &mut Line)
     requires plain { IsPlain line.now }
@@ -17,6 +19,7 @@ pub fn feed_some(assembler: &mut Assembler, line: &[u8], gone: usize, n: usize, 
     requires stands { StandsFor assembler.old (take gone (with_end line.now)) }
     ensures { StandsFor assembler.new (take (gone + n) (with_end line.now)) }
 {
+    // Where the bytes go past the line's end, the CR is among them. Where the CR has gone already, n is 0.
     let to = gone + n;
     if to <= line.len() {
         assembler.next(&line[gone..to], cut);
@@ -26,8 +29,9 @@ pub fn feed_some(assembler: &mut Assembler, line: &[u8], gone: usize, n: usize, 
     }
 }
 
-/// Feeds what remains of a line of which `gone` bytes have gone: the line comes out.
-#[inline]
+/// Feeds what remains of a line whose first `gone` bytes have gone: the line comes out. `cut` is where the assembler has put
+/// together what went before.
+#[inline(always)]
 pub fn feed_rest<'a>(
     assembler: &mut Assembler,
     line: &'a [u8],
@@ -41,6 +45,7 @@ pub fn feed_rest<'a>(
     ensures line { lent_seen result ≡ Frame.Line (record { items = line.now }) }
     ensures start { StandsFor assembler.new [] }
 {
+    // No byte of the line has gone: it is lent as it stands.
     if assembler.at_start() {
         return Lent::Line(line);
     }

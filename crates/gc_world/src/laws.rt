@@ -1,4 +1,7 @@
 //! What is proved of the runs themselves. Each function does nothing: its contract is the law.
+//!
+//! A request's number is its place among the requests sent, counted from 0. A reply under way has the number of its request. In
+//! the run by ids the client knows requests by ids of one digit; in the run by numbers it is told each reply's number.
 
 ghost use Rattle.gc_world.specs.FirstReply.{BooksFirstReply, FirstReplyIsLate, IsNeverBoth, IsOneOrOther, NoSecondReply};
 ghost use Rattle.gc_world.specs.Laws.{KeepsOrder, KeepsRecent, RunsAgree, SettlesInOrder, BooksItsOwn, RepliesAreFine, RecordsExecutions};
@@ -6,15 +9,16 @@ ghost use Rattle.gc_world.specs.declared.direction.Direction.{Direction};
 ghost use Rattle.gc_world.specs.Pieces.{BytesAdd, BytesEnd};
 ghost use Rattle.gc_world.specs.Width.{EightDiffers, EightSettlesNine, NumbersSettleOne};
 
-/// In each queue the numbers never fall from front to back, no number downward passes one upward, every number under
-/// way is at least the count settled less one and below the count sent, and at most as many requests are unsettled as
-/// the window is wide.
+/// In each queue the numbers never fall from front to back, and no reply under way has a higher number than a request under way.
+/// Every number under way is below the count of requests sent, and at least the count of settlements less one. At most as many
+/// requests are unsettled as the window is wide.
 pub fn line_keeps_order()
     ensures { KeepsOrder }
 {}
 
-/// While a reply is kept, every request under way upward has the number last executed or one of the next, as many as the
-/// window is wide. So a request with the kept id is the one last executed, come again.
+/// While the instrument keeps a reply, every request under way is the one executed last, or one of those sent next after that
+/// one, of which there are at most as many as the window is wide. So a request with the kept id is the one executed last,
+/// repeated.
 pub fn kept_reply_is_recent()
     ensures { KeepsRecent }
 {}
@@ -35,8 +39,8 @@ pub fn answers_are_booked()
     ensures fine { RepliesAreFine }
 {}
 
-/// Each reply that was made is that of the instrument to a request that it executed, each such reply was made, and the instrument
-/// executes each request at most once, in order.
+/// Each reply that the instrument made answers a request that it executed, each request that it executed has its reply among
+/// those made, and it executes each request at most once, in order.
 pub fn executions_are_recorded()
     ensures { RecordsExecutions }
 {}
@@ -53,8 +57,9 @@ pub fn first_reply_is_booked()
     ensures first_alone { NoSecondReply }
 {}
 
-/// Bytes that go over in one event leave what they leave in two, and so in any number of events: each line that they complete is
-/// delivered by its own last byte. Where more bytes are handed over than are under way, those under way go.
+/// Whether bytes go over in one event or in two, and so in any number of events, they lead to the same streams: each line that
+/// they complete is delivered with its own last byte. Where an event hands over more bytes than are under way, those under way
+/// go.
 pub fn bytes_go_over_in_turn()
     ensures adds { (direction : Direction) → BytesAdd direction }
     ensures ends { (direction : Direction) → BytesEnd direction }

@@ -21,10 +21,10 @@ use std::alloc::{AllocError, Global};
 /// The report is that of the world's run by ids, and it is faithful: the settlements stand one for one and in order for
 /// the requests sent; each answer that the client booked is a line that the instrument made on executing that very
 /// request, and reads as a value or a refusal; and requests, settlements and both counts are those of a client that is told
-/// which request each reply belongs to. So each request's first reply, if it comes unsettled and in time, is booked. First:
-/// it is the first of the request's replies that is delivered. Unsettled: the request's number isn't below the count of
-/// requests settled until then. In time: no `Expire` with a moment at or past the request's deadline came between its send and
-/// this delivery, which is that of the reply's last byte.
+/// which request each reply belongs to. So the first reply to a request is booked, if it comes while the request isn't settled,
+/// and in time. First: it is the first of the request's replies that is delivered. Not settled: the request's number isn't
+/// below the count of requests settled until then. In time: no `Expire` with a moment at or past the request's deadline came
+/// between its send and this delivery, which is that of the reply's last byte.
 ///
 /// By what the events are, the line keeps order; a line that has begun to arrive arrives whole; a repeat stands directly
 /// behind its original; and either end restarts only while no byte is under way. An event that isn't possible changes nothing
@@ -34,8 +34,8 @@ use std::alloc::{AllocError, Global};
 /// the reply that it keeps, which is made and not executed. A restart of the client restarts the instrument too. Every restart
 /// leaves the instrument's precision as it is, also the one before the first event.
 ///
-/// Either end stands behind an assembler and gets the lines that come out of it. Each of the two in the report stands for
-/// the bytes of the front line of its direction that have gone: so it is at the start where none have.
+/// Either end stands behind an assembler and gets the lines that come out of it. Each of the two assemblers in the report holds
+/// those bytes of the front line of its direction that have gone over. Where none have, it is as a new one.
 ///
 /// It fails only where memory for a growth was refused; then nothing is handed back. Where none of the events takes memory,
 /// it doesn't fail.

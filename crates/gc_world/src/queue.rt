@@ -7,8 +7,9 @@ use std::alloc::{AllocError, Global};
 use std::collections::VecDeque;
 use std::marker::Model;
 
-/// Lines under way, the one that was written first in front: of each its place in the report's list, where its bytes
-/// stand. Upward that list is `sent`, and the place is the request's number; downward it is `made`.
+/// The lines under way in one direction, the one that was written first in front. Of each line the queue holds its place in a
+/// list of the report, where its bytes stand. Upward that list is `sent`, and the place is the request's number; downward it is
+/// `made`.
 #[derive(Drop)]
 pub struct Queue {
     places: VecDeque<usize>,
@@ -47,6 +48,7 @@ impl Queue {
     }
 
     /// Puts the line of this place at the back: it was written last. `Err`: memory for it was refused.
+    #[inline(always)]
     pub fn push(&mut self, place: usize) -> Result<(), AllocError>
         ensures { OnOk result (self.new ≡ self.old ++ place ∷ []) }
     {
@@ -61,7 +63,7 @@ impl Queue {
         self.places.pop_front()
     }
 
-    /// Takes line k, counted from the front, out, because it is lost, and says whether there was a line k.
+    /// Takes line k out, because it is lost, and says whether there was one. Lines are counted from 0, at the front.
     pub fn lose(&mut self, k: usize) -> bool
         ensures found { result ≡ nat_lt k (length self.old) }
         ensures left { self.new ≡ without k self.old }
@@ -69,7 +71,8 @@ impl Queue {
         self.places.remove(k).is_some()
     }
 
-    /// Puts line k in once more, directly behind itself, and says whether there is a line k. `Err`: memory for it was refused.
+    /// Puts line k in once more, directly behind itself, and says whether there is one. Lines are counted from 0, at the front.
+    /// `Err`: memory for it was refused.
     pub fn repeat(&mut self, k: usize) -> Result<bool, AllocError>
         ensures spare { length self.old ≤ k → IsOk result }
         ensures found { IfOk result (λ found. found ≡ nat_lt k (length self.old)) }

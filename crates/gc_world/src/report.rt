@@ -37,9 +37,9 @@ pub struct Report {
     pub sent: Entries<Sent>,
     /// The numbers of the requests that the instrument executed, in the order of execution.
     pub executed: Entries<usize>,
-    /// The replies that the instrument made, in order; where a request came again, the kept one once more.
+    /// The replies that the instrument made, in order. Where a request came again, the kept reply stands here once more.
     pub made: Entries<Made>,
-    /// The ends of requests, in order.
+    /// The settlements, in order.
     pub settled: Entries<Settlement>,
     /// For each restart of the instrument, how many requests it had executed until then.
     pub starts: Entries<usize>,

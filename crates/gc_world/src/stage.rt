@@ -30,15 +30,15 @@ pub struct Stage<W: Window> {
     pub down: Side,
     pub client: Client<W>,
 
-    /// Where a line is put together that went over in pieces, and what the last reply settled: one of each, large as they
-    /// are, serves for all events.
+    /// Two values that all events use, made once because they are large: `cut` is where a line is put together that goes over in
+    /// pieces, and `settled` is what the last reply settled.
     pub cut: Line,
     pub settled: ArrayVec<Settlement, WINDOW>,
 }
 
 impl<W: Window> Stage<W> {
-    /// The stage before the first event: the instrument is restarted, and the client is new. The report has room for so many requests,
-    /// where memory for it is had.
+    /// The stage before the first event: the instrument is restarted, and the client is new. The report has room for this many
+    /// requests, where memory for it is granted.
     pub fn new(
         alloc: Global,
         mut instrument: Instrument,
@@ -131,8 +131,8 @@ impl<W: Window> Stage<W> {
         self.report.sent.push_sent(target, call, &self.cut)
     }
 
-    // Hands the front request to the instrument, puts the reply at the back of the downward queue, and notes both in the report. Where
-    // no request is under way, the event is only counted.
+    // Hands the front request to the instrument, puts the reply at the back of the downward queue, and notes both in the
+    // report. Where no request is under way, the event is only counted.
     #[inline(always)]
     fn up_deliver(&mut self) -> Result<(), AllocError>
         requires idle { self.old.report.idle_events + 1 < 2 ^ 64 }
@@ -147,6 +147,7 @@ impl<W: Window> Stage<W> {
         let mut reply = Line::new();
         let line = self.report.sent.at(number).line.as_slice();
         let frame = self.up.finish(line, &mut self.cut);
+        // By the contract of `finish` the frame is a line.
         let Lent::Line(request) = frame else {
             return Ok(());
         };
@@ -160,8 +161,8 @@ impl<W: Window> Stage<W> {
         Ok(())
     }
 
-    // Hands the front reply to the client, and puts what it settles into the report. Where no reply is under way, the event is only
-    // counted.
+    // Hands the front reply to the client, and puts what it settles into the report. Where no reply is under way, the event is
+    // only counted.
     #[inline(always)]
     fn down_deliver(&mut self) -> Result<(), AllocError>
         requires idle { self.old.report.idle_events + 1 < 2 ^ 64 }
@@ -175,6 +176,7 @@ impl<W: Window> Stage<W> {
         };
         let line = self.report.made.at(place).line.as_slice();
         let frame = self.down.finish(line, &mut self.cut);
+        // By the contract of `finish` the frame is a line.
         let Lent::Line(reply) = frame else {
             return Ok(());
         };
@@ -184,8 +186,8 @@ impl<W: Window> Stage<W> {
         Ok(())
     }
 
-    // Hands over the next `n` bytes of a direction: each line that they complete is delivered. Where `n` is 0 or no byte is under way,
-    // the event is only counted.
+    // Hands over the next `n` bytes of a direction: each line that they complete is delivered. Where `n` is 0 or no byte is
+    // under way, the event is only counted.
     #[inline(never)]
     fn bytes(&mut self, direction: Direction, n: usize) -> Result<(), AllocError>
         requires idle { self.old.report.idle_events + 1 < 2 ^ 64 }
@@ -235,7 +237,8 @@ impl<W: Window> Stage<W> {
         }
     }
 
-    // Hands over the next `n` bytes of the front line of a direction, behind those that have gone already. They don't complete it.
+    // Hands over the next `n` bytes of the front line of a direction, behind those that have gone already. They don't complete
+    // it.
     fn begin(&mut self, direction: Direction, n: usize)
         requires shown { IsShown self.old }
         requires some { (width : ℕ) (v : Streams ById State) → Shows width self.old v → n < remaining (gone direction v) (lines direction v.world.wire) }
@@ -258,8 +261,8 @@ impl<W: Window> Stage<W> {
         self.client.expire(now);
     }
 
-    // Restarts the client, which settles all that wait as lost, and the instrument too, because that keeps its last reply by the
-    // client's ids. Where a line is under way, the event is only counted.
+    // Restarts the client, which settles all requests that wait as lost. It restarts the instrument, too: the reply that the
+    // instrument keeps has an id that the new client uses again. Where a line is under way, the event is only counted.
     fn restart_client(&mut self) -> Result<(), AllocError>
         requires { self.old.report.idle_events + 1 < 2 ^ 64 }
         ensures follows { OnOk result (Follows self.old Event.RestartClient self.new) }
@@ -300,8 +303,9 @@ impl<W: Window> Stage<W> {
     }
 }
 
-// Notes that a request was executed, where another id is kept than before: a repeat leaves the kept id as it is, and an execution
-// changes it.
+// Appends the request's number to those executed, if the instrument's kept id changed from `before` to `after`: an execution
+// changes that id, and a repeat leaves it.
+#[inline(always)]
 fn note_execution(
     executed: &mut Entries<usize>,
     number: usize,
