@@ -1,4 +1,6 @@
--- What was asked so far, command after command.
+-- What was asked so far, command after command. Throughout, `done` are the commands asked so far, `given` the bytes that the
+-- link gave, `left` those of them that weren't looked at yet, and `more` the bytes that come next. `a` and `b` are what the
+-- link had taken at first and has taken now, `c` and `d` the same of the sink; a mark (`b'`, `d'`) stands for a step later.
 use Rattle.std.proofs.Common.{◌≡◌, ℕ, ◌+◌, ◌<◌, Bool, true, ltb, List, [], ◌∷◌, ◌++◌, length, take, map, Option, Some, None, refl, sym, ap, ◌∙◌, subst, arith, append_assoc, append-nil, length-append}
 use Rattle.std.specs.Io.KnownBytes.{Appends}
 use Rattle.std.proofs.lemmas.Bool.{ltb-true}
@@ -20,7 +22,7 @@ use Rattle.gc_ask.proofs.FirstReplies.{lines_behind-append, first_reply-at}
 
 -- One request that waits.
 
--- fewer than one is none
+-- a number that a test finds to be below 1 is 0
 one_waits : (n p : ℕ) (b : Bool) → b ≡ ltb p 1 → b ≡ true → p ≡ 0
 one_waits n p b is e = omega (arith, ltb-true p 1 (sym is ∙ e))
 
@@ -37,14 +39,14 @@ hears_one k c line fit = by_id (heard line) fit where
 
 -- Requests and settlements in order.
 
--- the request lines of commands, and of one more, are those of the commands, and that of the last
+-- the request lines of the commands `done` and then c are those of `done`, and then that of c
 texts_one : (k : ℕ) (done : List Command) (c : Command) → request_texts k (done ++ c ∷ []) ≡ request_texts k done ++ request_text (k + length done) c ∷ []
 texts_one k [] c = ap (λ n. request_text n c ∷ []) (omega arith)
 texts_one k (x ∷ done) c =
     let place : k + 1 + length done ≡ k + length (x ∷ done) = omega arith in
     ap (λ ts. request_text k x ∷ ts) (texts_one (k + 1) done c ∙ ap (λ n. request_texts (k + 1) done ++ request_text n c ∷ []) place)
 
--- the text of the request lines of commands, and of one more, is that of the commands, and the line of the last
+-- the text of the request lines of `done` and then c is that of `done`, and then the line of c
 pub all_texts_one : (done : List Command) (c : Command) → all_of (request_texts 0 (done ++ c ∷ [])) ≡ all_of (request_texts 0 done) ++ request_text (length done) c
 all_texts_one done c =
     let place : 0 + length done ≡ length done = omega arith in
@@ -57,12 +59,14 @@ lines_last settled k next is =
     let place : 0 + length settled ≡ k = omega (arith, is) in
     lines_one 0 settled next ∙ ap (λ n. settlement_lines settled ++ settlement_line n next) place ∙ ap (λ t. settlement_lines settled ++ t) (sym (append-nil (settlement_line k next)))
 
+-- one more element makes a list longer by 1
 length_one : {A : Type 0} (xs : List A) (x : A) → length (xs ++ x ∷ []) ≡ length xs + 1
 length_one xs x = length-append xs (x ∷ [])
 
 -- The bytes that came.
 
--- where more bytes come, the lines that were looked at stay, and those behind them are of what was left and of the new bytes
+-- where more bytes come, the lines that were looked at stay, and those behind them are the lines of what was left and of the
+-- new bytes; `now` is the rest of a line that the assembler keeps in front of these
 more_came : (given left more now : List ℕ) (looked : List (List ℕ)) → lines given ≡ looked ++ lines_behind now left → rest_of given ≡ rest_behind now left
     → (lines (given ++ more) ≡ looked ++ lines_behind now (left ++ more)) × (rest_of (given ++ more) ≡ rest_behind now (left ++ more))
 more_came given left more now looked seen rests = (
@@ -71,7 +75,8 @@ more_came given left more now looked seen rests = (
   rest-append [] given more ∙ ap (λ r. rest_behind r more) rests ∙ sym (rest-append now left more),
 )
 
--- these commands were asked and settled, of the bytes that were given; those that are left aren't looked at
+-- the course of a run so far: the commands `done` were asked and settled by the bytes `given`, of which `left` weren't looked
+-- at yet. `looked` are the lines looked at, and `now` is the rest of a line that the assembler keeps
 pub record Course (done : List Command) (given left : List ℕ) (kept : Kept) (client : ById) (link_old link_new sink_old sink_new : Option (List ℕ)) : Type 0 where
   pub now : List ℕ
   pub looked : List (List ℕ)
@@ -85,7 +90,7 @@ pub record Course (done : List Command) (given left : List ℕ) (kept : Kept) (c
   pub link : Appends link_old link_new (all_of (request_texts 0 done))
   pub sink : Appends sink_old sink_new (settlement_lines settled)
 
--- before anything is asked, the course of no commands holds
+-- before anything is asked, `Course` is true with no commands asked and no bytes given
 pub course_start : (kept : Kept) (client : ById) (link sink : Option (List ℕ)) → StandsFor kept [] → client ≡ idle 0 → Course [] [] [] kept client link link sink sink
 course_start kept client link sink s is = record {
   now = [];
@@ -101,7 +106,7 @@ course_start kept client link sink s is = record {
   sink = Appends-nil sink;
 }
 
--- of the commands that were asked, all that came settles what the course says
+-- by all bytes that came, also by those that come next, the commands asked so far are settled as the course says
 pub asked_so : (done : List Command) (given left : List ℕ) (kept : Kept) (client : ById) (a b c d : Option (List ℕ)) (more : List ℕ)
     (at : Course done given left kept client a b c d) → asked done (given ++ more) ≡ at.settled
 asked_so done given left kept client a b c d more at =
@@ -109,7 +114,8 @@ asked_so done given left kept client a b c d more at =
     ap (λ xs. asked_from 0 xs (lines (given ++ more))) (sym (append-nil done)) ∙ ap (asked_from 0 (done ++ [])) (more_came given left more at.now at.looked at.seen at.rests).0
     ∙ at.asks [] came ∙ append-nil at.settled
 
--- where one more command was sent, all that came settles what the course says, and behind that what the first reply to this command does
+-- where `r` is the first reply to one more command, the bytes that came settle what the course says, then that command by `r`,
+-- and then the later ones by the lines behind `r`; without a reply they settle what the course says, and no more
 asked_on : (done : List Command) (given left : List ℕ) (kept : Kept) (client : ById) (a b c d : Option (List ℕ)) (more : List ℕ)
     (at : Course done given left kept client a b c d) (command : Command) (later : List Command) (r : Option Reply)
     → first_reply (waiting_for (length done) command) (lines_behind at.now (left ++ more)) ≡ r
@@ -119,7 +125,8 @@ asked_on done given left kept client a b c d more at command later r is =
     ap (asked_from 0 (done ++ command ∷ later)) (more_came given left more at.now at.looked at.seen at.rests).0
     ∙ at.asks (command ∷ later) came ∙ ap (λ x. at.settled ++ settled_by (waiting_for (length done) command) (asked_from (length done + 1) later) x) is
 
--- the line that settles a request is its first reply
+-- client `from`, with `rest` as the bytes of the line under way, is given `bytes`, and a line of them settles its request (`Settles`; `to`
+-- is the client then, and `left` the bytes behind that line). That line is the first reply, and the lines of `left` come after it
 first_is : (rest bytes left : List ℕ) (kept : Kept) (from to : ById) (settled : List Settlement.Settlement)
     (s : Settles from (record { rest = rest; bytes = bytes; left = left; kept = kept; client = to; settled = settled }))
     → first_reply from (lines_behind rest bytes) ≡ Some (record { line = s.line; later = lines_behind [] left })
@@ -133,7 +140,8 @@ settled_is k command rest bytes left kept to settled s =
     let one = hears_one k command s.line s.fits in
     (s.settles.seen ∙ one.0, s.client ∙ one.1)
 
--- where one more command was sent, and a line settles it, all that came settles what the course says, and this command by that line
+-- where one more command was sent, and a line settles it, the bytes that came settle what the course says, and then this
+-- command by that line
 pub asked_with : (done : List Command) (given left : List ℕ) (kept : Kept) (client : ById) (a b c d : Option (List ℕ)) (more : List ℕ)
     (at : Course done given left kept client a b c d) (command : Command)
     (left' : List ℕ) (kept' : Kept) (to : ById) (settled : List Settlement.Settlement)
@@ -191,7 +199,7 @@ course_more done command given left more left' kept kept' client to a b b' c d d
 
 -- Ends.
 
--- where the course has all commands, `AsksAll` holds
+-- where the course has all commands, all were asked and settled, as `AsksAll` has it
 pub course_all : (commands : List Command) (given left : List ℕ) (kept : Kept) (client : ById) (a b c d : Option (List ℕ))
     → Course commands given left kept client a b c d → AsksAll commands given (record { link_old = a; link_new = b; sink_old = c; sink_new = d })
 course_all commands given left kept client a b c d at =
@@ -245,7 +253,7 @@ course_cut alone commands done later command given left more kept client a b b' 
           ∙ ap (λ zs. settlement_lines (zs ++ lost_of command ∷ [])) (sym so)) (Appends-append _ _ _ _ _ at.sink told);
     }
 
--- where the sink failed as it took the next settlement, `TellsPart` holds
+-- where the sink failed as it took the line of the next settlement, asking ended there (`TellsPart`)
 pub course_tells : (commands done later : List Command) (command : Command) (given left more : List ℕ) (kept : Kept) (client : ById)
     (a b b' c d d' : Option (List ℕ)) (bytes : ℕ) (next : Settlement) (over : LinkEnd → Type 0) (link : LinkEnd)
     → (at : Course done given left kept client a b c d) → commands ≡ done ++ command ∷ later
@@ -274,10 +282,12 @@ course_tells commands done later command given left more kept client a b b' c d 
           (Appends-append _ _ _ _ _ at.sink (Appends-is _ _ _ _ (ap (λ (xs : List Settlement). lines_from (length done) xs ++ take told.part
           (settlement_line (length done + length told.earlier) told.next)) alone.0 ∙ ap (take told.part) (the_line same alone.1)) told.took));
     } where
+      -- a list of one element that is split round an element has that one, with nothing before it
       alone_in : (xs ys : List Settlement) (x y : Settlement) → y ∷ [] ≡ xs ++ x ∷ ys → (xs ≡ []) × (x ≡ y)
       alone_in [] ys x y e = (refl, cc)
       alone_in (z ∷ []) ys x y e = absurd (omega (arith, ap length e))
       alone_in (z ∷ w ∷ zs) ys x y e = absurd (omega (arith, ap length e))
 
+      -- the line of a settlement is determined by its place and the settlement
       the_line : {j k : ℕ} {x y : Settlement} → j ≡ k → x ≡ y → settlement_line j x ≡ settlement_line k y
       the_line e f = cc

@@ -13,7 +13,7 @@ use Rattle.gc_ask.proofs.FirstReplies.{first_reply-at}
 one_window : (k : ℕ) (c : Command) → IsWindow (waiting_for k c)
 one_window k c = record { digit = omega arith; few = omega arith }
 
--- the id of the oldest request is the one that was given
+-- the rule's id of the oldest request that waits, where request k is the only one, is k modulo 8
 its_id : (k : ℕ) → ((k + 1) % 8 + 8 - 1 + 0) % 8 ≡ k % 8
 its_id k = omega arith
 
@@ -49,7 +49,7 @@ no_reply k c (line ∷ later) none = elim (fits (waiting_for k c) (heard line)) 
       | false ↦ λ e. no_reply k c later none.1
     ] refl
 
--- the law: each request is settled by the first reply with its id, behind the one that settled the request before it
+-- the law: each request is settled by the first reply with its id, after the one that settled the request before it
 pub asks_by_id : (k : ℕ) (command : Command) (later : List Command) → AsksById k command later
 asks_by_id k command later = record {
   settled = λ front line rest none its.

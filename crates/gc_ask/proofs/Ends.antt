@@ -1,4 +1,6 @@
--- The ports of a link's two ends: what they are a step later, and behind many.
+-- The ports of a link's two ends, after one step (a call, or several in a row, that uses the link), and after all steps of a run.
+-- Throughout, `c` or `p` is the client's end, and `i` or `q` the instrument's; `c0` is an end at first, `c` before a step, and
+-- `c'` after it. An end is sound (`Sound`) while no read was the end of its input and neither of its ports failed.
 use Rattle.std.proofs.Common.{◌≡◌, ℕ, ◌<◌, ◌≤◌, Bool, true, false, ltb, List, [], Option, Ok, Err, ◌⊎◌, inl, inr, refl, sym, ap, ◌∙◌, subst, arith}
 use Rattle.std.specs.Io.KnownBytes.{Consumes}
 use Rattle.std.proofs.lemmas.Bool.{ltb-true, ltb-false}
@@ -43,7 +45,7 @@ pub step_sent : (place : ℕ) (text : List ℕ) (old new : Ports) (r : LinkEnd)
 step_sent place text old new (Ok u) s reads ended source = step_none old new reads ended source s.1
 step_sent place text old new (Err e) s reads ended source = step_sends place text old new e s reads ended source
 
--- the fault of a write isn't that all reads were made
+-- a write never ends with `TooManyReads`
 pub sends_no : (place : ℕ) (text : List ℕ) (old new : Taken) (r : LinkEnd) → Sends place text old new r → r ≡ Err TooManyReads → ⊥
 sends_no place text old new r s is = subst (λ (e : LinkEnd). Sends place text old new e) is s
 
@@ -62,7 +64,8 @@ both_ok : (a b c d : Ports) → BothStep a b c d (Ok tt) → StepEnds a b (Ok tt
 both_ok a b c d (inl s) = s
 both_ok a b c d (inr s) = s
 
--- where a request went out well, was answered if that is the link's own affair, and then the client's end was read, all of this is one step
+-- the sending of a request that went well, and the reading at the client's end after it, are together one step, with the
+-- result of the reading
 pub step_both : (c c' c'' i i' i'' : Ports) (after : ℕ) (r : LinkEnd) → BothStep c c' i i' (Ok tt) → source_of c' ≡ source_of c
     → c''.sink_failed ≡ c'.sink_failed → i'' ≡ i' → c'.reads ≤ c''.reads → ReadEnds (source_of c') (source_of c'') after r → BothStep c c'' i i'' r
 step_both c c' c'' i i' i'' after r sent unread sink same grows ends =
@@ -81,10 +84,12 @@ reads_nothing old new same = subst (λ (r : Option (List ℕ)). Consumes old.rem
 pub reads_then : (old mid new : Ports) (given : List ℕ) → source_of mid ≡ source_of old → Consumes mid.remaining new.remaining given → Consumes old.remaining new.remaining given
 reads_then old mid new given same gave = subst (λ (r : Option (List ℕ)). Consumes r new.remaining given) (ap (λ (s : Input). s.remaining) same) gave
 
--- where no read of a first step was the end, and none of a second, none of both together was
+-- where no read of a first step was the end, and none of a second, none of both together was. `old`, `mid` and `new` are the
+-- numbers of reads, `mid_end` and `new_end` say whether the last read was the end
 still_on : (old mid new : ℕ) (mid_end new_end : Bool) → old ≤ mid → mid ≤ new → (old < mid → mid_end ≡ false) → (mid < new → new_end ≡ false)
     → (new ≡ mid → new_end ≡ mid_end) → old < new → new_end ≡ false
 still_on old mid new mid_end new_end grows more going on same below = by_order (le_cases mid new more) where
+  -- a number that isn't above another is below it or equal
   le_cases : (a b : ℕ) → a ≤ b → (a < b) ⊎ (b ≡ a)
   le_cases a b h = elim (ltb a b) as (λ v. ltb a b ≡ v → (a < b) ⊎ (b ≡ a)) [
     | true ↦ λ e. inl (ltb-true a b e)
@@ -96,7 +101,7 @@ still_on old mid new mid_end new_end grows more going on same below = by_order (
   by_order (inl h) = on h
   by_order (inr e) = same e ∙ going (omega (arith, e, below))
 
--- an end that is sound so far
+-- an end that is sound so far: since `old` no read was the end of its input, and neither of its ports failed
 pub record Sound (old new : Ports) : Type 0 where
   pub ends : LinkEnds old new (Ok tt)
   pub grows : old.reads ≤ new.reads
@@ -105,11 +110,11 @@ pub record Sound (old new : Ports) : Type 0 where
 pub sound_start : (old : Ports) → Sound old old
 sound_start old = record { ends = ((λ some. absurd (omega (arith, some))), refl, refl); grows = omega arith }
 
--- where no read of a step was the end, none of all reads was
+-- where an end was sound, and no read of a step after that was the end of its input, no read at all was
 on : (old mid new : Ports) (r : LinkEnd) → Sound old mid → StepEnds mid new r → (mid.reads < new.reads → new.ended ≡ false) → old.reads < new.reads → new.ended ≡ false
 on old mid new r g s more = still_on old.reads mid.reads new.reads mid.ended new.ended g.grows s.grows g.ends.0 more s.same
 
--- a step of a sound end gives the end of all its use
+-- where an end was sound, and then made a step with this result, its whole use ended with this result
 link_step : (old mid new : Ports) (r : LinkEnd) → Sound old mid → StepEnds mid new r → LinkEnds old new r
 link_step old mid new (Ok u) g s = (on old mid new (Ok u) g s s.ends.0, s.ends.1 ∙ g.ends.1, s.ends.2 ∙ g.ends.2)
 link_step old mid new (Err Read) g s = (on old mid new (Err Read) g s s.ends.0, s.ends.1, s.ends.2 ∙ g.ends.2)
@@ -127,12 +132,12 @@ pub sound_on : (c0 c c' i0 i i' : Ports) (x y : Bool) → Sound c0 c → Sound i
 sound_on c0 c c' i0 i i' x y gc gi ends =
     let both = both_ok c c' i i' ends.0 in (sound_step c0 c c' gc both.0, sound_step i0 i i' gi both.1)
 
--- a step of two sound ends gives the ends of all their use
+-- where two ends were sound, and then made a step with this result, their whole use ended with this result
 pub both_end : (c0 c c' i0 i i' : Ports) (r : LinkEnd) → Sound c0 c → Sound i0 i → BothStep c c' i i' r → BothEnd c0 c' i0 i' r
 both_end c0 c c' i0 i i' r gc gi (inl s) = inl (link_step c0 c c' r gc s.0, link_step i0 i i' (Ok tt) gi s.1)
 both_end c0 c c' i0 i i' r gc gi (inr s) = inr (link_step c0 c c' (Ok tt) gc s.0, link_step i0 i i' r gi s.1)
 
--- two sound ends are those of asking that ended well
+-- where both ends are sound, their whole use ended well, as `BothEnd` has it
 pub both_sound : (c0 c i0 i : Ports) → Sound c0 c → Sound i0 i → BothEnd c0 c i0 i (Ok tt)
 both_sound c0 c i0 i gc gi = inl (gc.ends, gi.ends)
 
@@ -143,7 +148,7 @@ no_output p p' q q' (inr s) = s.1.ends
 
 -- A link that is alone: all that ends it comes at the client's end.
 
--- where the other end isn't there, the reason is at the client's end
+-- where there is no other end (`no_ports`), a result that comes of the two ends comes of the client's end alone
 pub alone_end : (p p' : Ports) (r : LinkEnd) → BothEnd p p' no_ports no_ports r → LinkEnds p p' r
 alone_end p p' r (inl s) = s.0
 alone_end p p' (Ok u) (inr s) = s.0
@@ -153,7 +158,8 @@ alone_end p p' (Err TooManyReads) (inr s) = s.0
 alone_end p p' (Err LinkClosed) (inr s) = absurd (omega (arith, s.1.0))
 alone_end p p' (Err other) (inr s) = absurd s.1
 
--- where `other` holds of each end of which `over` does, why asking ended may be said with `other`
+-- where `other` holds of each end of which `over` does, `EndsWith` may be said with `other`; `x`, `y` and `z` say whether the
+-- sink had failed at first, then, and in the end
 pub ends_as : (over other : LinkEnd → Type 0) → ((r : LinkEnd) → over r → other r) → (x y z : Bool) → y ≡ x → (r : LinkEnd) → EndsWith over y z r → EndsWith other x z r
 ends_as over other so x y z same (Ok u) ends = (so (Ok u) ends.0, ends.1 ∙ same)
 ends_as over other so x y z same (Err Output) ends = (ends.0, (ends.1.0, so ends.1.0 ends.1.1))

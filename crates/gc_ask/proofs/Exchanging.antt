@@ -1,4 +1,7 @@
--- One command that is asked over a link, and the run behind it.
+-- One command that is asked over a link, and the run after it. Throughout, `a` and `b` are what the client's end had taken before
+-- and after, `c` and `d` what the sink had taken, `x` and `y` whether the sink had failed, `h` what the client's end has heard,
+-- `e` a fault, `r` a result, and `over r` what the link's ports are after that result. After a fault the client is restarted:
+-- `to` is the client then, `lost` what the restart settled, and `now` the settlements that are written.
 use Rattle.std.proofs.Common.{◌≡◌, ℕ, Bool, true, List, [], ◌∷◌, ◌++◌, length, take, map, Option, None, Ok, Err, inl, inr, refl, sym, ap, ◌∙◌, subst, arith}
 use Rattle.std.specs.Io.KnownBytes.{Appends}
 use Rattle.std.proofs.lemmas.List.{take_all}
@@ -23,7 +26,7 @@ use Rattle.gc_texts.specs.WholeTexts.{Input}
 
 -- What a link took of a request.
 
--- a text that was taken whole is a part of itself
+-- where a text was taken whole, its first bytes were taken, as many as it has
 whole : (a b : Option (List ℕ)) (text : List ℕ) → Appends a b text → Appends a b (take (length text) text)
 whole a b text sent = Appends-is _ _ _ _ (sym (take_all (length text) text (omega arith))) sent
 
@@ -53,7 +56,8 @@ unsent alone place command h a b other t is = (t.0, (λ so. absurd (t.1 so)), is
 pub exchanged : (alone : Bool) (place : ℕ) (command : Command) (from : ById) (h : Heard) (a b : Option (List ℕ)) (old new : Input) (after : ℕ) (r : LinkEnd)
     → Appends a b (request_text place command) → from ≡ waiting_for place command → HearsReply from h r → ReadEnds old new after r → Exchanges alone place command h a b r
 exchanged alone place command from h a b old new after r sent is heard ends = by_end r heard ends where
-  -- where no line is a first reply to the client that waited, none is one to the client that waits for this command
+  -- lines without a first reply to the client `from`, which waits for this command, have no first reply to a client that waits
+  -- for it
   missed : first_reply from (lines_behind h.rest h.bytes) ≡ None → alone ≡ true → first_reply (waiting_for place command) (lines_behind h.rest h.bytes) ≡ None
   missed none so = subst (λ (c : ById). first_reply c (lines_behind h.rest h.bytes) ≡ None) is none
 
@@ -79,7 +83,7 @@ sent_part : (alone : Bool) (place : ℕ) (command : Command) (h : Heard) (a b : 
 sent_part alone place command h a b (Write count part) x = (x.0.1.0, x.0.1.1)
 sent_part alone place command h a b other x = (length (request_text place command), whole a b (request_text place command) x.0)
 
--- what was heard, once the client is another
+-- what was heard, but with this client in place of the one then
 abbrev with_client : Heard → ById → Heard
 with_client h to = record { rest = h.rest; bytes = h.bytes; left = h.left; kept = h.kept; client = to; settled = h.settled }
 
@@ -90,6 +94,7 @@ pub asks_lost : (alone : Bool) (place : ℕ) (command : Command) (h : Heard) (to
     → Appends w.sink_old w.sink_new (lines_from place (map settlement_seen now)) → AsksOne alone place command (with_client h to) w over (Err e)
 asks_lost alone place command h to lost now w e over none ends x are is told =
     by_fault e ends x (Appends-is _ _ _ _ (ap (lines_from place) (lost_alone place command h.client lost now (still_waits alone place command h w.link_old w.link_new e x) are is)) told) where
+      -- by the fault e of the exchange: asking ended with it
       by_fault : (e : RunFault) → over (Err e) → Exchanges alone place command h w.link_old w.link_new (Err e)
           → Appends w.sink_old w.sink_new (lines_from place (lost_of command ∷ [])) → AsksOne alone place command (with_client h to) w over (Err e)
       by_fault (Write count part) ends x told = (x.0, told)
@@ -104,6 +109,7 @@ pub asks_untold : (alone : Bool) (place : ℕ) (command : Command) (h : Heard) (
 asks_untold alone place command h to lost now w x y e f over ends ex are is told =
     by_fault f (subst (λ (zs : List Rule.Settlement). Told place zs w.sink_old w.sink_new x y (Err f))
     (lost_alone place command h.client lost now (still_waits alone place command h w.link_old w.link_new e ex) are is) told) where
+      -- by the fault f of the writing, which is the sink's: asking ended with it
       by_fault : (f : RunFault) → Told place (lost_of command ∷ []) w.sink_old w.sink_new x y (Err f) → AsksOne alone place command (with_client h to) w over (Err f)
       by_fault Output t = let sent = sent_part alone place command h w.link_old w.link_new e ex in inr (e, ends, (sent.0, sent.1, t.0))
       by_fault other t = absurd t
@@ -118,7 +124,7 @@ asks_told alone place command h now w x y over (Err Output) link sent s is told 
     inl (link, sent, s, subst (λ (zs : List Settlement). ToldPart place (map settlement_seen zs) w.sink_old w.sink_new) is told.0)
 asks_told alone place command h now w x y over (Err other) link sent s is told = absurd told
 
--- where the link was used well, asking a command ended as the writing of its settlement did
+-- where the use of the link ended well, asking a command ended as the writing of its settlement did
 pub ends_told : (over : LinkEnd → Type 0) (place : ℕ) (settled : List Rule.Settlement) (c d : Option (List ℕ)) (x y : Bool) (r : LinkEnd) → over (Ok tt)
     → Told place settled c d x y r → EndsWith over x y r
 ends_told over place settled c d x y (Ok u) ends told = (ends, told.1)
@@ -138,7 +144,10 @@ ends_untold over place settled c d x y e other ends told = absurd told
 
 -- The run.
 
--- where one command ended with a fault, asking all of them ended with it
+-- where the commands before one command were asked and settled, and that command ended with a fault, asking all commands ended
+-- with that fault: by the fault, asking stopped at this command, its request or reply was cut, or the sink failed. `a`, `b` and
+-- `b'` are what the link had taken at first, before this command and after it, `c`, `d` and `d'` what the sink had taken then,
+-- `c0`, `p` and `p'` the client's end, and `i0`, `q` and `q'` the instrument's
 pub run_fault : (alone : Bool) (commands done later : List Command) (command : Command) (place : ℕ) (given left more left' : List ℕ) (kept kept' : Kept)
     (client to : ById) (settled : List Settlement) (a b b' c d d' : Option (List ℕ)) (e : RunFault) (c0 p p' i0 q q' : Ports) (x y : Bool)
     → Sound c0 p → Sound i0 q → (at : Course done given left kept client a b c d) → length done ≡ place → commands ≡ done ++ command ∷ later
@@ -148,13 +157,16 @@ pub run_fault : (alone : Bool) (commands done later : List Command) (command : C
 run_fault alone commands done later command place given left more left' kept kept' client to settled a b b' c d d' e c0 p p' i0 q q' x y gc gi at is order one
     ends = by_fault e (subst (λ n. AsksOne alone n command h (record { link_old = b; link_new = b'; sink_old = d; sink_new = d' }) (BothStep p p' q q')
     (Err e)) (sym is) one) ends where
+      -- what the client's end has heard once the command ended
       h : Heard
       h = record { rest = at.now; bytes = left ++ more; left = left'; kept = kept'; client = to; settled = settled }
 
+      -- a result that neither end of the link can have is that of no step
       none : {e : RunFault} → (LinkEnds p p' (Err e) → ⊥) → (LinkEnds q q' (Err e) → ⊥) → BothStep p p' q q' (Err e) → ⊥
       none f g (inl s) = f s.0.ends
       none f g (inr s) = g s.1.ends
 
+      -- by the fault: how the run ended
       by_fault : (e : RunFault) → AsksOne alone (length done) command h (record { link_old = b; link_new = b'; sink_old = d; sink_new = d' }) (BothStep p p' q q')
           (Err e) → EndsWith (BothStep p p' q q') x y (Err e) → AsksOn alone commands (given ++ more)
           (record { link_old = a; link_new = b'; sink_old = c; sink_new = d' }) (BothEnd c0 p' i0 q') (Err e)

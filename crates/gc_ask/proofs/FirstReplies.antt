@@ -1,4 +1,5 @@
--- The first line that settles a request, over the bytes that a link gives piece by piece.
+-- The first line that settles a request, over the bytes that a link gives piece by piece. `a`, `b` and `c` are the client
+-- before and after, `rest` is what the assembler keeps of a line whose end hasn't come, and `left` what isn't looked at yet.
 use Rattle.std.proofs.Common.{◌≡◌, ℕ, ◌+◌, true, false, cond, List, [], ◌∷◌, ◌++◌, take, drop, map, Option, Some, None, refl, sym, ap, ◌∙◌, subst, append_assoc, append-nil}
 use Rattle.std.specs.List.{position, filter_map}
 use Rattle.std.specs.Option.{option_to_list}
@@ -18,18 +19,19 @@ use Rattle.gc_client.specs.Settlements.{AreSettlements}
 use Rattle.gc_ask.specs.Asking.{first_reply}
 use Rattle.gc_ask.specs.Listening.{lines_behind, SettlesNothing, TakesFrame, IsQuiet, Settles}
 
+-- the lines among pieces of a stream that was cut at its line feeds
 abbrev lines_of : List (List ℕ) → List (List ℕ)
 lines_of pieces = filter_map line_in (map frame_of pieces)
 
--- the lines of pieces, and of others behind them, are those of the first, and behind them those of the others
+-- the lines among the pieces `xs ++ ys` are those among `xs`, and then those among `ys`
 lines_of-append : (xs ys : List (List ℕ)) → lines_of (xs ++ ys) ≡ lines_of xs ++ lines_of ys
 lines_of-append xs ys = ap (λ fs. filter_map line_in fs) (map-append frame_of xs ys) ∙ filter_map-append line_in (map frame_of xs) (map frame_of ys)
 
--- one more piece: its lines come behind those before
+-- the lines of the bytes `xs ++ ys` are those of `xs`, and then those that `ys` complete behind what `xs` leave
 pub lines_behind-append : (rest xs ys : List ℕ) → lines_behind rest (xs ++ ys) ≡ lines_behind rest xs ++ lines_behind (rest_behind rest xs) ys
 lines_behind-append rest xs ys = ap lines_of (pieces-append rest xs ys) ∙ lines_of-append (pieces_behind rest xs) (pieces_behind (rest_behind rest xs) ys)
 
--- lines without a first reply, in front of others, leave the others' first reply
+-- where the lines in front have no first reply, the first reply of all lines is that of the others
 pub first_reply-none : (c : ById) (xs ys : List (List ℕ)) → first_reply c xs ≡ None → first_reply c (xs ++ ys) ≡ first_reply c ys
 first_reply-none c [] ys e = refl
 first_reply-none c (x ∷ xs) ys e = (elim (fits c (heard x)) as (λ v. cond v (Some (record { line = x; later = xs })) (first_reply c xs) ≡ None
@@ -45,7 +47,7 @@ first_reply-at c front line later none fit = first_reply-none c front (line ∷ 
 
 -- Quiet pieces.
 
--- two pieces that settle nothing, one behind the other, settle nothing as one
+-- where a piece settles nothing, and neither does the piece behind it, the two together settle nothing
 pub quiet_then : (rest xs ys : List ℕ) (kept kept' : Kept) (a b c : ById) → IsQuiet rest xs kept a b → IsQuiet (rest_behind rest xs) ys kept' b c → IsQuiet rest (xs ++ ys) kept' a c
 quiet_then rest xs ys kept kept' a b c q r = record {
   none = ap (first_reply a) (lines_behind-append rest xs ys) ∙ first_reply-none a (lines_behind rest xs) (lines_behind (rest_behind rest xs) ys) q.none
@@ -54,7 +56,7 @@ quiet_then rest xs ys kept kept' a b c q r = record {
   same = r.same ∙ q.same;
 }
 
--- a piece that settles nothing, and one behind it that settles a request, settle that request as one
+-- where a piece settles nothing, and the piece behind it settles a request, the two together settle that request
 pub settles_then : (rest xs ys left : List ℕ) (kept kept' : Kept) (a b c : ById) (settled : List Settlement) → IsQuiet rest xs kept a b
     → Settles b (record { rest = rest_behind rest xs; bytes = ys; left = left; kept = kept'; client = c; settled = settled })
     → Settles a (record { rest = rest; bytes = xs ++ ys; left = left; kept = kept'; client = c; settled = settled })
@@ -77,7 +79,8 @@ settles_then rest xs ys left kept kept' a b c settled q s =
 
 -- A piece on the way.
 
--- none of the lines of a piece behind `rest` has settled a request yet; `left` is what is left of the piece
+-- a piece was looked at as far as `left`, and none of its lines so far, which are `front`, settled a request. `now` is what the
+-- assembler keeps of a line whose end hasn't come
 pub record Passed (rest piece left : List ℕ) (kept : Kept) (from to : ById) : Type 0 where
   pub now : List ℕ
   pub front : List (List ℕ)
@@ -87,7 +90,7 @@ pub record Passed (rest piece left : List ℕ) (kept : Kept) (from to : ById) : 
   pub none : first_reply from front ≡ None
   pub same : to ≡ from
 
--- where nothing is left of a piece, the piece settled nothing
+-- where a piece was passed to its end, so that nothing of it is left, it settled nothing
 pub passed_end : (rest piece : List ℕ) (kept : Kept) (a b : ById) → Passed rest piece [] kept a b → IsQuiet rest piece kept a b
 passed_end rest piece kept a b p = record {
   none = ap (first_reply a) (p.seen ∙ append-nil p.front) ∙ p.none;
@@ -102,7 +105,7 @@ completed_lines Cleared = refl
 completed_lines Overlong = refl
 completed_lines More = refl
 
--- a frame that settles nothing has no first reply
+-- where the line of a frame, if it has one, settles nothing, it is no first reply
 no_reply : (c : ById) (line : Option (List ℕ)) → SettlesNothing c line → first_reply c (option_to_list line) ≡ None
 no_reply c None q = refl
 no_reply c (Some line) q = rw q refl
@@ -127,7 +130,8 @@ passed_on rest piece left used frame kept kept' a b c p t same nothing =
       same = same ∙ p.same;
     }
 
--- a frame with a line: that line comes first, and the bytes behind it are those that weren't used
+-- `line` is the first line of `rest` and the bytes `left` behind it: the first `used` bytes of `left` end it, and behind it stand
+-- those that weren't used
 record TakesLine (rest left : List ℕ) (used : ℕ) (line : List ℕ) (kept : Kept) : Type 0 where
   seen : lines_behind rest left ≡ line ∷ lines_behind [] (drop used left)
   rests : rest_behind rest left ≡ rest_behind [] (drop used left)
@@ -136,6 +140,7 @@ record TakesLine (rest left : List ℕ) (used : ℕ) (line : List ℕ) (kept : K
 -- the line of the first frame is the first line
 first_line : (f : Frame) (line : List ℕ) (fs : List Frame) → line_in f ≡ Some line → filter_map line_in (f ∷ fs) ≡ line ∷ filter_map line_in fs
 first_line f line fs e = filter_map-append line_in (f ∷ []) fs ∙ ap (λ zs. zs ++ filter_map line_in fs) (alone (line_in f) e) where
+  -- filtering a list of one frame, which has this line, gives this line
   alone : (o : Option (List ℕ)) → o ≡ Some line → filter_map (λ (x : Frame). o) (f ∷ []) ≡ line ∷ []
   alone None e = (cc)
   alone (Some x) e = ap (λ (l : List ℕ). l ∷ []) (cc)
@@ -158,10 +163,12 @@ takes_line rest left used frame line kept is more whole = elim (position is_line
         stands = w.2;
       }
 ] refl where
+  -- nothing is both absent and this line
   no_line : (o : Option (List ℕ)) → o ≡ None → o ≡ Some line → ⊥
   no_line o e f = (cc)
 
--- where the line of the next frame settles a request, the piece settles that request
+-- where the line of the next frame settles a request, the piece settles that request; `used` and `frame` are what the assembler
+-- gave for `left`
 pub passed_settles : (rest piece left : List ℕ) (used : ℕ) (frame : Frame) (line : List ℕ) (kept kept' : Kept) (a b c : ById) (settled : List Settlement)
     → (p : Passed rest piece left kept a b) → line_in frame ≡ Some line
     → (position is_line_feed left ≡ None → frame ≡ More)
@@ -190,7 +197,8 @@ taken_line a b (Some line) settled t = (line, refl, t.0, t.1, t.2)
 
 -- Reading on.
 
--- since a start, these bytes were given; those that were heard settle nothing, and the others are ahead
+-- reading goes on: behind the bytes `start`, which were left from before, `given` came. Of all these, `heard_so` were heard and
+-- settle nothing, and `ahead` weren't heard yet
 pub record Reading (rest start given ahead : List ℕ) (kept : Kept) (from to : ById) : Type 0 where
   pub heard_so : List ℕ
   pub order : start ++ given ≡ heard_so ++ ahead

@@ -1,4 +1,5 @@
--- Callers who are served one after the other, and what is written of them.
+-- Callers who are served one after the other, and what is written of them. `Kept` says how many callers were served, which ends
+-- their connections had, and that the messages grew by the lines of these.
 use Rattle.std.proofs.Common.{◌≡◌, ℕ, suc, ◌+◌, Bool, true, List, [], ◌∷◌, ◌++◌, length, Option, Some, None, refl, sym, ap, ◌∙◌, arith, append_assoc, length-append, codes}
 use Rattle.std.proofs.lemmas.List.{append-nil}
 use Rattle.std.specs.Fmt.{decimal}
@@ -11,14 +12,14 @@ use Rattle.gc_lines.proofs.Known.{Appends-append, Appends-nil, Appends-is}
 use Rattle.gc_ask.specs.Keeping.{End, Grows, Kept, caller_line, told_of, told_from}
 use Rattle.gc_ask.specs.declared.callers.CallerFault.TheVariants.{Write, Socket}
 
--- where ends came behind those that were known, and then others, both came in this order
+-- where the ends that are known grew by some, and then by others, they grew by both in this order
 pub grows_more : (a b c : Option (List End)) (xs ys : List End) → Grows a b xs → Grows b c ys → Grows a c (xs ++ ys)
 grows_more None b c xs ys h k = tt
 grows_more (Some a) None c xs ys h k = absurd h
 grows_more (Some a) (Some b) None xs ys h k = absurd k
 grows_more (Some a) (Some b) (Some c) xs ys h k = k ∙ ap (λ zs. zs ++ ys) h ∙ append_assoc a xs ys
 
--- where no end came, those that were known are known still
+-- ends that stayed the same grew by none
 pub grows_none : (a : Option (List End)) → Grows a a []
 grows_none None = tt
 grows_none (Some a) = sym (append-nil a)
@@ -33,7 +34,7 @@ told_more n (first ∷ later) end =
     ap (λ xs. told_of n first ++ xs) (told_more (n + 1) later end ∙ ap (λ (m : ℕ). told_from (n + 1) later ++ told_of m end) at)
     ∙ sym (append_assoc (told_of n first) (told_from (n + 1) later) (told_of (n + suc (length later)) end))
 
--- before anybody is served, `Kept` holds of no callers
+-- before anybody is served, `Kept` is true with 0 callers
 pub kept_none : (served : Option (List End)) (messages : Option (List ℕ)) → Kept 0 true served served messages messages
 kept_none served messages = record {
   ends = [];
@@ -42,7 +43,8 @@ kept_none served messages = record {
   lines = λ _. Appends-nil messages;
 }
 
--- where one more caller was served, `Kept` holds of one caller more
+-- where `Kept` is true with n callers, and one more was served, it is true with n + 1. `s0` are the ends known at first, `s1`
+-- before this caller, and `s2` after him; `m0` to `m2` are the messages then
 pub kept_more : (n : ℕ) (told told' : Bool) (s0 s1 s2 : Option (List End)) (m0 m1 m2 : Option (List ℕ)) (end : End)
     → Kept n told s0 s1 m0 m1 → Grows s1 s2 (end ∷ []) → (told' ≡ true → (told ≡ true) × Appends m1 m2 (told_of (n + 1) end))
     → Kept (n + 1) told' s0 s2 m0 m2
@@ -59,7 +61,7 @@ kept_more n told told' s0 s1 s2 m0 m1 m2 end kept grew tells =
           Appends-is m0 m2 _ _ text (Appends-append m0 m1 m2 (told_from 1 kept.ends) (told_of (n + 1) end) (kept.lines t.0) t.1);
     }
 
--- the pieces of the line of a write that was cut are that line
+-- the pieces in which the line of a cut write is written are that line
 pub cut_line : (number count bytes : ℕ)
     → codes "geocom: connection " ++ (decimal number ++ (codes ": fault " ++ (decimal WRITE_FAILED ++ (codes " reply " ++ (decimal count ++ (codes " byte " ++ (decimal bytes ++ codes "\n")))))))
     ≡ caller_line number (Write count bytes)
@@ -69,7 +71,7 @@ cut_line number count bytes =
     ∙ ap (λ xs. decimal WRITE_FAILED ++ (codes " reply " ++ xs)) (append_assoc (decimal count) (codes " byte " ++ decimal bytes) (codes "\n")) in
     ap (λ xs. codes "geocom: connection " ++ (decimal number ++ (codes ": fault " ++ xs))) (sym text)
 
--- the pieces of the line of a caller who couldn't be accepted are that line
+-- the pieces in which the line of a caller who couldn't be accepted is written are that line
 pub socket_line : (number n : ℕ) → n ≡ run_fault_number fault.Socket
     → codes "geocom: connection " ++ (decimal number ++ (codes ": fault " ++ (decimal n ++ codes "\n"))) ≡ caller_line number Socket
 socket_line number n is =

@@ -1,4 +1,5 @@
--- What a run over any link is, where the link is alone, and where an instrument answers at its other end.
+-- What a run over any link is, where the link is alone (somebody other than this program answers at its other end), and where an
+-- instrument of this program answers.
 use Rattle.std.proofs.Common.{◌≡◌, ℕ, Bool, true, List, [], ◌∷◌, ◌++◌, length, take, Ok, Err, inl, inr, refl, sym, ap, ◌∙◌, subst, arith}
 use Rattle.gc_lines.specs.Answering.{all_of}
 use Rattle.gc_lines.proofs.Known.{Appends-is}
@@ -15,7 +16,7 @@ use Rattle.gc_texts.specs.WholeTexts.{Input}
 
 -- Alone.
 
--- where the link is alone, asking that stops at a command asked up to it
+-- where the link is alone, asking that stopped at a command (`StopsAt`) is what `AsksUpTo` says
 up_to : (commands : List Command) (given : List ℕ) (w : Written) → StopsAt true commands given w → AsksUpTo commands given w
 up_to commands given w s = record {
   earlier = s.earlier;
@@ -27,7 +28,7 @@ up_to commands given w s = record {
   told = Appends-is _ _ _ _ (ap (λ zs. settlement_lines (zs ++ lost_of s.command ∷ [])) (sym (s.none refl))) s.told;
 }
 
--- where the link is alone, asking that was cut asked a part
+-- where the link is alone, asking that was cut (`IsCut`) is what `AsksPart` says
 in_part : (commands : List Command) (given : List ℕ) (w : Written) (count part : ℕ) → IsCut true commands given w count part → AsksPart commands given w count part
 in_part commands given w count part s = record {
   earlier = s.earlier;
@@ -41,7 +42,7 @@ in_part commands given w count part s = record {
   told = s.told;
 }
 
--- a part of the settlements that was told with `over` is told with any `other` that allows as many ends or more
+-- `TellsPart` with a condition `over` on the link's end holds with any weaker condition `other`
 tells : (commands : List Command) (given : List ℕ) (w : Written) (over other : LinkEnd → Type 0) → ((r : LinkEnd) → over r → other r)
     → TellsPart commands given w over → TellsPart commands given w other
 tells commands given w over other so t = record {
@@ -61,7 +62,7 @@ tells commands given w over other so t = record {
   told = t.told;
 }
 
--- what was asked over a link that is alone is what `Asks` says
+-- what was asked over a link that is alone is what `Asks` says, also with a weaker condition `other` on the link's end
 asks_alone : (commands : List Command) (given : List ℕ) (w : Written) (over other : LinkEnd → Type 0) → ((r : LinkEnd) → over r → other r) → (r : LinkEnd)
     → AsksOn true commands given w over r → Asks commands given w other r
 asks_alone commands given w over other so (Ok u) x = x
@@ -93,11 +94,11 @@ runs_alone text_old text_new most old new r (given, gave, few, inr x) = (given, 
 
 -- A loop.
 
--- asking that stops at a command loops up to it
+-- asking that stopped at a command (`StopsAt`) is what `LoopsUpTo` says
 loops_up_to : (alone : Bool) (commands : List Command) (given : List ℕ) (w : Written) → StopsAt alone commands given w → LoopsUpTo commands given w
 loops_up_to alone commands given w s = record { earlier = s.earlier; command = s.command; later = s.later; order = s.order; settled = s.settled; sent = s.sent; told = s.told }
 
--- asking that was cut loops in part
+-- asking that was cut (`IsCut`) is what `LoopsPart` says
 loops_part : (alone : Bool) (commands : List Command) (given : List ℕ) (w : Written) (count part : ℕ) → IsCut alone commands given w count part → LoopsPart commands given w count
 loops_part alone commands given w count part s = record {
   earlier = s.earlier;
@@ -112,7 +113,7 @@ loops_part alone commands given w count part s = record {
   told = s.told;
 }
 
--- what was asked over any link is what a loop asked
+-- what was asked over any link (`AsksOn`) is what `Loops` says
 loops : (alone : Bool) (commands : List Command) (given : List ℕ) (w : Written) (over : LinkEnd → Type 0) (r : LinkEnd) → AsksOn alone commands given w over r → Loops commands given w over r
 loops alone commands given w over (Ok u) x = x
 loops alone commands given w over (Err Read) x = loops_up_to alone commands given w x

@@ -14,11 +14,11 @@ pub record Seen : Type 0 where
   pub link : Ports
   pub sink : Taken
 
--- what a link and the sink of the settlements took
+-- what a link and the sink of the settlements had taken before, and have taken now
 abbrev pub written : Seen → Seen → Written
 written old new = record { link_old = old.link.taken; link_new = new.link.taken; sink_old = old.sink.bytes; sink_new = new.sink.bytes }
 
--- commands were asked over a link, in at most `most` reads of it, with this result
+-- commands were asked over a link, in at most `most` reads of it, with this result; `given` is what the link gave meanwhile
 pub record AsksOver (commands : List Command) (most : ℕ) (old new : Seen) (result : Result (Unit {0}) RunFault) : Type 0 where
   pub given : List ℕ
   pub gave : Consumes old.link.remaining new.link.remaining given

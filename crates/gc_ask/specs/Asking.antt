@@ -1,4 +1,6 @@
--- Requests that are asked one at a time, each once the one before it is settled: this project's own. Request lines are the manual's.
+-- Requests that are asked one at a time, each once the one before it is settled: this project's own. Request lines are the
+-- manual's. Below, `given` are all bytes that the link gave, and `w` is what the link and the sink of the settlements took;
+-- `earlier`, `command` and `later` are a split of the commands in their order.
 use Rattle.std.specs.Prelude.{◌≡◌, ℕ, ◌+◌, ◌%◌, ◌<◌, Bool, true, false, List, [], ◌∷◌, ◌++◌, length, take, Option, Some, None, Result, Ok, Err, if◌then◌else◌}
 use Rattle.std.specs.Io.KnownBytes.{Appends}
 use Rattle.gc_lines.specs.Answering.{Ports, all_of}
@@ -26,7 +28,7 @@ idle k = record { next = k % IDS; waiting = [] }
 abbrev pub waiting_for : ℕ → Command → ById
 waiting_for k command = record { next = (k + 1) % IDS; waiting = asked_for command ∷ [] }
 
--- a line that settles a request, and the lines behind it
+-- a line that settles a request, and the lines after it
 pub record Reply : Type 0 where
   pub line : List ℕ
   pub later : List (List ℕ)
@@ -36,7 +38,8 @@ abbrev pub first_reply : ById → List (List ℕ) → Option Reply
 first_reply client [] = None
 first_reply client (line ∷ later) = if fits client (heard line) then Some (record { line = line; later = later }) else first_reply client later
 
--- what a client settles by its first reply, and behind it what `rest` settles by the lines behind that reply; nothing without a reply
+-- the settlements after a search for the first reply: those of that reply by the client's rule, and then what `rest` makes of
+-- the lines after it; none where there is no reply
 abbrev pub settled_by : ById → (List (List ℕ) → List Settlement) → Option Reply → List Settlement
 settled_by client rest None = []
 settled_by client rest (Some reply) = (hears client reply.line (heard reply.line)).settlements ++ rest reply.later
@@ -89,8 +92,8 @@ pub record AsksAll (commands : List Command) (given : List ℕ) (w : Written) : 
   pub sent : Appends w.link_old w.link_new (all_of (request_texts 0 commands))
   pub told : Appends w.sink_old w.sink_new (settlement_lines (asked commands given))
 
--- what came settles the commands before one, and no more; that one was sent, and is lost, and those behind it weren't sent. The sink took the
--- lines of these settlements
+-- what came settles the commands `earlier`, and no more; `command` was sent, and is lost; `later` weren't sent. The sink took
+-- the lines of these settlements
 pub record AsksUpTo (commands : List Command) (given : List ℕ) (w : Written) : Type 0 where
   pub earlier : List Command
   pub command : Command
@@ -100,8 +103,8 @@ pub record AsksUpTo (commands : List Command) (given : List ℕ) (w : Written) :
   pub sent : Appends w.link_old w.link_new (all_of (request_texts 0 (earlier ++ command ∷ [])))
   pub told : Appends w.sink_old w.sink_new (settlement_lines (asked commands given ++ lost_of command ∷ []))
 
--- the commands before one are settled, of that one the first bytes were sent, and it is lost, also where its reply came already. The sink took
--- the lines of these settlements
+-- the commands `earlier` are settled, `count` in number; of the request of `command` only the first `bytes` bytes were sent,
+-- and it is lost, even where a reply with its id came already. The sink took the lines of these settlements
 pub record AsksPart (commands : List Command) (given : List ℕ) (w : Written) (count bytes : ℕ) : Type 0 where
   pub earlier : List Command
   pub command : Command
@@ -113,13 +116,15 @@ pub record AsksPart (commands : List Command) (given : List ℕ) (w : Written) (
   pub sent : Appends w.link_old w.link_new (all_of (request_texts 0 earlier) ++ take bytes (request_text count command))
   pub told : Appends w.sink_old w.sink_new (settlement_lines (asked earlier given ++ lost_of command ∷ []))
 
--- the next settlement of a command: by what came, where the link ended well, and else as lost
+-- `next` is the settlement of `command`, after those of `earlier`: where the link ended well, what the bytes that came settle,
+-- and else that the command is lost
 abbrev pub IsNext : List Command → Command → List ℕ → Settlement → LinkEnd → Type 0
 IsNext earlier command given next (Ok _) = asked (earlier ++ command ∷ []) given ≡ asked earlier given ++ next ∷ []
 IsNext earlier command given next (Err _) = next ≡ lost_of command
 
--- the sink took the settlements of the commands before one, and of its settlement the first bytes; the commands behind it weren't sent. The
--- link had ended well where that one was settled, and else with a fault; `over e` says what the link's ports are behind the end e
+-- the sink failed as it took the line of `next`, the settlement of `command`: it took the lines of the commands `earlier`, and
+-- of this line the first `part` bytes. Of the request of `command` the first `bytes` bytes were sent, or all; `later` weren't
+-- sent. `link` is how the use of the link had ended before; `over e` says what the link's ports are after the end e
 pub record TellsPart (commands : List Command) (given : List ℕ) (w : Written) (over : LinkEnd → Type 0) : Type 0 where
   pub earlier : List Command
   pub command : Command
@@ -136,7 +141,7 @@ pub record TellsPart (commands : List Command) (given : List ℕ) (w : Written) 
   pub not_all : part < length (settlement_line (length earlier) next)
   pub told : Appends w.sink_old w.sink_new (settlement_lines (asked earlier given) ++ take part (settlement_line (length earlier) next))
 
--- what was asked over a link that gave these bytes, by how asking ended; `over e` says what the link's ports are behind the end e
+-- what was asked over a link that gave these bytes, by how asking ended; `over e` says what the link's ports are after the end e
 abbrev pub Asks : List Command → List ℕ → Written → (over : LinkEnd → Type 0) → LinkEnd → Type 0
 Asks commands given w over (Ok _) = AsksAll commands given w
 Asks commands given w over (Err Read) = AsksUpTo commands given w
@@ -146,8 +151,8 @@ Asks commands given w over (Err (Write count bytes)) = AsksPart commands given w
 Asks commands given w over (Err Output) = TellsPart commands given w over
 Asks commands given w over (Err _) = ⊥
 
--- the two ports of a link's end behind a use that ended with this result: whether the last read was the end of the input, and which port
--- has failed
+-- the two ports of a link's end after a use that ended with this result. Only with `LinkClosed` was the last read the end of
+-- the input; with `Read` the source has failed, with `Write` the sink; else whether they have failed is as before
 abbrev pub LinkEnds : Ports → Ports → LinkEnd → Type 0
 LinkEnds old new (Ok _) = (old.reads < new.reads → new.ended ≡ false) × (new.source_failed ≡ old.source_failed) × (new.sink_failed ≡ old.sink_failed)
 LinkEnds old new (Err Read) = (old.reads < new.reads → new.ended ≡ false) × (new.source_failed ≡ true) × (new.sink_failed ≡ old.sink_failed)
@@ -157,7 +162,7 @@ LinkEnds old new (Err LinkClosed) = (old.reads < new.reads) × (new.ended ≡ tr
 LinkEnds old new (Err _) = ⊥
 
 -- which ports have failed, by how asking ended. With `Output` the sink has failed, and `over` holds of some end of the link. With any other
--- end `over` holds of that end, and whether the sink has failed is as before. `over e` says what the link's ports are behind the end e
+-- end `over` holds of that end, and whether the sink has failed is as before. `over e` says what the link's ports are after the end e
 abbrev pub EndsWith : (over : LinkEnd → Type 0) → (sink_old sink_new : Bool) → LinkEnd → Type 0
 EndsWith over sink_old sink_new (Err Output) = (sink_new ≡ true) × ((link : LinkEnd) × over link)
 EndsWith over sink_old sink_new (Ok x) = over (Ok x) × (sink_new ≡ sink_old)

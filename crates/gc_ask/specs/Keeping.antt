@@ -37,21 +37,22 @@ abbrev pub told_from : (number : ℕ) → List End → List ℕ
 told_from number [] = []
 told_from number (end ∷ later) = told_of number end ++ told_from (number + 1) later
 
--- ends that were known are known still, with these behind them
+-- where the ends before were known, the ends now are those, and these after them
 abbrev pub Grows : Option (List End) → Option (List End) → List End → Type 0
 Grows None new more = Unit {0}
 Grows (Some ends) None more = ⊥
 Grows (Some ends) (Some all) more = all ≡ ends ++ more
 
--- `most` callers were served, whatever became of each; where all lines were written (`told`), the messages grew by the line of each fault,
--- and by nothing else
+-- `most` callers were served, whatever became of each; where all lines were written (`told`), the messages grew by the line of
+-- each fault, and by nothing else. `old` and `new` are the ends of connections that were known before and after, where they are
+-- known
 pub record Kept (most : ℕ) (told : Bool) (old new : Option (List End)) (messages_old messages_new : Option (List ℕ)) : Type 0 where
   pub ends : List End
   pub count : length ends ≡ most
   pub served : Grows old new ends
   pub lines : told ≡ true → Appends messages_old messages_new (told_from 1 ends)
 
--- the end of serving, as the end of a connection
+-- how serving a connection ended, as an `End`
 abbrev pub end_of_caller : Result Served ServeFault → End
 end_of_caller (Ok _) = Ok tt
 end_of_caller (Err (serving.Read _)) = Err Read

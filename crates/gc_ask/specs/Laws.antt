@@ -10,8 +10,8 @@ abbrev pub HasNoReply : ℕ → List (List ℕ) → Type 0
 HasNoReply k [] = Unit {0}
 HasNoReply k (line ∷ later) = (heard line ≡ Some (k % IDS) → ⊥) × HasNoReply k later
 
--- request k is settled by the first line that is a reply with its id, which is k modulo 8, and the requests behind it by the lines behind
--- that one; where no line is such a reply, neither request k nor any behind it is settled
+-- request k is settled by the first line that is a reply with its id, which is k modulo 8, and the requests after it by the lines after
+-- that one; where no line is such a reply, neither request k nor any after it is settled
 pub record AsksById (k : ℕ) (command : Command) (later : List Command) : Type 0 where
   pub settled : (front : List (List ℕ)) (line : List ℕ) (rest : List (List ℕ)) → HasNoReply k front → heard line ≡ Some (k % IDS)
       → asked_from k (command ∷ later) (front ++ line ∷ rest) ≡ met (asked_for command) line ∷ asked_from (k + 1) later rest

@@ -1,4 +1,6 @@
--- No part of a promise: what is seen of a link that commands are asked over, and what its calls do.
+-- No part of a promise: what is seen of a link that commands are asked over, and what its calls do. A step is one call that
+-- uses the link, or several in a row. A place is the number of a request, counted from 0. A link is alone where the
+-- instrument's end isn't in this program.
 use Rattle.std.specs.Prelude.{◌≡◌, ℕ, ◌+◌, ◌<◌, ◌⊎◌, Bool, true, false, not, List, [], Option, Some, Result, Ok, Err, ◌≤◌, length, take}
 use Rattle.std.specs.Borrow.{GName}
 use Rattle.std.specs.Io.KnownBytes.{Appends, Consumes, Keeps}
@@ -27,19 +29,19 @@ seen_at client instrument sink = record { client = client; instrument = instrume
 abbrev pub source_of : Ports → Input
 source_of ports = record { remaining = ports.remaining; reads = ports.reads; ended = ports.ended; failed = ports.source_failed }
 
--- a source was read once, and gave these bytes, none where that was its end; or it failed
+-- a source was read once: it gave these bytes (`Ok`, with false where that was its end), or it failed (`Err`)
 abbrev pub ReadsOnce : {E : Type 0} → Input → Input → List ℕ → Result Bool E → Type 0
 ReadsOnce old new given (Ok more) =
     Consumes old.remaining new.remaining given × (new.reads ≡ old.reads + 1) × (new.ended ≡ not more) × (old.failed ≡ false) × (new.failed ≡ false)
 ReadsOnce old new given (Err _) = Keeps old.remaining new.remaining × (new.reads ≡ old.reads) × (new.ended ≡ old.ended) × (new.failed ≡ true)
 
--- the ports of an end behind one step with this result: the reads don't get fewer, and without a read `ended` is as before
+-- the ports of an end after one step with this result: the reads don't get fewer, and without a read `ended` is as before
 pub record StepEnds (old new : Ports) (result : LinkEnd) : Type 0 where
   pub ends : LinkEnds old new result
   pub same : new.reads ≡ old.reads → new.ended ≡ old.ended
   pub grows : old.reads ≤ new.reads
 
--- the ports of both ends behind one step, which had this result at one of them and went well at the other
+-- the ports of both ends after one step, which had this result at one of them and went well at the other
 abbrev pub BothStep : (client_old client_new instrument_old instrument_new : Ports) → LinkEnd → Type 0
 BothStep client_old client_new instrument_old instrument_new result =
     (StepEnds client_old client_new result × StepEnds instrument_old instrument_new (Ok tt))
@@ -52,15 +54,16 @@ Sends place text old new (Err (Write count bytes)) =
     (count ≡ place) × (bytes < length text) × Appends old.bytes new.bytes (take bytes text) × (new.failed ≡ true)
 Sends place text old new (Err _) = ⊥
 
--- what the client's end took of a request, the one at this place, that was sent and, unless the link is alone, answered at the other end:
--- all of it, or its first bytes. A link that is alone fails by this write or not at all
+-- what the client's end took as the request at this place was sent, and, unless the link is alone, answered at the other end.
+-- `Ok`: all of it. `Write`: its first bytes, and not all of them where the link is alone. Another fault, which a link that is
+-- alone never has: all of it
 abbrev pub TakesRequest : (alone : Bool) → ℕ → List ℕ → (old new : Option (List ℕ)) → LinkEnd → Type 0
 TakesRequest alone place text old new (Ok _) = Appends old new text
 TakesRequest alone place text old new (Err (Write count part)) =
     (count ≡ place) × ((bytes : ℕ) × Appends old new (take bytes text) × (alone ≡ true → (bytes ≡ part) × (part < length text)))
 TakesRequest alone place text old new (Err _) = Appends old new text × (alone ≡ true → ⊥)
 
--- a reply that was cut is the one at this place
+-- where the result is that a reply was cut, its fault counts as many replies before that one as `place` says
 abbrev pub CountsReplies : ℕ → LinkEnd → Type 0
 CountsReplies place (Err (Write count _)) = count ≡ place
 CountsReplies place _ = Unit {0}

@@ -1,4 +1,7 @@
--- No part of a promise: what the functions inside asking say of the bytes that a link gives.
+-- No part of a promise: what the functions inside asking say of the bytes that a link gives. A rest is what the assembler keeps
+-- of a line whose end hasn't come. `place` is the number of a command, counted from 0. `alone` says that somebody other than
+-- this program answers at the other end of the link. `w` is what the link and the sink of the settlements took, and `over e`
+-- says what the link's ports are after the end e. `from` and `to` are the client before and after.
 use Rattle.std.specs.Prelude.{◌≡◌, ℕ, ◌+◌, ◌*◌, ◌-◌, ◌<◌, ◌≤◌, ◌⊎◌, Bool, true, false, List, [], ◌∷◌, ◌++◌, length, Option, Some, None, Result, Ok, Err, take, drop, map}
 use Rattle.std.specs.List.{filter_map}
 use Rattle.std.specs.Io.KnownBytes.{Appends, Consumes}
@@ -20,7 +23,7 @@ use Rattle.gc_texts.specs.declared.commands.Command.{Command}
 use Rattle.gc_texts.specs.declared.fault.RunFault.{RunFault}
 use Rattle.gc_texts.specs.declared.fault.RunFault.TheVariants.{Read, Write, TooManyReads, LinkClosed, Output}
 
--- the lines that bytes complete behind a rest
+-- the lines that bytes complete, where a rest of a line came before them
 abbrev pub lines_behind : List ℕ → List ℕ → List (List ℕ)
 lines_behind rest bytes = filter_map line_in (frames_behind rest bytes)
 
@@ -29,20 +32,22 @@ abbrev pub SettlesNothing : ById → Option (List ℕ) → Type 0
 SettlesNothing client None = Unit {0}
 SettlesNothing client (Some line) = fits client (heard line) ≡ false
 
--- a client took the line of a frame, if it has one: whether that settled a request, which settlements came, and the client behind it
+-- how a client took the line of a frame, if it has one. With `false` the line settles nothing, and the client is as before; with
+-- `true` there is a line that settles a request, and the settlements and the client then are those of the client's rule
 abbrev pub TakesFrame : ById → ById → Option (List ℕ) → List Settlement → Bool → Type 0
 TakesFrame from to line settled false = (to ≡ from) × SettlesNothing from line
 TakesFrame from to None settled true = ⊥
 TakesFrame from to (Some line) settled true = (fits from (heard line) ≡ true)
     × AreSettlements settled (hears from line (heard line)).settlements × (to ≡ (hears from line (heard line)).client)
 
--- no line that bytes complete behind a rest settles a request, and the assembler stands for what follows the last line feed
+-- no line that the bytes complete, with the rest before them, settles a request, and the assembler stands for what follows the
+-- last line feed
 pub record IsQuiet (rest bytes : List ℕ) (kept : Kept) (from to : ById) : Type 0 where
   pub none : first_reply from (lines_behind rest bytes) ≡ None
   pub stands : StandsFor kept (rest_behind rest bytes)
   pub same : to ≡ from
 
--- what a client's end has heard, and its state: the rest of a line, the bytes that came behind that rest, those of them that it hasn't looked
+-- what a client's end has heard, and its state: the rest of a line, the bytes that came after that rest, those of them that it hasn't looked
 -- at yet, what the assembler keeps, the client by its ids, and what its last reply settled
 pub record Heard : Type 0 where
   pub rest : List ℕ
@@ -52,23 +57,25 @@ pub record Heard : Type 0 where
   pub client : ById
   pub settled : List Settlement
 
--- what this client's end has heard: these bytes behind a rest, of which these are left
+-- what this client's end has heard: these bytes after a rest, of which these are left
 abbrev pub heard_by : ClientEnd → (rest bytes left : List ℕ) → Heard
 heard_by end rest bytes left =
     record { rest = rest; bytes = bytes; left = left; kept = end.assembler; client = end.client.ids; settled = end.settled.items }
 
--- what the client's end of a link and the sink of the settlements took
+-- what the client's end of a link and the sink of the settlements had taken before, and have taken now
 abbrev pub took_meanwhile : (old new : Ports) → (sink_old sink_new : Option (List ℕ)) → Written
 took_meanwhile old new sink_old sink_new = record { link_old = old.taken; link_new = new.taken; sink_old = sink_old; sink_new = sink_new }
 
--- a link gave some bytes, at most 256 at each read, and `claim` holds of them behind any rest of a line that the assembler kept
+-- a link gave some bytes, at most 256 at each read; and whatever rest of a line the assembler had kept, `claim` holds of that
+-- rest and these bytes
 abbrev pub Gives : (old new : Ports) → Kept → ((rest given : List ℕ) → Type 0) → Type 0
 Gives old new assembler claim =
     (given : List ℕ) × Consumes old.remaining new.remaining given
     × (length given ≤ 256 * (new.reads - old.reads)) × ((rest : List ℕ) → StandsFor assembler rest → claim rest given)
 
--- of the lines that came one is the first to settle a request of this client, and what is left stands behind that line. The settlements and
--- the client then are those of the client's rule, and the assembler keeps nothing
+-- of the lines that came, `line` is the first to settle a request of this client; `front` are those before it, and what is left
+-- of the bytes stands after it. The settlements and the client then are those of the client's rule, and the assembler keeps
+-- nothing
 pub record Settles (from : ById) (heard_so : Heard) : Type 0 where
   pub front : List (List ℕ)
   pub line : List ℕ
@@ -85,17 +92,20 @@ abbrev pub left_by : Option ℕ → List ℕ → List ℕ
 left_by None piece = []
 left_by (Some used) piece = drop used piece
 
--- what the lines of a piece did: none of them settled a request, or one did, where a number of used bytes is given
+-- what the lines of a piece did: none of them settled a request (`None`), or one did, and this many bytes were used by then
+-- (`Some`)
 abbrev pub Listens : ById → Heard → Option ℕ → Type 0
 Listens from heard_so None = IsQuiet heard_so.rest heard_so.bytes heard_so.kept from heard_so.client
 Listens from heard_so (Some used) = Settles from heard_so
 
--- a client read until a line settles its request: one did, or no line that was read does
+-- how a client's reading for a reply ended. `Ok`: a line settles its request. `Err`: no line that was read does, and the client
+-- is as before
 abbrev pub HearsReply : ById → Heard → Result (Unit {0}) RunFault → Type 0
 HearsReply from heard_so (Ok _) = Settles from heard_so
 HearsReply from heard_so (Err _) = (first_reply from (lines_behind heard_so.rest heard_so.bytes) ≡ None) × (heard_so.client ≡ from)
 
--- why reading a source ended, with `after` reads left
+-- why reading a source ended, with `after` reads left. Only with `LinkClosed` was the last read the end of the input; with
+-- `Read` the source failed; with `TooManyReads` no read was left
 abbrev pub ReadEnds : Input → Input → (after : ℕ) → Result (Unit {0}) RunFault → Type 0
 ReadEnds old new after (Ok _) = (old.reads < new.reads → new.ended ≡ false) × (new.reads ≡ old.reads → new.ended ≡ old.ended) × (new.failed ≡ old.failed)
 ReadEnds old new after (Err Read) =
@@ -105,8 +115,9 @@ ReadEnds old new after (Err TooManyReads) =
 ReadEnds old new after (Err LinkClosed) = (old.reads < new.reads) × (new.ended ≡ true) × (new.failed ≡ old.failed)
 ReadEnds old new after (Err _) = ⊥
 
--- a request was sent, and its reply waited for. Where the link is alone and no write failed, what came settles nothing; where it isn't,
--- the fault may be of the other end, and what came isn't looked at
+-- a request was sent, and its reply waited for, by how that ended. `Ok`: the request was sent whole, and a line settles it.
+-- `Write`: the request was cut, or the reply at the other end was. Another fault: the request was sent whole, and where the
+-- link is alone, no line that came settles it. After each fault the client still waits
 abbrev pub Exchanges : (alone : Bool) → ℕ → Command → Heard → (old new : Option (List ℕ)) → LinkEnd → Type 0
 Exchanges alone place command heard_so old new (Ok _) = Appends old new (request_text place command) × Settles (waiting_for place command) heard_so
 Exchanges alone place command heard_so old new (Err (Write count part)) =
@@ -116,8 +127,8 @@ Exchanges alone place command heard_so old new (Err _) =
     × (alone ≡ true → first_reply (waiting_for place command) (lines_behind heard_so.rest heard_so.bytes) ≡ None)
     × (heard_so.client ≡ waiting_for place command)
 
--- the sink took the first bytes of a settlement's line: that of a reply, if the link ended well, or else that of a command
--- that is lost
+-- the sink failed as it took the line of a settlement. Where the link had ended well (left case), that is the settlement by the
+-- reply; after a fault of the link (right case), the one that says the command is lost
 abbrev pub TellsOne : ℕ → Command → Heard → Written → (over : LinkEnd → Type 0) → Type 0
 TellsOne place command heard_so w over =
     (over (Ok tt) × Appends w.link_old w.link_new (request_text place command)
@@ -125,7 +136,10 @@ TellsOne place command heard_so w over =
     ⊎ ((fault : RunFault) × over (Err fault)
     × ((part : ℕ) × Appends w.link_old w.link_new (take part (request_text place command)) × ToldPart place (lost_of command ∷ []) w.sink_old w.sink_new))
 
--- a request was sent, its reply waited for, and its settlement written, by how that ended
+-- a request was sent, its reply waited for, and its settlement written, by how that ended. `Ok`: a line settles it, and the
+-- sink took this settlement. `Write`: the request was cut, or the reply at the other end was. `Output`: the sink failed.
+-- Another fault: the request was sent whole, and where the link is alone, no line that came settles it. After each fault but
+-- `Output` the sink took the line that says the command is lost
 abbrev pub AsksOne : (alone : Bool) → ℕ → Command → Heard → Written → (over : LinkEnd → Type 0) → LinkEnd → Type 0
 AsksOne alone place command heard_so w over (Ok _) =
     Appends w.link_old w.link_new (request_text place command)
@@ -141,8 +155,8 @@ AsksOne alone place command heard_so w over (Err _) =
 
 -- Runs.
 
--- what came settles the commands before one; that one was sent, and is lost, and those behind it weren't sent. Where the link is alone, what
--- came doesn't settle that one either. The sink took the lines of these settlements
+-- what came settles the commands `earlier`; `command` was sent, and is lost; `later` weren't sent. Where the link is alone,
+-- what came doesn't settle `command`. The sink took the lines of these settlements
 pub record StopsAt (alone : Bool) (commands : List Command) (given : List ℕ) (w : Written) : Type 0 where
   pub earlier : List Command
   pub command : Command
@@ -153,8 +167,9 @@ pub record StopsAt (alone : Bool) (commands : List Command) (given : List ℕ) (
   pub sent : Appends w.link_old w.link_new (all_of (request_texts 0 (earlier ++ command ∷ [])))
   pub told : Appends w.sink_old w.sink_new (settlement_lines (asked earlier given ++ lost_of command ∷ []))
 
--- what came settles the commands before one, whose request or whose reply was cut: of its request the first bytes were sent, or all, and it is
--- lost; those behind it weren't sent. The sink took the lines of these settlements
+-- what came settles the commands `earlier`, `count` in number; a write of the request of `command`, or of its reply, was cut.
+-- Of that request the first `bytes` bytes were sent, or all, and it is lost; `later` weren't sent. The sink took the lines of
+-- these settlements. `count` and `part` are the numbers of the fault
 pub record IsCut (alone : Bool) (commands : List Command) (given : List ℕ) (w : Written) (count part : ℕ) : Type 0 where
   pub earlier : List Command
   pub command : Command

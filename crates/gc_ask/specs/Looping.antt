@@ -1,4 +1,5 @@
--- A client and a simulator at the two ends of one link: this project's own.
+-- A client and a simulator at the two ends of one link: this project's own. `given` are all bytes that the client's end gave,
+-- `w` is what that end and the sink of the settlements took, and `over e` says what the link's ports are after the end e.
 use Rattle.std.specs.Prelude.{◌≡◌, false, ℕ, ◌+◌, ◌≤◌, ◌⊎◌, List, [], ◌∷◌, ◌++◌, length, take, Result, Ok, Err}
 use Rattle.std.specs.Io.KnownBytes.{Appends, Consumes}
 use Rattle.gc_lines.specs.Answering.{Ports, all_of, ports_of}
@@ -13,8 +14,8 @@ use Rattle.gc_ask.specs.declared.looped.Duplex.{Duplex}
 use Rattle.gc_ask.specs.Asking.{asked, lost_of, taken_by, request_text, request_texts, Taken, Written, LinkEnd, AsksAll, TellsPart, LinkEnds, EndsWith}
 use Rattle.gc_texts.specs.Texts.{end_reads}
 
--- what came settles the commands before one; that one was sent, and is lost, and those behind it weren't sent. The sink took the lines of these
--- settlements
+-- what came settles the commands `earlier`; `command` was sent, and is lost; `later` weren't sent. The sink took the lines of
+-- these settlements
 pub record LoopsUpTo (commands : List Command) (given : List ℕ) (w : Written) : Type 0 where
   pub earlier : List Command
   pub command : Command
@@ -24,8 +25,9 @@ pub record LoopsUpTo (commands : List Command) (given : List ℕ) (w : Written) 
   pub sent : Appends w.link_old w.link_new (all_of (request_texts 0 (earlier ++ command ∷ [])))
   pub told : Appends w.sink_old w.sink_new (settlement_lines (asked earlier given ++ lost_of command ∷ []))
 
--- what came settles the commands before one, whose request or whose reply was cut: of its request the first bytes were sent, or all, and it is
--- lost; those behind it weren't sent. The sink took the lines of these settlements
+-- what came settles the commands `earlier`, `count` in number; a write of the request of `command`, or of its reply, was cut.
+-- Of that request the first `bytes` bytes were sent, or all, and it is lost; `later` weren't sent. The sink took the lines of
+-- these settlements
 pub record LoopsPart (commands : List Command) (given : List ℕ) (w : Written) (count : ℕ) : Type 0 where
   pub earlier : List Command
   pub command : Command
@@ -75,7 +77,7 @@ IsUnused old new =
     × (new.instrument.remaining ≡ old.instrument.remaining) × (new.instrument.reads ≡ old.instrument.reads)
     × (new.client.taken ≡ old.client.taken) × (new.instrument.taken ≡ old.instrument.taken) × (new.sink.bytes ≡ old.sink.bytes)
 
--- what the client's end and the sink took
+-- what the client's end and the sink had taken before, and have taken now
 abbrev pub written_there : SeenAtBoth → SeenAtBoth → Written
 written_there old new = record { link_old = old.client.taken; link_new = new.client.taken; sink_old = old.sink.bytes; sink_new = new.sink.bytes }
 

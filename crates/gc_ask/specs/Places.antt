@@ -5,7 +5,7 @@ use Rattle.gc_links.specs.declared.device.Unusable.TheVariants as unusable
 use Rattle.gc_texts.specs.declared.fault.RunFault.{RunFault}
 use Rattle.gc_texts.specs.declared.fault.RunFault.TheVariants as fault
 
--- the fault for why a device can't be used, and `Socket` where the reason is none of a device
+-- the fault for why a device can't be used, and `Socket` where there is no such reason
 abbrev pub fault_of_reason : Option Unusable → RunFault
 fault_of_reason (Some unusable.NoTerminal) = fault.NoTerminal
 fault_of_reason (Some unusable.Held) = fault.Held

@@ -1,4 +1,5 @@
 //! Asking: each command of a text is sent over a link, once the one before it is settled, and each settlement is written.
+//! The place of a command, and of its request, is its number in the text, counted from 0.
 
 ghost use Rattle.std.specs.Prelude.{◌≡◌, ◌+◌, ◌*◌, ◌-◌, ◌≤◌, ◌++◌, [], ℕ, List, length, Err};
 ghost use Rattle.std.specs.Io.KnownBytes.{Consumes};
@@ -23,14 +24,16 @@ use std::alloc::Global;
 // What asking keeps from one command to the next.
 #[derive(Drop)]
 pub(crate) struct Asking {
+    // The client with its assembler.
     pub(crate) end: ClientEnd,
+    // The bytes that were read and aren't used yet.
     pub(crate) ahead: Unheard,
     // How many reads are still allowed.
     pub(crate) reads: u32,
 }
 
 impl Asking {
-    // What is kept before the first command.
+    // The state before the first command: no request waits, nothing was read, and all `max_reads` reads are left.
     pub(crate) fn new(max_reads: u32) -> Asking
         ensures client { result.end.client.ids ≡ idle 0 }
         ensures assembler { StandsFor result.end.assembler [] }
@@ -44,7 +47,8 @@ impl Asking {
         }
     }
 
-    // Makes the request of the command at this place, for whose reply the client then waits, without a deadline.
+    // Makes the request of the command at this place, for whose reply the client then waits, without a deadline. No other request
+    // waits, so the client doesn't refuse this one.
     fn request(&mut self, place: usize, command: &Command) -> Line
         requires { self.old.end.client.ids ≡ idle place }
         ensures text { with_end result.items ≡ request_text place command.now }
@@ -123,7 +127,7 @@ impl Asking {
 /// most 256 bytes each.
 ///
 /// Each command is sent once the one before it is settled. Request k has id k modulo 8, and it is settled by the first reply
-/// with this id among the lines behind the one that settled request k - 1. Other lines are ignored. The line of each
+/// with this id among the lines after the one that settled request k - 1. Other lines are ignored. The line of each
 /// settlement goes to the sink as the reply comes.
 ///
 /// Before anything is sent or written, `Read` comes where the source failed, `InputTooLong` where it gave more than 65,536
@@ -131,7 +135,7 @@ impl Asking {
 /// refused. Then a fault of the link ends the run: `Read` where it can't be read, `Write` where it can't be written,
 /// `LinkClosed` where it ends, and `TooManyReads` where all reads were made, none was the end, and what came doesn't
 /// settle the request. The request is lost then, and its line is written before the fault is returned. Nothing is sent
-/// afterwards. `Output` comes where the sink failed, also as it took that line.
+/// afterwards. `Output` comes where the sink failed, also where it failed at the line of the lost request.
 pub fn run_ask<S: Source, I: Source, O: Sink, K: Sink>(
     alloc: Global,
     commands: &mut S,
@@ -192,7 +196,8 @@ pub(crate) fn run_over<S: Source, L: Link, K: Sink>(
     ask_all(commands.as_slice(), link, sink, max_reads)
 }
 
-/// Asks commands in order, in at most `max_reads` reads of the link's ends. It ends at the first fault of the link or of the sink.
+/// Asks commands in order, in at most `max_reads` reads of the link's two ends together. It ends at the first fault of the link
+/// or of the sink.
 pub(crate) fn ask_all<L: Link, K: Sink>(
     commands: &[Command],
     link: &mut L,

@@ -1,4 +1,5 @@
-//! One caller of a port that is kept: the end that is read, and how it is served.
+//! One caller of a kept port, which serves one connection after the other: the reading end of that connection, and how the
+//! caller is served.
 
 ghost use Rattle.std.specs.Prelude.{◌≡◌, Result};
 ghost use Rattle.gc_ask.specs.Keeping.{end_of_caller};
@@ -17,7 +18,7 @@ use std::net::TcpStream;
 // How often one read is tried again where it was interrupted.
 const MOST_INTERRUPTIONS: u32 = 1000;
 
-/// The reading end of a connection, which notes whether its last read gave nothing in its time.
+/// The reading end of a connection, which notes whether the last read that failed had timed out.
 #[derive(Drop)]
 pub(crate) struct Caller<'a> {
     stream: &'a TcpStream,
@@ -33,14 +34,15 @@ impl<'a> Caller<'a> {
         }
     }
 
-    /// Whether the last read gave nothing in its time.
+    /// Whether the last read that failed had timed out.
     pub(crate) fn is_idle(&self) -> bool {
         self.is_idle
     }
 }
 
 impl<'a> Read for Caller<'a> {
-    // A read with a time-out is interrupted where the program was stopped and goes on: then it is made again.
+    // Reads the connection. A read that is interrupted is made again, at most `MOST_INTERRUPTIONS` times in all: the system
+    // interrupts a read with a time-out where the program was stopped and goes on.
     fn read(&mut self, buf: &mut [u8]) -> io::Result<usize> {
         let mut stream = self.stream;
         for _ in 0..MOST_INTERRUPTIONS {
@@ -57,12 +59,13 @@ impl<'a> Read for Caller<'a> {
     }
 }
 
-// Whether an error of a read says no more than that nothing came in its time.
+// Whether a read failed only because nothing came before its time-out.
 fn is_time_out(kind: ErrorKind) -> bool {
     matches!(kind, ErrorKind::WouldBlock | ErrorKind::TimedOut)
 }
 
-/// Restarts an instrument, and serves one connection with it, whose two directions these are. A fault says why `serve` left it.
+/// Restarts an instrument, and serves one connection with it: `source` and `sink` are its two directions. The faults are those
+/// of `serve`.
 pub(crate) fn serve_caller<S: Source, K: Sink>(
     instrument: &mut Instrument,
     source: &mut S,

@@ -1,4 +1,5 @@
-//! The callers of a port that is kept: they are served one after the other, and no fault of one keeps the next from it.
+//! The callers of a kept port: they are served one after the other, and after a fault of one caller's connection the next
+//! caller is served all the same.
 
 ghost use Rattle.std.specs.Prelude.{◌≡◌, [], ◌∷◌, true, OnOk};
 ghost use Rattle.std.specs.Io.KnownBytes.{Appends};
@@ -17,14 +18,15 @@ pub enum CallerFault {
     Write { replies: u64, bytes: usize },
     /// As many reads were made as are allowed, and none was the end.
     TooManyReads,
-    /// No connection could be accepted, or none whose calls are sure to end; or the device is there and can't be used.
+    /// No connection could be accepted, or its time-outs couldn't be set; or the device is there and can't be used.
     Socket,
     /// Nothing came for as long as a connection may be idle.
     Idle,
 }
 
 impl CallerFault {
-    /// Writes the line of the fault: the program's name, the connection's number, counted from 1, and why that was left.
+    /// Writes the line of the fault: the program's name, the connection's number, counted from 1, and why the connection was
+    /// left.
     pub fn tell<E: Write>(self, number: u64, messages: &mut E) -> io::Result<()>
         ensures { OnOk result (Appends (E.contents messages.old) (E.contents messages.new) (caller_line number self)) }
     {
@@ -51,7 +53,7 @@ impl CallerFault {
     }
 }
 
-/// Those who call at a port.
+/// The callers of a port or of a device.
 pub trait Callers {
     ghost use Rattle.std.specs.Prelude.{List, Option};
     ghost use Rattle.gc_ask.specs.Keeping.{End};
@@ -79,8 +81,8 @@ pub fn keep<C: Callers, E: Write>(callers: &mut C, most: u64, messages: &mut E) 
     told
 }
 
-// Writes the line of the connection with this number where it ended with a fault, and else nothing. Returns whether all lines were
-// written so far; `told` says whether all before were.
+// Where the connection with this number ended with a fault, writes the line of the fault, and else nothing. `told` says whether
+// all earlier lines were written. The result says whether all lines were, this one included.
 fn tell_end<E: Write>(
     end: Result<(), CallerFault>,
     number: u64,

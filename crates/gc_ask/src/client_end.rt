@@ -38,8 +38,8 @@ impl ClientEnd {
         }
     }
 
-    // Hands the client the line that a frame is, if it is one. Returns whether that line settled a request; the settlements are
-    // then in `settled`.
+    // Hands the client the line of a frame, if the frame has one. Returns whether that line settled a request; the settlements
+    // are then in `settled`.
     fn take_frame(&mut self, frame: Lent<'_>) -> bool
         requires { IsLineWithin frame }
         ensures same { self.new.assembler ≡ self.old.assembler }
@@ -51,9 +51,9 @@ impl ClientEnd {
         self.client.hear(line, &mut self.settled) == Hearing::Settled
     }
 
-    // Takes the lines of a piece up to the first that settles a request, and returns how many bytes stand through that line.
-    // `None`: no line of the piece settles a request, and all of it was used. A line that comes in several pieces is put
-    // together in `cut`.
+    // Takes the lines of a piece up to the first that settles a request, and returns how many bytes of the piece were used,
+    // through that line's line feed. `None`: no line of the piece settles a request, and the whole piece was used. A line that
+    // comes in several pieces is put together in `cut`.
     fn listen(&mut self, piece: &[u8], cut: &mut Line) -> Option<usize>
         ensures within { IfSome result (λ used. used ≤ length piece.now) }
         ensures listens { (rest : List ℕ) → StandsFor self.old.assembler rest

@@ -91,7 +91,7 @@ fn loop_over<K: Sink>(
     ask_all(commands, &mut link, sink, max_reads)
 }
 
-/// Asks the commands of a source as `loop_tcp_on` does, of a simulator, and has the same ends.
+/// Does as `loop_tcp_on` does, with the simulator as the instrument. The results are the same.
 pub fn loop_tcp<R: Net<Listener = TcpListener, Stream = TcpStream>, S: Source, K: Sink>(
     rt: &R,
     alloc: Global,
@@ -236,7 +236,8 @@ fn ask_over<I: Read + Drop, O: Write + Drop, K: Sink>(
     ask_all(commands, &mut link, sink, max_reads)
 }
 
-/// The fault of a place over which no connection can be had: the device's, or `Socket` where the reason is none of a device.
+/// The fault that is told where no connection to a place could be had: the one for why a device can't be used, or `Socket` where
+/// there is no such reason.
 pub fn fault_of(reason: Option<Unusable>) -> RunFault
     ensures { result ≡ fault_of_reason reason }
 {
@@ -248,8 +249,8 @@ pub fn fault_of(reason: Option<Unusable>) -> RunFault
     }
 }
 
-/// Restarts an instrument, and serves one connection with it, whose two directions these are. It fails with `Read`, `Write` or
-/// `TooManyReads` as `serve` does.
+/// Restarts an instrument, and serves one connection with it: `source` and `sink` are its two directions. It fails with `Read`,
+/// `Write` or `TooManyReads` as `serve` does.
 pub(crate) fn serve_connection<S: Source, K: Sink>(
     instrument: &mut Instrument,
     source: &mut S,

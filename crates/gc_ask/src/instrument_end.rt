@@ -15,6 +15,7 @@ use gc_texts::RunFault;
 pub(crate) struct InstrumentEnd {
     instrument: Instrument,
     assembler: Assembler,
+    // The bytes that were read and aren't used yet.
     ahead: Unheard,
 }
 

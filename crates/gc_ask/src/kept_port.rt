@@ -63,7 +63,8 @@ pub fn keep_tcp<R: Net<Listener = TcpListener, Stream = TcpStream> + Clock, E: W
     Ok(keep_on(rt, &listener, keeping, instrument, messages))
 }
 
-/// Serves the connections of a port that is bound, as `keep_tcp` does. Further callers wait in the system's queue.
+/// Serves the connections of a port that is bound, as `keep_tcp` does. Further callers wait in the system's queue. Returns
+/// whether the lines of all faults were written.
 pub fn keep_on<R: Clock, E: Write>(
     rt: &R,
     listener: &TcpListener,
@@ -96,8 +97,9 @@ struct PortCallers<'a, R> {
 impl<'a, R: Clock> Callers for PortCallers<'a, R> {
     ghost served = { λ _. None };
 
-    // Waits for the next connection and serves it. `Socket`: no connection could be accepted, behind which it sleeps for `REST`
-    // seconds, or its waits can't be bounded. A read that timed out is the fault `Idle`, any other failed read is `Read`.
+    // Waits for the next connection and serves it. `Socket`: no connection could be accepted, and then this sleeps for `REST`
+    // seconds; or the connection's time-outs couldn't be set. A read that timed out is the fault `Idle`, any other failed read
+    // is `Read`.
     fn serve_next(&mut self) -> Result<(), CallerFault> {
         let Ok(stream) = accept(self.listener) else {
             thread::sleep(self.rt, Duration::from_secs(REST));

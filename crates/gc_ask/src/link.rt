@@ -1,5 +1,5 @@
-//! A link that commands are asked over: requests are sent over it, and what comes is read. It may have an instrument of its own at
-//! the other end.
+//! A link that commands are asked over: requests are sent over it, and what comes is read. It may have an instrument of its own
+//! at the other end.
 
 ghost use Rattle.std.specs.Prelude.{◌≡◌, ◌+◌, ◌≤◌, [], length, true, false, Err, Ok};
 ghost use Rattle.gc_lines.specs.Lines.{with_end};
@@ -26,11 +26,11 @@ pub(crate) trait Link {
     /// What is seen of the instrument's end.
     ghost instrument: { Self → Ports };
 
-    /// The references that the link holds. No call changes them, so a caller knows behind a call what became of its ports.
+    /// The references that the link holds. No call changes them, so a caller knows after a call what became of its ports.
     ghost held: { Self → Held };
 
-    /// Sends the request at this place. Where this program answers at the other end, too, it has the request answered there,
-    /// in at most `reads` reads.
+    /// Sends the request at this place (its number, counted from 0). Where this program answers at the other end, too, it has
+    /// the request answered there, in at most `reads` reads.
     fn send(&mut self, place: usize, request: &Line, reads: &mut u32) -> Result<(), RunFault>
         ensures takes { TakesRequest alone place (with_end request.now.items) (client self.old).taken (client self.new).taken result }
         ensures ends { BothStep (client self.old) (client self.new) (instrument self.old) (instrument self.new) result }
@@ -39,7 +39,7 @@ pub(crate) trait Link {
         ensures too_many { result ≡ Err RunFault.TooManyReads → reads.new ≡ 0 }
         ensures held { held self.new ≡ held self.old };
 
-    /// Reads the client's end once, in place of what was left of the last read. Returns false at the end of the stream.
+    /// Reads the client's end once into `ahead`, in place of what was left there. Returns false at the end of the stream.
     fn read(&mut self, ahead: &mut Unheard) -> Result<bool, PortFailed>
         ensures few { length ahead.new ≤ 256 }
         ensures end { result ≡ Ok false → ahead.new ≡ [] }
@@ -66,10 +66,12 @@ impl<'a, 'b, I: Source, O: Sink> Link for Alone<'a, 'b, I, O> {
 
     ghost held = { λ a. record { client_in = a.source.ghost_name; client_out = a.sink.ghost_name; instrument_in = a.source.ghost_name; instrument_out = a.sink.ghost_name } };
 
+    // Sends the request. Whoever is at the other end answers it.
     fn send(&mut self, place: usize, request: &Line, _reads: &mut u32) -> Result<(), RunFault> {
         send_line(place, request, self.sink)
     }
 
+    // Reads once of the source, in place of what was left of the last read.
     fn read(&mut self, ahead: &mut Unheard) -> Result<bool, PortFailed> {
         ahead.read(self.source)
     }

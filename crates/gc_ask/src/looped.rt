@@ -62,7 +62,7 @@ pub struct Duplex<I, O> {
     pub sink: O,
 }
 
-/// Asks the commands of a source as `run_loop` does, of any instrument, and has the same ends.
+/// Does as `run_loop` does, with any instrument in place of the simulator. The results are the same.
 pub fn run_loop_on<S: Source, A: Source, B: Sink, C: Source, D: Sink, K: Sink>(
     alloc: Global,
     instrument: Instrument,
@@ -117,6 +117,7 @@ impl<'a, 'b, 'c, 'd, A: Source, B: Sink, C: Source, D: Sink> Link
 
     ghost held = { λ l. record { client_in = l.client_in.ghost_name; client_out = l.client_out.ghost_name; instrument_in = l.instrument_in.ghost_name; instrument_out = l.instrument_out.ghost_name } };
 
+    // Sends the request at the client's end, and has the instrument answer one line at its own.
     fn send(&mut self, place: usize, request: &Line, reads: &mut u32) -> Result<(), RunFault> {
         if let Err(fault) = send_line(place, request, self.client_out) {
             return Err(fault);
@@ -125,6 +126,7 @@ impl<'a, 'b, 'c, 'd, A: Source, B: Sink, C: Source, D: Sink> Link
             .answer_line(place, self.instrument_in, self.instrument_out, reads)
     }
 
+    // Reads once at the client's end, in place of what was left of the last read.
     fn read(&mut self, ahead: &mut Unheard) -> Result<bool, PortFailed> {
         ahead.read(self.client_in)
     }

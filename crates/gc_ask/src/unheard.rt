@@ -10,7 +10,7 @@ use std::marker::Model;
 // The most bytes of one read.
 const ROOM: usize = 256;
 
-/// The bytes of the last read that aren't used yet.
+/// The bytes of the last read that aren't used yet: `bytes[at..end]`.
 #[derive(Drop)]
 pub(crate) struct Unheard {
     bytes: [u8; ROOM],

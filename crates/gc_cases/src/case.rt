@@ -3,8 +3,9 @@
 /// One case.
 #[derive(Clone, Copy)]
 pub struct Case<'a> {
-    /// What it is called.
+    /// The case's name, which stands behind `==`.
     pub name: &'a str,
+    // The lines of the case, each a key and its value.
     lines: &'a str,
 }
 
@@ -14,7 +15,7 @@ impl<'a> Case<'a> {
         self.value_at(key, 0).unwrap_or("")
     }
 
-    /// The value of a line with this key, by its place among these, counted from 0. `None`: there is no line at this place.
+    /// The value of the line at a place, counted from 0, among the lines with this key. `None`: there are not so many.
     pub fn value_at(&self, key: &str, place: usize) -> Option<&'a str> {
         let mut left = place;
         for line in self.lines.lines() {
@@ -28,13 +29,13 @@ impl<'a> Case<'a> {
         None
     }
 
-    /// The number under a key, and this one where there is none.
+    /// The number under a key, and `or` where no number stands there.
     pub fn number(&self, key: &str, or: u64) -> u64 {
         self.value(key).parse::<u64>().unwrap_or(or)
     }
 }
 
-// The value of a line that has this key.
+// The value of a line that has this key. `None`: the line has another key.
 fn value_of<'a>(line: &'a str, key: &str) -> Option<&'a str> {
     let rest = line.strip_prefix(key)?;
     if rest.is_empty() {

@@ -1,4 +1,4 @@
-//! Bytes as a value of a case spells them.
+//! Bytes as a value of a case spells them: each byte as itself, or with a backslash, as `\n` and `\x0a`.
 
 use std::alloc::{AllocError, Global};
 

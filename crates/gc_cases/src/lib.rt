@@ -3,7 +3,8 @@
 //! A line `== NAME` begins a case, up to the next one. Each other line is a key and, behind a space, its value. A line that is empty or
 //! begins with `#` says nothing. In a value `\n`, `\r`, `\t`, `\\` and `\xHH` (two digits, 0 to 9 and a to f) stand for bytes.
 //!
-//! What came is told to a text that keeps a want of memory to itself (`Told`), so a player has no answer to pass on.
+//! What came is appended to a `Told`: a text whose calls return no error where memory runs out, so that a player has none to pass
+//! on.
 #![tactic(auto)]
 
 mod case;

@@ -1,4 +1,5 @@
-//! The files of a folder, played.
+//! The files of a folder, played: each of their cases is run, and what came is compared with what the case expects. Where these
+//! differ, a line with what came is appended to the text `wrong`.
 
 use crate::case::{Case, cut_case};
 use crate::told::Told;
@@ -11,8 +12,8 @@ pub trait Player {
     fn play(&self, rt: &HostRuntime, case: &Case<'_>, wrong: &mut Told) -> io::Result<()>;
 }
 
-/// Plays each file of a folder with this ending, as `.stations`, in the order of their names; prints a line for each of them, and for
-/// each case what came otherwise; and says whether all came to what they expect.
+/// Plays each file of a folder with this ending, as `.stations`, in the order of their names. For each it prints what came
+/// otherwise than its cases expect, and a line with the counts. It says whether all cases of all files came to what they expect.
 pub fn play_folder<P: Player>(
     rt: &HostRuntime,
     folder: &str,
@@ -31,6 +32,7 @@ pub fn names_of(rt: &HostRuntime, folder: &str, ending: &str) -> io::Result<Vec<
     Ok(names)
 }
 
+// Appends the names of a folder's files that have an ending, in the order in which the system lists them.
 fn add_names(
     rt: &HostRuntime,
     folder: &str,
@@ -43,6 +45,7 @@ fn add_names(
     Ok(())
 }
 
+// Appends a file's name, if it has the ending.
 fn add_name(
     alloc: Global,
     name: &str,
@@ -69,7 +72,7 @@ fn play_files<P: Player>(
     Ok(are_right)
 }
 
-// Plays a file of a folder, prints its lines, and says whether all its cases came to what they expect.
+// Plays a file of a folder, prints how it went, and says whether all its cases came to what they expect.
 fn play_file<P: Player>(
     rt: &HostRuntime,
     folder: &str,
@@ -83,12 +86,14 @@ fn play_file<P: Player>(
     tell_file(rt, name, count, right, wrong)
 }
 
+// Reads the text of a file of a folder.
 fn text_of_file(rt: &HostRuntime, folder: &str, name: &str) -> io::Result<String> {
     let path = format!(in rt.alloc(); "{folder}/{name}")?;
     fs::read_to_string(rt, path.as_str())
 }
 
-// Prints what came otherwise, and the line of a file, and says whether nothing did.
+// Prints what came otherwise, and a line with a file's counts: `right` of its `count` cases came to what they expect. It says
+// whether all did.
 fn tell_file(
     rt: &HostRuntime,
     name: &str,
@@ -101,7 +106,7 @@ fn tell_file(
     Ok(otherwise == 0)
 }
 
-// How many cases a text has, and how many came to what they expect.
+// Plays the cases of a text, and returns how many there are, and how many came to what they expect.
 fn play_text<P: Player>(rt: &HostRuntime, text: &str, player: &P, wrong: &mut Told) -> (u64, u64) {
     let mut count = 0u64;
     let mut right = 0u64;
@@ -119,7 +124,7 @@ fn play_text<P: Player>(rt: &HostRuntime, text: &str, player: &P, wrong: &mut To
     (count, right)
 }
 
-// Plays a case, and says whether nothing came otherwise.
+// Plays a case, and says whether it came to what it expects: nothing was appended to `wrong`.
 fn is_right<P: Player>(rt: &HostRuntime, player: &P, case: &Case<'_>, wrong: &mut Told) -> bool {
     let before = wrong.size();
     if player.play(rt, case, wrong).is_err() {

@@ -10,8 +10,8 @@ const MOST_ROWS: usize = 10_000;
 
 /// What plays the rows of a case.
 pub trait Rows {
-    /// Plays a row, by its first word, what stands behind that, and the bytes for which this stands. What came is appended to `came`, and
-    /// nothing where the row has no arrow.
+    /// Plays a row: `word` is its first word, `what` the text from there to the arrow, and `bytes` the bytes for which that text
+    /// stands. What came is appended to `came`, and nothing for a row without an arrow.
     fn play(&mut self, alloc: Global, word: &str, what: &str, bytes: &[u8], came: &mut Told);
 }
 
@@ -70,7 +70,7 @@ pub fn cut_word(text: &str) -> (&str, &str) {
     text.split_once(' ').unwrap_or((text, ""))
 }
 
-/// The bytes behind the first word of those for which a row stands.
+/// Of the bytes for which a text stands, those behind its first word and the space after it. `word` is that word.
 pub fn bytes_behind<'a>(word: &str, bytes: &'a [u8]) -> &'a [u8] {
     bytes.get(word.len().saturating_add(1)..).unwrap_or(b"")
 }

@@ -1,12 +1,12 @@
-//! A text of what came, in place of answers that may want memory.
+//! A text of what came of a case, whose calls return no error where memory runs out.
 
 use crate::escapes::spells;
 use std::alloc::Global;
 use std::fmt;
 use std::io::Write;
 
-/// A text to which what came is appended. Its calls return no error, so that a player has none to pass on: where memory runs out, the text
-/// notes that it lacks a part, and from then on it is what no case expects.
+/// A text to which what came is appended. Its calls return no error, so that a player has none to pass on: where memory runs
+/// out, the text notes that it lacks a part, and from then on it is what no case expects.
 #[derive(Drop)]
 pub struct Told {
     bytes: Vec<u8>,
@@ -27,7 +27,7 @@ impl Told {
         self.bytes.as_slice()
     }
 
-    /// The bytes of the text, for what is written to it.
+    /// The bytes of the text, so that a caller can append to them.
     pub fn writer(&mut self) -> &mut Vec<u8> {
         &mut self.bytes
     }
@@ -68,13 +68,13 @@ impl Told {
         self.lacks |= is_lacking;
     }
 
-    /// What another one has, which lacks memory where that one does.
+    /// Appends the text `other`. Where `other` lacks a part, this text lacks one, too.
     pub fn told(&mut self, other: &Told) {
         self.bytes(other.as_bytes());
         self.lacks |= other.lacks;
     }
 
-    /// Appends `so` where something is so, and `otherwise` where it isn't.
+    /// Appends the text `so` where `is_so` is true, and else the text `otherwise`.
     pub fn either(&mut self, is_so: bool, so: &str, otherwise: &str) {
         self.text(if is_so { so } else { otherwise });
     }
@@ -128,7 +128,7 @@ fn hex_of(digit: u8) -> u8 {
     *b"0123456789abcdef".get(usize::from(digit)).unwrap_or(&b'?')
 }
 
-/// The number that a word writes, and this one where it writes none.
+/// The number that a word writes, and `or` where it writes none.
 pub fn number_or(word: &str, or: u64) -> u64 {
     word.parse::<u64>().unwrap_or(or)
 }

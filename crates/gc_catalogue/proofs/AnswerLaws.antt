@@ -17,7 +17,7 @@ use Rattle.gc_values.proofs.RoundedDecimals.{rounded_rounds}
 use Rattle.gc_values.proofs.ListLaws.{no_list_fault, one_list_fault, one_values, params_fit}
 use Rattle.gc_catalogue.proofs.Table.{answer_kinds, few_values_out, same_answer, same_answer_kinds, shape-rounded, values-rounded}
 
--- parameters are at most one answer of a call
+-- parameters are read as at most one answer of a call
 pub one_answer : (call : Call) (params : List ℕ) (a b : Answer) → IsAnswer call params a → IsAnswer call params b → a ≡ b
 one_answer call params a b x y =
     let shape = x.of_call ∙ sym y.of_call in
@@ -28,7 +28,7 @@ pub no_unreadable : (call : Call) (params : List ℕ) (a : Answer) (e : ValueFau
 no_unreadable call params a e x y =
     no_list_fault (answer_fields a).values params e (few_values_out a) x.values (rw (same_answer_kinds a y.0 (x.of_call ∙ sym y.1)) y.2)
 
--- parameters that are unreadable for a call are so by one fault
+-- parameters that are unreadable for a call have one fault
 pub one_unreadable : (call : Call) (params : List ℕ) (e f : ValueFault) → IsUnreadable call params e → IsUnreadable call params f → e ≡ f
 one_unreadable call params e f x y =
     one_list_fault (answer_kinds x.0) params e f x.2 (rw (same_answer_kinds x.0 y.0 (x.1 ∙ sym y.1)) y.2)
@@ -52,11 +52,11 @@ one_reading call r (reading.Unreadable a) (reading.Refused b) x y = absurd (y.1 
 one_reading call r (reading.Unreadable a) (reading.Value b) x y = absurd (no_unreadable call r.params b a y.2 x.2)
 one_reading call r (reading.Unreadable a) (reading.Unreadable b) x y = ap (λ z. reading.Unreadable z) (one_unreadable call r.params a b x.2 y.2)
 
--- an answer that parameters are has its values in their ranges
+-- an answer as which parameters are read has its values in their ranges
 pub answer_fits : (call : Call) (params : List ℕ) (answer : Answer) → IsAnswer call params answer → IsFittingAnswer answer
 answer_fits call params answer x = params_fit (answer_fields answer).values params x.values
 
--- values with each double rounded are shown as the values
+-- `AreShown` holds between values and the same values with each double rounded
 all_shown : (places : ℕ) (vs : List Value) → AreShown places vs (shown_values (Some places) vs)
 all_shown places [] = tt
 all_shown places (value.Double d ∷ vs) = (rounded_rounds d places, all_shown places vs)

@@ -39,7 +39,7 @@ pub only_refusal : (n : ℕ) (params : List ℕ) (r : Result ⊤ CallFault) (d :
 only_refusal n params (Ok u) d x f e y = absurd (no_refusal n params d e x y)
 only_refusal n params (Err g) d x f e y = ap (λ z. Err z) (one_refusal n params g e f y)
 
--- a call's own texts are parameters of it
+-- the texts of a call's values, joined by commas, are parameters of that call
 pub written_is_call : (c : Call) → IsFitting c → IsCall (call_fields c).number (params_of (call_fields c).values) c
 written_is_call c h = record { number = refl; values = written_reads (call_fields c).values h }
 

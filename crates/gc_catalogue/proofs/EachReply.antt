@@ -97,7 +97,8 @@ record Made (s : Shape) : Type 0 where
   shape : (answer_fields some).shape ≡ s
   each : (vs : List Value) → kinds_of vs ≡ kinds_of (answer_fields some).values → Has s vs
 
--- where an answer of a shape has one value of kind k, there is such an answer for each value of that kind
+-- where `say` gives answers of the shape s with just one value, which is of kind k and which `make` gives, there is an answer of
+-- that shape for each list of one value of that kind
 of_one : {X : Type 0} (k : Kind) (make : X → Value) (say : X → Answer) (s : Shape) → ((v : Value) → kind_of v ≡ k → (x : X) × (make x ≡ v))
     → ((x : X) → (answer_fields (say x)).shape ≡ s) → ((x : X) → (answer_fields (say x)).values ≡ make x ∷ []) → (vs : List Value) → kinds_of vs ≡ k ∷ [] → Has s vs
 of_one k make say s is shape values vs e =
@@ -119,6 +120,7 @@ made shape.Name = record { some = answer.Name []; shape = refl; each = of_one ki
 made shape.Temperature = record { some = answer.Temperature zero; shape = refl; each = one_double (λ d. answer.Temperature d) shape.Temperature (λ d. refl) (λ d. refl) }
 made shape.Height = record { some = answer.Height zero; shape = refl; each = one_double (λ d. answer.Height d) shape.Height (λ d. refl) (λ d. refl) }
 made shape.Version = record { some = answer.Version (pos 0) (pos 0) (pos 0); shape = refl; each = version } where
+  -- each list of three Shorts is the values of an answer of the shape `Version`
   version : (vs : List Value) → kinds_of vs ≡ kind.Short ∷ kind.Short ∷ kind.Short ∷ [] → Has shape.Version vs
   version vs e =
       let p = split kind.Short (kind.Short ∷ kind.Short ∷ []) vs e in
@@ -129,6 +131,7 @@ made shape.Version = record { some = answer.Version (pos 0) (pos 0) (pos 0); sha
       let c = a_short r.first r.kind in
       (answer.Version a.0 b.0 c.0, refl, cc (a.1, b.1, c.1, none_left r.behind r.kinds, r.is, q.is, p.is))
 made shape.Date = record { some = answer.Date (record { year = pos 0; month = 0; day = 0; hour = 0; minute = 0; second = 0 }); shape = refl; each = date } where
+  -- each list of a Short and five Bytes is the values of an answer of the shape `Date`
   date : (vs : List Value) → kinds_of vs ≡ kind.Short ∷ kind.Byte ∷ kind.Byte ∷ kind.Byte ∷ kind.Byte ∷ kind.Byte ∷ [] → Has shape.Date vs
   date vs e =
       let p = split kind.Short (kind.Byte ∷ kind.Byte ∷ kind.Byte ∷ kind.Byte ∷ kind.Byte ∷ []) vs e in
@@ -148,6 +151,7 @@ made shape.Date = record { some = answer.Date (record { year = pos 0; month = 0;
         cc (a.1, b.1, c.1, d.1, m.1, n.1, none_left u.behind u.kinds, u.is, t.is, s.is, r.is, q.is, p.is),
       )
 made shape.Place = record { some = answer.Place (record { e0 = zero; n0 = zero; h0 = zero; hi = zero }); shape = refl; each = place } where
+  -- each list of four Doubles is the values of an answer of the shape `Place`
   place : (vs : List Value) → kinds_of vs ≡ kind.Double ∷ kind.Double ∷ kind.Double ∷ kind.Double ∷ [] → Has shape.Place vs
   place vs e =
       let p = split kind.Double (kind.Double ∷ kind.Double ∷ kind.Double ∷ []) vs e in
@@ -163,6 +167,7 @@ made shape.Place = record { some = answer.Place (record { e0 = zero; n0 = zero; 
         cc (a.1, b.1, c.1, d.1, none_left s.behind s.kinds, s.is, r.is, q.is, p.is),
       )
 made shape.Angles = record { some = answer.Angles zero zero; shape = refl; each = angles } where
+  -- each list of two Doubles is the values of an answer of the shape `Angles`
   angles : (vs : List Value) → kinds_of vs ≡ kind.Double ∷ kind.Double ∷ [] → Has shape.Angles vs
   angles vs e =
       let p = split kind.Double (kind.Double ∷ []) vs e in
@@ -171,6 +176,7 @@ made shape.Angles = record { some = answer.Angles zero zero; shape = refl; each 
       let b = a_double q.first q.kind in
       (answer.Angles a.0 b.0, refl, cc (a.1, b.1, none_left q.behind q.kinds, q.is, p.is))
 made shape.Measured = record { some = answer.Measured zero zero zero; shape = refl; each = measured } where
+  -- each list of three Doubles is the values of an answer of the shape `Measured`
   measured : (vs : List Value) → kinds_of vs ≡ kind.Double ∷ kind.Double ∷ kind.Double ∷ [] → Has shape.Measured vs
   measured vs e =
       let p = split kind.Double (kind.Double ∷ kind.Double ∷ []) vs e in
@@ -181,6 +187,7 @@ made shape.Measured = record { some = answer.Measured zero zero zero; shape = re
       let c = a_double r.first r.kind in
       (answer.Measured a.0 b.0 c.0, refl, cc (a.1, b.1, c.1, none_left r.behind r.kinds, r.is, q.is, p.is))
 made shape.MeasuredMode = record { some = answer.MeasuredMode zero zero zero (pos 0); shape = refl; each = with_mode } where
+  -- each list of three Doubles and a Long is the values of an answer of the shape `MeasuredMode`
   with_mode : (vs : List Value) → kinds_of vs ≡ kind.Double ∷ kind.Double ∷ kind.Double ∷ kind.Long ∷ [] → Has shape.MeasuredMode vs
   with_mode vs e =
       let p = split kind.Double (kind.Double ∷ kind.Double ∷ kind.Long ∷ []) vs e in
@@ -193,7 +200,7 @@ made shape.MeasuredMode = record { some = answer.MeasuredMode zero zero zero (po
       let m = a_long s.first s.kind in
       (answer.MeasuredMode a.0 b.0 c.0 m.0, refl, cc (a.1, b.1, c.1, m.1, none_left s.behind s.kinds, s.is, r.is, q.is, p.is))
 
--- parameters are an answer of the call, or are unreadable for some reason
+-- parameters are read as an answer of the call, or are unreadable for some reason
 answered : (call : Call) (params : List ℕ) → ((a : Answer) × IsAnswer call params a) ⊎ ((e : _) × IsUnreadable call params e)
 answered call params =
     let m = made (call_fields call).answer in

@@ -12,7 +12,7 @@ use Rattle.gc_values.specs.declared.value.Value.{Value}
 use Rattle.gc_catalogue.specs.Lists.{before_commas, behind_commas, params_of}
 use Rattle.gc_values.proofs.TextShape.{text_is_some}
 
--- texts of values, each behind a comma, are the values behind commas
+-- the texts of values, with a comma put in front of each, are `behind_commas`
 commas-map : (vs : List Value) → flat_map (λ u. 44 ∷ u) (map text vs) ≡ behind_commas vs
 commas-map [] = refl
 commas-map (v ∷ vs) = rw (commas-map vs) refl
@@ -26,7 +26,7 @@ params_text-some : (bytes : List ℕ) → 0 < length bytes → params_text bytes
 params_text-some [] h = absurd (omega arith)
 params_text-some (b ∷ bs) h = refl
 
--- bytes with others behind them are at least one byte where the first are
+-- where xs has at least one byte, so has xs with ys behind it
 more : (xs ys : List ℕ) → 0 < length xs → 0 < length (xs ++ ys)
 more [] ys h = absurd (omega arith)
 more (x ∷ xs) ys h = omega arith
@@ -54,7 +54,8 @@ without_last xs a =
     let n : length (xs ++ a ∷ []) - 1 ≡ length xs = omega (arith, length-append xs (a ∷ [])) in
     ap (λ k. take k (xs ++ a ∷ [])) n ∙ take-append_seam xs (a ∷ [])
 
--- a head and a comma, values before commas, and the last comma taken off are the head and the values behind commas
+-- where `begun` is a head and a comma, `old` has values before commas behind that, and `new` is `old` without its last byte,
+-- `new` is the head and the values behind commas
 pub comma_list : (head : List ℕ) (vs : List Value) (begun old new : List ℕ) → begun ≡ head ++ 44 ∷ [] → old ≡ begun ++ before_commas vs
     → new ≡ take (length old - 1) old → new ≡ head ++ behind_commas vs
 comma_list head vs begun old new start is cut =
@@ -68,15 +69,15 @@ nothing_ends : (ys : List ℕ) (b : ℕ) → [] ≡ ys ++ b ∷ [] → ⊥
 nothing_ends [] b e = absurd (cc)
 nothing_ends (y ∷ ys) b e = absurd (cc)
 
--- a list ends in one byte
+-- two bytes that end the same list are equal
 ends_once : (xs ys : List ℕ) (a b : ℕ) → xs ++ a ∷ [] ≡ ys ++ b ∷ [] → a ≡ b
 ends_once [] [] a b e = cc
 ends_once [] (y ∷ ys) a b e = let rest : [] ≡ ys ++ b ∷ [] = cc in absurd (nothing_ends ys b rest)
 ends_once (x ∷ xs) [] a b e = let rest : [] ≡ xs ++ a ∷ [] = cc in absurd (nothing_ends xs a rest)
 ends_once (x ∷ xs) (y ∷ ys) a b e = let rest : xs ++ a ∷ [] ≡ ys ++ b ∷ [] = cc in ends_once xs ys a b rest
 
--- a head and a colon, values before commas, and a comma taken off the end where one stands there are the head, the colon and the values
--- joined
+-- where `old` is a head, a colon and values before commas, and `new` is `old` without a comma at its end, if one stands there,
+-- `new` is the head, the colon and the values joined by commas
 colon_list : (head : List ℕ) (vs : List Value) (old new : List ℕ) → old ≡ (head ++ 58 ∷ []) ++ before_commas vs
     → ((front : List ℕ) → old ≡ front ++ 44 ∷ [] → new ≡ front) → (((front : List ℕ) → old ≢ front ++ 44 ∷ []) → new ≡ old)
     → new ≡ (head ++ 58 ∷ []) ++ params_of vs
@@ -89,8 +90,8 @@ colon_list head (v ∷ vs) old new is comma other =
 bare_head : (rpc : ℕ) (id : Option ℕ) → request_text (record { rpc = rpc; id = id; params = [] }) ≡ (request_signature ++ (decimal rpc ++ id_text id)) ++ 58 ∷ []
 bare_head rpc id = simp append_assoc
 
--- a request's head, values before commas, and a comma taken off the end where one stands there are the request with these values as its
--- parameters
+-- where `old` ends in a request's head and values before commas, and `new` is `old` without a comma at its end, if one stands
+-- there, `new` ends in the request with these values as its parameters
 pub request_ends : (front : List ℕ) (rpc : ℕ) (id : Option ℕ) (vs : List Value) (old new : List ℕ)
     → old ≡ front ++ (request_text (record { rpc = rpc; id = id; params = [] }) ++ before_commas vs) → ((list : List ℕ) → old ≡ list ++ 44 ∷ [] → new ≡ list)
     → (((list : List ℕ) → old ≢ list ++ 44 ∷ []) → new ≡ old) → new ≡ front ++ request_text (record { rpc = rpc; id = id; params = params_of vs })

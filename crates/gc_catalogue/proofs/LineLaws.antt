@@ -74,7 +74,7 @@ refusal_again call id rc places i some fits = record {
   is_reading = (refl, (λ e. omega arith), refl);
 }
 
--- where each value that an optional id has is below 8, `IfSome` says so of the id
+-- where an optional id, if it is there, is below 8, `IfSome` says so of it
 pub some_id : (id : Option ℕ) → ((i : ℕ) → id ≡ Some i → i < 8) → IfSome id (λ i. i < 8)
 some_id None h = tt
 some_id (Some i) h = h i refl

@@ -37,7 +37,7 @@ answer_fields (MeasuredMode hz v distance mode) = record { shape = shape.Measure
 abbrev pub IsAnswerOf : Call → Answer → Type 0
 IsAnswerOf call answer = (answer_fields answer).shape ≡ (call_fields call).answer
 
--- the parameters are the answer's, and the answer is one of the call
+-- the parameters read as the answer's values, and the answer has the shape of the call's answers
 pub record IsAnswer (call : Call) (params : List ℕ) (answer : Answer) : Type 0 where
   pub of_call : IsAnswerOf call answer
   pub values : AreParams params (answer_fields answer).values

@@ -14,7 +14,7 @@ abbrev pub refusal_number : CallFault → ℕ
 refusal_number Unknown = call_fault_number Unknown
 refusal_number (Parameters e) = fault_number e
 
--- the text of each fault: that of the parameters is their own fault's
+-- the text of each fault; where the parameters are at fault, it is the text of their fault
 abbrev pub call_fault_text : CallFault → List ℕ
 call_fault_text Unknown = codes "no procedure has the number"
 call_fault_text (Parameters e) = fault_text e

@@ -33,7 +33,7 @@ abbrev pub IsShown : ℕ → Value → Value → Type 0
 IsShown places (value.Double d) (value.Double shown) = IsRounded (fraction d) places shown.digits shown.scale
 IsShown places v shown = v ≡ shown
 
--- `IsShown` of values, one for one
+-- values as they are written, one for one: each double rounded to the places, and any other value as it is
 abbrev pub AreShown : ℕ → List Value → List Value → Type 0
 AreShown places [] [] = Unit {0}
 AreShown places [] (shown ∷ rest) = ⊥

@@ -6,8 +6,8 @@ use Rattle.gc_catalogue.specs.declared.answer.Reading.TheVariants.{Value, Refuse
 use Rattle.gc_catalogue.specs.declared.call.Call.{Call}
 use Rattle.gc_catalogue.specs.Answers.{IsAnswer, IsUnreadable}
 
--- the reply has this reading for the call: a communication fault where that code isn't 0, else a refusal where the return code isn't 0,
--- else the answer or why there is none
+-- the reply has this reading for the call: a communication fault where the communication code isn't 0, else a refusal where the
+-- return code isn't 0, else the answer, or why the parameters are none
 abbrev pub IsReading : Call → ReplyFields → Reading → Type 0
 IsReading call r (ComFault code) = (r.rc_com ≢ 0) × (code ≡ r.rc_com)
 IsReading call r (Refused code) = (r.rc_com ≡ 0) × (r.rc ≢ 0) × (code ≡ r.rc)

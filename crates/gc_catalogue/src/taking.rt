@@ -17,7 +17,8 @@ use gc_values::{
     push_text,
 };
 
-/// A taker of a call's number, with the request's id, and of values, from the left.
+/// A taker of a call's number, with the request's id, and of values, from the left. Each call's clause `takes` says what was
+/// taken up to some later state `t`, from the state before the call: its own value, and then what was taken after it.
 pub(crate) trait Taker {
     /// For how many values there is room.
     ghost room: { Self → ℕ };
@@ -86,6 +87,7 @@ pub(crate) struct NumberAlone {
 }
 
 impl Taker for NumberAlone {
+    // There is always room for all that a call hands over: its number and at most six values.
     ghost room = { λ s. 7 };
 
     ghost takes = { λ s vs t. t ≡ s };
@@ -113,6 +115,7 @@ impl Taker for NumberAlone {
 
 /// Appends the head of a request, and then each value's text with a comma behind it.
 impl<const N: usize> Taker for ArrayVec<u8, N> {
+    // A value's text has at most 66 bytes, and a comma follows it.
     ghost room = { λ s. (N - length s.items) / 67 };
 
     ghost takes = { λ s vs t. (t.items ≡ s.items ++ before_commas vs) × AreValues vs };

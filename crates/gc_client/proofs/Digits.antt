@@ -1,4 +1,4 @@
--- Ids of a window, as numbers.
+-- Ids and places of the requests that wait, as numbers: `next` is the client's next id, and `waiting` how many requests wait.
 use Rattle.std.proofs.Common.{◌≡◌, ℕ, ◌<◌, ◌≤◌, ◌↔◌, true, List, length, Some, Result, Ok, Err, refl, sym, subst, ap, ◌∙◌, arith}
 use Rattle.std.proofs.lemmas.Bool.{lt-ltb, ltb-true}
 use Rattle.gc_lines.specs.declared.fault.LineFault.{LineFault}
@@ -20,11 +20,11 @@ sending next waiting digit room =
 pub settling : (next waiting : ℕ) → waiting ≤ 7 → SettlingKeepsIds next waiting
 settling next waiting few count k below = omega arith
 
--- the id at place k has place k
+-- from a place to its id, and from that id to its place, leads back to the same place k
 place_back : (next waiting k : ℕ) → next < 8 → waiting ≤ 7 → k < waiting → place next waiting (id_at next waiting k) ≡ k
 place_back next waiting k digit few below = omega arith
 
--- the id at the place of an id is that id
+-- from an id to its place, and from that place to its id, leads back to the same id
 id_back : (next waiting id : ℕ) → next < 8 → waiting ≤ 7 → id < 8 → id_at next waiting (place next waiting id) ≡ id
 id_back next waiting id digit few below = omega arith
 
@@ -32,7 +32,7 @@ id_back next waiting id digit few below = omega arith
 pub placed : (c : ById) (k : ℕ) → IsWindow c → k < length c.waiting → place_in c (id_of c k) ≡ k
 placed c k w below = place_back c.next (length c.waiting) k w.digit w.few below
 
--- two ids that are one have one place
+-- two requests that wait with the same id are one request: their places j and k are equal
 pub differ : (c : ById) (j k : ℕ) → IsWindow c → j < length c.waiting → k < length c.waiting → id_of c j ≡ id_of c k → j ≡ k
 differ c j k w below_j below_k same = sym (placed c j w below_j) ∙ ap (place_in c) same ∙ placed c k w below_k
 
@@ -51,6 +51,7 @@ heard_by_grammar line =
       only = λ id e. read (reply_at line) refl id e;
     }
   where
+    -- where what the line reads as has an id, it is a reply with that id
     read : (r : Result ReplyFields LineFault) → reply_at line ≡ r → (id : ℕ) → id_in r ≡ Some id → (reply : ReplyFields) × IsReply line reply × (reply.id ≡ Some id)
     read (Ok reply) reads id e = (reply, reply_found line reply reads, e)
     read (Err fault) reads id e = cc

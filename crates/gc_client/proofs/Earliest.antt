@@ -1,4 +1,4 @@
--- The earliest deadline, one request further.
+-- For the loop that looks for the earliest deadline: what one more request adds to the deadlines seen so far.
 use Rattle.std.proofs.Common.{◌≡◌, ℕ, suc, ◌+◌, true, false, not, List, [], ◌∷◌, ◌++◌, map, filter, take, Some, refl, ap, ◌∙◌, arith}
 use Rattle.std.specs.Prelude.{slice_get}
 use Rattle.std.proofs.lemmas.List.{map-append, append-nil}
@@ -7,7 +7,7 @@ use Rattle.gc_client.specs.declared.pending.Pending.{Pending}
 use Rattle.gc_client.specs.Rule.{deadlines}
 use Rattle.gc_client.proofs.Lists.{take_turn}
 
--- A turn of the loop: the one at place k is looked at.
+-- One turn of the loop: it looks at the request p, at place k of the requests ws that wait.
 module _ (k : ℕ) (ws : List Pending) (p : Pending) (here : slice_get ws k ≡ Some p) where
   -- the deadlines of the first k + 1 requests are those of the first k, and that of the one at place k if it has one
   next_deadlines : deadlines (take (k + 1) ws) ≡ deadlines (take k ws) ++ deadlines (p ∷ [])
@@ -20,11 +20,13 @@ module _ (k : ℕ) (ws : List Pending) (p : Pending) (here : slice_get ws k ≡ 
   -- where the request at place k isn't given up, the deadlines of the first k + 1 have its deadline at their end
   pub one_more_deadline : not p.given_up ≡ true → deadlines (take (k + 1) ws) ≡ deadlines (take k ws) ++ p.deadline ∷ []
   one_more_deadline b = next_deadlines ∙ ap (λ ds. deadlines (take k ws) ++ ds) (one b) where
+    -- a request that isn't given up has one deadline in the list, its own
     one : not p.given_up ≡ true → deadlines (p ∷ []) ≡ p.deadline ∷ []
     one b = rw b refl
 
   -- where the request at place k is given up, it adds no deadline
   pub same_deadlines : not p.given_up ≡ false → deadlines (take (k + 1) ws) ≡ deadlines (take k ws)
   same_deadlines b = next_deadlines ∙ ap (λ ds. deadlines (take k ws) ++ ds) (none b) ∙ append-nil _ where
+    -- a request that is given up has no deadline in the list
     none : not p.given_up ≡ false → deadlines (p ∷ []) ≡ []
     none b = rw b refl

@@ -15,7 +15,8 @@ use Rattle.gc_client.specs.Settlements.{IsAnsweredBy, IsSettlement}
 abbrev met_when : Pending → List ℕ → Bool → Rule.Settlement
 met_when p line given_up = record { target = p.target; call = p.call; outcome = if given_up then Rule.Late else Rule.Answered line }
 
--- a request that wasn't given up, with an outcome that answers it by the line, is the rule's settlement by that line
+-- where a request wasn't given up, and an outcome is the answer that this reply line gives it, the request with that outcome is
+-- the settlement that the rule makes of it by that line
 pub answered_is : (p : Pending) (line : List ℕ) (fields : ReplyFields) (o : Outcome) → p.given_up ≡ false → reply_at line ≡ Ok fields
     → IsAnsweredBy p.call fields line o → IsSettlement (record { target = p.target; call = p.call; outcome = o }) (met p line)
 answered_is p line fields (Answered reading copy) given_up reads (same, says) =
@@ -26,32 +27,34 @@ answered_is p line fields (Answered reading copy) given_up reads (same, says) =
 answered_is p line fields Late given_up reads is = absurd is
 answered_is p line fields Lost given_up reads is = absurd is
 
--- settling through place k loses the first k and meets the one at place k
+-- settling through place k settles the first k requests as lost, and the one at place k by the line
 pub settle_is : (k : ℕ) (line : List ℕ) (ws : List Pending) (p : Pending) (left : List Pending) → drop k ws ≡ p ∷ left → settle k line ws ≡ map lost (take k ws) ++ met p line ∷ []
 settle_is zero line [] p left e = cc
 settle_is (suc k) line [] p left e = cc
 settle_is zero line (w ∷ ws) p left e = let same : w ≡ p = cc in ap (λ x. met x line ∷ []) same
 settle_is (suc k) line (w ∷ ws) p left e = ap (λ rs. lost w ∷ rs) (settle_is k line ws p left e)
 
--- where a choice gives a place, its test holds and the place is the one that it names
+-- where `if b then Some q else None` is `Some k`, b is true and q is k
 chosen : (b : Bool) (q k : ℕ) → (if b then Some q else None) ≡ Some k → (b ≡ true) × (q ≡ k)
 chosen true q k e = (refl, cc)
 chosen false q k e = absurd (none_is_not_some e) where
+  -- `None` isn't `Some k`
   none_is_not_some : None ≡ Some k → ⊥
   none_is_not_some e = cc
 
--- a reply whose id has place k settles through place k
+-- a reply with the id of the request at place k settles the requests up to that one
 hears_at : (c : ById) (line : List ℕ) (id : Option ℕ) (k : ℕ) → place_heard c.next (length c.waiting) id ≡ Some k → hears c line id ≡ id_settled c line k true
 hears_at c line None k e = absurd (none_is_not_some e) where
+  -- `None` isn't `Some k`
   none_is_not_some : None ≡ Some k → ⊥
   none_is_not_some e = cc
 hears_at c line (Some id) k e = let at = chosen _ _ k e in ap₂ (λ q b. id_settled c line q b) at.1 at.0
 
--- a reply with these fields, to the request at place k, settles through place k
+-- a line that reads as a reply to the request at place k settles the requests up to that one
 pub settles : (c : ById) (line : List ℕ) (fields : ReplyFields) (k : ℕ) → reply_at line ≡ Ok fields → place_heard c.next (length c.waiting) fields.id ≡ Some k
     → hears c line (heard line) ≡ id_settled c line k true
 settles c line fields k reads fit = ap (λ r. hears c line (id_in r)) reads ∙ hears_at c line fields.id k fit
 
--- the requests left behind place k are no more than the width where all were
+-- where at most `width` requests wait, at most as many are left behind place k
 pub fewer : {A : Type 0} (width k : ℕ) (ws : List A) (p : A) (left : List A) → drop k ws ≡ p ∷ left → length ws ≤ width → length left ≤ width
 fewer width k ws p left next few = let same = ap length next in omega (arith, same, length-drop k ws)

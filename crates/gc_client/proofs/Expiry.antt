@@ -1,4 +1,6 @@
--- A moment, one request further.
+-- For the loop that gives requests up at a moment. A request has *got the moment* once the loop has looked at it: it is given
+-- up where its deadline was reached. Here `ws` are the requests that waited at the start, and `qs` what the loop has made of
+-- them so far.
 use Rattle.std.proofs.Common.{◌≡◌, ℕ, zero, suc, ◌+◌, ◌<◌, ◌≤◌, Bool, true, false, ◌||◌, ◌&&◌, not, List, [], ◌∷◌, ◌++◌, map, filter, take, drop, Some, leb, refl, sym, ◌∙◌, ap, ap₂, subst, arith}
 use Rattle.std.specs.Prelude.{slice_get, nat_le}
 use Rattle.std.proofs.lemmas.Bool.{le-leb, lt-leb}
@@ -12,7 +14,7 @@ use Rattle.gc_client.proofs.Lists.{take_turn, drop_turn}
 abbrev pub partly : ℕ → ℕ → List Pending → List Pending
 partly now k ws = map (expired now) (take k ws) ++ drop k ws
 
--- the request at place k hasn't got the moment yet
+-- once the first k requests have got the moment, the one at place k is still the one that stood there at the start
 pub same_at : (now k : ℕ) (ws : List Pending) (p : Pending) → slice_get (partly now k ws) k ≡ Some p → slice_get ws k ≡ Some p
 same_at now zero ws p e = e
 same_at now (suc k) [] p e = e
@@ -21,6 +23,7 @@ same_at now (suc k) (w ∷ ws) p e = same_at now k ws p e
 -- a request that this moment gives up is the same request, marked as given up
 expired_is : (now : ℕ) (p : Pending) → is_expiring now p ≡ true → expired now p ≡ record p { given_up = true }
 expired_is now p e = ap (λ b. record p { given_up = b }) (flag (nat_le p.deadline now) p.given_up e) where
+  -- of a request that is due and isn't given up yet, the new mark is true
   flag : (due given : Bool) → (due && not given) ≡ true → (given || due) ≡ true
   flag due true e = refl
   flag true false e = refl
@@ -29,6 +32,7 @@ expired_is now p e = ap (λ b. record p { given_up = b }) (flag (nat_le p.deadli
 -- a request that this moment doesn't give up stays as it is
 stays : (now : ℕ) (p : Pending) → is_expiring now p ≡ false → expired now p ≡ p
 stays now p e = ap (λ b. record p { given_up = b }) (flag (nat_le p.deadline now) p.given_up e) where
+  -- of a request that isn't due, or is given up already, the new mark is the old one
   flag : (due given : Bool) → (due && not given) ≡ false → (given || due) ≡ given
   flag due true e = refl
   flag true false e = e
@@ -54,7 +58,7 @@ next_expiring now k ws p e =
     ∙ ap (map (λ p. p.target)) (filter-append (is_expiring now) (take k ws) (p ∷ []))
     ∙ map-append (λ p. p.target) (filter (is_expiring now) (take k ws)) (filter (is_expiring now) (p ∷ []))
 
--- A turn of the loop: the one at place k is looked at.
+-- One turn of the loop: the first k have got the moment, and the loop looks at the request p at place k.
 module _ (now k : ℕ) (ws qs : List Pending) (p : Pending) (done : qs ≡ partly now k ws) (here : slice_get qs k ≡ Some p) where
   -- the request at place k of all that wait is p
   at_k : slice_get ws k ≡ Some p
@@ -64,14 +68,16 @@ module _ (now k : ℕ) (ws qs : List Pending) (p : Pending) (done : qs ≡ partl
   suc_k : suc k ≡ k + 1
   suc_k = omega arith
 
-  -- where the moment gives up the request at place k, marking it leaves what the first k + 1 having got the moment leaves
+  -- where the moment gives up the request at place k, and `qs'` are the requests with that one marked, they are the requests of
+  -- which the first k + 1 have got the moment
   pub due_done : (qs' : List Pending) → is_expiring now p ≡ true → qs' ≡ given_up_at k qs → qs' ≡ partly now (k + 1) ws
   due_done qs' b e =
       e ∙ ap (given_up_at k) done ∙ given_up_in now k ws p at_k
       ∙ ap (λ x. map (expired now) (take k ws) ++ x ∷ drop (suc k) ws) (sym (expired_is now p b))
       ∙ sym (next_partly now k ws p at_k) ∙ ap (λ m. partly now m ws) suc_k
 
-  -- where the moment doesn't give up the request at place k, the first k + 1 have got it without a change
+  -- where the moment doesn't give up the request at place k, the requests stay as they are, and the first k + 1 have got the
+  -- moment
   pub not_due_done : is_expiring now p ≡ false → qs ≡ partly now (k + 1) ws
   not_due_done b =
       done ∙ ap (λ l. map (expired now) (take k ws) ++ l) (drop_turn ws k p at_k)
@@ -83,17 +89,20 @@ module _ (now k : ℕ) (ws qs : List Pending) (p : Pending) (done : qs ≡ partl
   due_told targets told b =
       ap₂ (λ xs ys. xs ++ ys) told (sym (one b)) ∙ sym (next_expiring now k ws p at_k) ∙ ap (λ m. expiring now (take m ws)) suc_k
     where
+      -- where the moment gives up p, the list of the targets given up, for p alone, is p's target
       one : is_expiring now p ≡ true → expiring now (p ∷ []) ≡ p.target ∷ []
       one b = rw b refl
 
-  -- where the moment doesn't give up the request at place k, the list of targets stays
+  -- where the moment doesn't give up the request at place k, the list of targets stays as it is
   pub not_due_told : (targets : List ℕ) → targets ≡ expiring now (take k ws) → is_expiring now p ≡ false → targets ≡ expiring now (take (k + 1) ws)
   not_due_told targets told b =
       told ∙ sym (append_none _) ∙ ap (λ ys. expiring now (take k ws) ++ ys) (sym (none b)) ∙ sym (next_expiring now k ws p at_k) ∙ ap (λ m. expiring now (take m ws)) suc_k
     where
+      -- where the moment doesn't give up p, the list of the targets given up, for p alone, is empty
       none : is_expiring now p ≡ false → expiring now (p ∷ []) ≡ []
       none b = rw b refl
 
+      -- a list with the empty list behind it is that list
       append_none : (xs : List ℕ) → xs ++ [] ≡ xs
       append_none [] = refl
       append_none (x ∷ xs) = ap (λ ys. x ∷ ys) (append_none xs)
@@ -113,6 +122,7 @@ is_not_due now p early =
 -- a request that was given up before isn't given up again
 pub is_given_up : (now : ℕ) (p : Pending) → not p.given_up ≡ false → is_expiring now p ≡ false
 is_given_up now p given_up = rw given_up (flag (leb p.deadline now)) where
+  -- a test and false are false together
   flag : (b : Bool) → (b && false) ≡ false
   flag true = refl
   flag false = refl

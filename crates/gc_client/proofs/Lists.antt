@@ -1,8 +1,8 @@
--- Lists, one element further.
+-- Lists in loops: what is true of the first k elements, or of those from place k on, one element further.
 use Rattle.std.proofs.Common.{◌≡◌, ℕ, zero, suc, ◌+◌, List, [], ◌∷◌, ◌++◌, take, drop, Option, Some, None, sym, ◌∙◌, ap, arith}
 use Rattle.std.specs.Prelude.{slice_get, IsSome}
 
--- the first k + 1 are the first k, and the one at place k
+-- the first k + 1 elements are the first k, and the one at place k
 pub take_turn : {A : Type 0} (xs : List A) (k : ℕ) (x : A) → slice_get xs k ≡ Some x → take (suc k) xs ≡ take k xs ++ x ∷ []
 take_turn [] k x e = cc
 take_turn (y ∷ xs) zero x e = let same : y ≡ x = cc in ap (λ z. z ∷ []) same
@@ -14,14 +14,14 @@ drop_turn [] k x e = cc
 drop_turn (y ∷ xs) zero x e = let same : y ≡ x = cc in ap (λ z. z ∷ xs) same
 drop_turn (y ∷ xs) (suc k) x e = drop_turn xs k x e
 
--- the first of those from place k on stands at place k
+-- the first of the elements from place k on stands at place k
 pub head_of_drop : {A : Type 0} (xs : List A) (k : ℕ) (x : A) (rest : List A) → drop k xs ≡ x ∷ rest → slice_get xs k ≡ Some x
 head_of_drop [] zero x rest e = cc
 head_of_drop [] (suc k) x rest e = cc
 head_of_drop (y ∷ xs) zero x rest e = cc
 head_of_drop (y ∷ xs) (suc k) x rest e = head_of_drop xs k x rest e
 
--- once the one at place k is taken out of those from place k on, those from place k + 1 on are left
+-- where qs are the elements from place k on, and p is the first of them, the others are those from place k + 1 on
 pub left_turn : {A : Type 0} (ws : List A) (k : ℕ) (p : A) (qs qs' : List A) → qs ≡ drop k ws → qs ≡ p ∷ qs' → qs' ≡ drop (k + 1) ws
 left_turn ws k p qs qs' rest first =
     let here : slice_get ws k ≡ Some p = head_of_drop ws k p qs' (sym rest ∙ first) in
@@ -30,7 +30,7 @@ left_turn ws k p qs qs' rest first =
     let tails : qs' ≡ drop (suc k) ws = cc in
     tails ∙ ap (λ m. drop m ws) n
 
--- a value that is none isn't some
+-- an option that is `None` isn't `Some`
 pub none_there : {A : Type 0} (o : Option A) → o ≡ None → IsSome o → ⊥
 none_there None e is = cc
 none_there (Some x) e is = cc

@@ -24,6 +24,7 @@ set_some_is_given_up (q ∷ ps) (suc k) p e = ap (λ qs. q ∷ qs) (set_some_is_
 pub none_is_past : (ps : List Pending) (k : ℕ) → slice_get ps k ≡ None → length ps ≤ k
 none_is_past [] k e = omega arith
 none_is_past (p ∷ ps) zero e = absurd (some_is_not_none p e) where
+  -- `Some p` isn't `None`
   some_is_not_none : (p : Pending) → Some p ≡ None → ⊥
   some_is_not_none p e = cc
 none_is_past (p ∷ ps) (suc k) e = omega (arith, none_is_past ps k e)

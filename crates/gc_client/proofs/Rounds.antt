@@ -1,4 +1,5 @@
--- The requests that wait in places that go round.
+-- A window in a ring of N places: n requests wait, the oldest at place k, the next at place k + 1, and behind place N - 1 comes
+-- place 0.
 use Rattle.std.proofs.Common.{◌≡◌, ℕ, ◌+◌, ◌-◌, ◌%◌, ◌<◌, ◌≤◌, ◌⊎◌, List, [], ◌∷◌, ◌++◌, length, get_or, set, ap, ◌∙◌, ap₂, inl, inr, mod-eq_of_lt, arith, length-append, length-drop, length-set, length-take-le, get_or-drop, get_or-take}
 use native.Mathlib.Nat.{mod-eq-sub-mod, mod-add-mod}
 use Rattle.std.proofs.lemmas.List.{same_lists, drop_more, get_or_append_left, get_or-append_right}
@@ -6,7 +7,7 @@ use Rattle.std.proofs.lemmas.Bool.{cases_lt}
 use Rattle.std.proofs.lemmas.Grind.{common_steps}
 use Rattle.gc_client.specs.Places.{waiting_in}
 
--- a place below 2 N wraps once at most
+-- a number below 2 N, brought into the ring by the remainder at N, is itself or N less
 mod_wraps_once : (N j : ℕ) → j < N + N → ((j < N) × (j % N ≡ j)) ⊎ ((N ≤ j) × (j % N ≡ j - N))
 mod_wraps_once N j below = elim (cases_lt j N) [
   | inl low ↦ inl (low, mod-eq_of_lt low)
@@ -18,7 +19,7 @@ module _ {A : Type 0} (N k n : ℕ) (xs : List A) (start : k < N) (fits : n ≤ 
   pub length-waiting : length (waiting_in k n xs) ≡ n
   length-waiting = length-take-le n _ (simp (length-append, length-drop) (omega (arith, length-take-le k xs (omega arith))))
 
-  -- the one at place i from the oldest stands in place (k + i) % N
+  -- the request that is the i-th from the oldest stands in place (k + i) % N
   pub get_or-waiting : (i : ℕ) (d : A) → i < n → get_or (waiting_in k n xs) i d ≡ get_or xs ((k + i) % N) d
   get_or-waiting i d in_range =
       let length_tail = length-drop k xs in
@@ -29,7 +30,7 @@ module _ {A : Type 0} (N k n : ℕ) (xs : List A) (start : k < N) (fits : n ≤ 
 
 -- A second block, because these use the lemmas above at other windows.
 module _ {A : Type 0} (N k n : ℕ) (xs : List A) (start : k < N) (fits : n ≤ N) (length_xs : length xs ≡ N) where
-  -- a write behind the youngest appends it
+  -- writing x in the place behind the youngest request appends x to those that wait
   pub waiting_after_push : (x : A) → n < N → waiting_in k (n + 1) (set xs ((k + n) % N) x) ≡ waiting_in k n xs ++ x ∷ []
   waiting_after_push x has_room =
       let ys = set xs ((k + n) % N) x in
@@ -45,7 +46,7 @@ module _ {A : Type 0} (N k n : ℕ) (xs : List A) (start : k < N) (fits : n ≤ 
         get_or-waiting N k (n + 1) ys start (omega arith) length_ys i d,
       ))
 
-  -- the waiting are the oldest, and those from the next place on
+  -- the requests that wait are the oldest, and then those of the window that begins one place further and has one fewer
   pub waiting_before_take : (d : A) → 0 < n → waiting_in k n xs ≡ get_or xs k d ∷ waiting_in ((k + 1) % N) (n - 1) xs
   waiting_before_take d nonempty =
       let next_in_range : (k + 1) % N < N = grind (arith, mod_wraps_once N (k + 1) (omega arith)) in
@@ -61,7 +62,7 @@ module _ {A : Type 0} (N k n : ℕ) (xs : List A) (start : k < N) (fits : n ≤ 
         get_or-waiting N _ (n - 1) xs next_in_range (omega arith) length_xs i e,
       )))
 
-  -- a write in the place of one that waits changes that one
+  -- writing x in the place of the i-th request replaces that request by x, and no other
   pub waiting_after_set : (i : ℕ) (x : A) → i < n → waiting_in k n (set xs ((k + i) % N) x) ≡ set (waiting_in k n xs) i x
   waiting_after_set i x in_range =
       let ys = set xs ((k + i) % N) x in

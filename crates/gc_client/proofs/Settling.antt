@@ -1,4 +1,4 @@
--- One more settlement.
+-- For the loop that settles requests as lost: what one more settlement adds to those made so far.
 use Rattle.std.proofs.Common.{◌≡◌, ℕ, zero, suc, ◌+◌, ◌<◌, List, [], ◌∷◌, ◌++◌, length, map, take, drop, set, All, Some, refl, sym, subst, ◌∙◌, ap, ap₂, arith}
 use Rattle.std.specs.Prelude.{slice_get}
 use Rattle.std.proofs.lemmas.List.{map-append}
@@ -15,7 +15,7 @@ well_read_one : (s : Settlement) → IsWellRead s.call s.outcome → All (λ s. 
 well_read_one s read zero d lt = read
 well_read_one s read (suc k) d lt = absurd (omega arith)
 
--- settlements that are the rule's stay so with one more that is
+-- where settlements are the rule's, and one more is the rule's next one, all together are the rule's
 one_more : (ss : List Settlement) (rs : List Rule.Settlement) (s : Settlement) (r : Rule.Settlement) → AreSettlements ss rs → IsSettlement s r → AreSettlements (ss ++ s ∷ []) (rs ++ r ∷ [])
 one_more ss rs s r are is =
     record {
@@ -36,7 +36,7 @@ one_written ss k rs s r lt are is =
     let n : suc k ≡ k + 1 = omega arith in
     subst (λ xs. AreSettlements xs (rs ++ r ∷ [])) (sym (take_set ss k s lt) ∙ ap (λ m. take m (set ss k s)) n) (one_more (take k ss) rs s r are is)
 
--- the first k + 1 requests as lost are the first k as lost, and the one taken out then
+-- the first k + 1 requests, settled as lost, are the first k, settled as lost, and the request p, which is taken out next
 pub next_lost : (ws : List Pending) (k : ℕ) (p : Pending) (qs qs' : List Pending) → qs ≡ drop k ws → qs ≡ p ∷ qs' → map lost (take (k + 1) ws) ≡ map lost (take k ws) ++ lost p ∷ []
 next_lost ws k p qs qs' rest first =
     let here : slice_get ws k ≡ Some p = head_of_drop ws k p qs' (sym rest ∙ first) in

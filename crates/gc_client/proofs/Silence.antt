@@ -8,13 +8,15 @@ use Rattle.gc_client.proofs.Digits.{heard_by_grammar}
 -- a line is the client's exactly where it is a reply with an id
 pub ours_by_grammar : (line : List ℕ) → (is_ours line ≡ true) ↔ IsReplyWithId line
 ours_by_grammar line = (λ b. there (heard line) refl b, λ is. ap is_some ((heard_by_grammar line).its is.reply is.is_reply ∙ is.has_id)) where
+  -- a line in which an id is heard is a reply with an id
   there : (h : Option ℕ) → heard line ≡ h → is_some h ≡ true → IsReplyWithId line
   there None e b = cc
   there (Some id) e b =
       let found = (heard_by_grammar line).only id e in
       record { reply = found.0; id = id; is_reply = found.1; has_id = found.2 }
 
--- where lines and those kept of them do the same to every client, so do they with one more line in front, kept if it is heard
+-- Let two lists of lines do the same to every client. Then they still do with one more line in front: before the first list
+-- always, before the second only if an id is heard in the line.
 one_more_line : (c : ById) (line : List ℕ) (lines kept : List (List ℕ)) (h : Option ℕ) → heard line ≡ h → ((d : ById) → hears_all d lines ≡ hears_all d kept)
     → hears_all c (line ∷ lines) ≡ hears_all c (if is_some h then line ∷ kept else kept)
 one_more_line c line lines kept None e rest = ap (λ o. first (hears c line o).settlements (hears_all (hears c line o).client lines)) e ∙ rest c

@@ -1,5 +1,6 @@
--- A beginning, this project's own: null procedures with the ids of a word, one after the other. By ids alone it leaves nothing from before
--- under way; no clock has a part in it. The line's part is in `gc_field`.
+-- A beginning, this project's own: null procedures, one after the other, whose ids are those of a fixed list, the word. It is
+-- meant to leave no line from before under way, once all are answered. It rests on ids alone, and on no clock. When it does
+-- so, and what the line has to do for it, is said in `gc_field`.
 use Rattle.std.specs.Prelude.{◌≡◌, ◌⊎◌, ℕ, Bool, true, false, List, [], ◌∷◌, Option, Some, None, nat_eq}
 use Rattle.gc_catalogue.specs.declared.call.Call.TheVariants.{NullProc}
 use Rattle.gc_catalogue.specs.Texts.{request_line}
@@ -9,13 +10,14 @@ use Rattle.gc_catalogue.specs.Texts.{request_line}
 abbrev pub the_word : List ℕ
 the_word = 6 ∷ 5 ∷ 4 ∷ 3 ∷ 2 ∷ 1 ∷ 0 ∷ 7 ∷ []
 
--- these ids are a subsequence of those: they stand among them in their order, with any others between
+-- the first ids are a subsequence of the second ones: they stand among these in their order, with any others between
 abbrev pub IsSubsequence : List ℕ → List ℕ → Type 0
 IsSubsequence [] ids = Unit {0}
 IsSubsequence (w ∷ word) [] = ⊥
 IsSubsequence (w ∷ word) (i ∷ ids) = ((w ≡ i) × IsSubsequence word ids) ⊎ IsSubsequence (w ∷ word) ids
 
--- A beginning, as what isn't answered of its word: at first all of it; and where nothing is left, it has begun.
+-- Below, a beginning is the list of the ids of the word that aren't answered yet: the whole word at first, and empty once it
+-- has begun.
 
 -- the line of the null procedure that is asked for: that of the first id that isn't answered, the same whenever it goes out. None where all
 -- are answered
@@ -23,19 +25,21 @@ abbrev pub asks : List ℕ → Option (List ℕ)
 asks [] = None
 asks (asked ∷ rest) = Some (request_line (Some asked) NullProc)
 
--- whether a line that is heard with this id, or with none, answers the null procedure that is asked for: a reply with that one's id does,
--- whatever its codes and parameters
+-- whether a line that is heard with this id, or with none, answers the null procedure that is asked for: a reply with the id of
+-- that null procedure does, whatever its codes and parameters
 abbrev pub is_answered : List ℕ → Option ℕ → Bool
 is_answered [] id = false
 is_answered (asked ∷ rest) None = false
 is_answered (asked ∷ rest) (Some id) = nat_eq id asked
 
--- of the id that was asked for and those behind it, the ones that aren't answered yet: where it was answered (true) those behind it, else all
+-- the ids that aren't answered yet, where `asked` was asked for and `rest` comes after it: `rest` alone if it was answered
+-- (true), else both
 abbrev pub left_by_one : Bool → ℕ → List ℕ → List ℕ
 left_by_one true asked rest = rest
 left_by_one false asked rest = asked ∷ rest
 
--- what isn't answered behind a line that is heard with this id, or with none: a line that doesn't answer changes nothing
+-- the ids that aren't answered yet after a line that is heard with this id, or with none: a line that doesn't answer changes
+-- nothing
 abbrev pub left_by : List ℕ → Option ℕ → List ℕ
 left_by [] id = []
 left_by (asked ∷ rest) id = left_by_one (is_answered (asked ∷ rest) id) asked rest

@@ -35,23 +35,23 @@ pub record Course : Type 0 where
 abbrev pub begun : Course
 begun = record { sent = []; settlements = []; client = fresh }
 
--- the course behind a send: where it was refused nothing has changed
+-- the course after a send: where it was refused nothing has changed
 abbrev pub sent_on : Course → ℕ → Call → Option (Sending ById) → Course
 sent_on x target call None = x
 sent_on x target call (Some s) = record { sent = x.sent ++ record { target = target; call = call } ∷ []; settlements = x.settlements; client = s.client }
 
--- the course behind these settlements
+-- the course after these settlements
 abbrev pub settled_on : Course → Settled ById → Course
 settled_on x s = record { sent = x.sent; settlements = x.settlements ++ s.settlements; client = s.client }
 
--- the course behind one step, by the client's rule with a window of this width
+-- the course after one step, by the client's rule with a window of this width
 abbrev pub goes : ℕ → Course → Step → Course
 goes width x (Send target call deadline) = sent_on x target call (sends width x.client target call deadline)
 goes width x (Hear line) = settled_on x (hears x.client line (heard line))
 goes width x (Expire now) = record { sent = x.sent; settlements = x.settlements; client = expires x.client now }
 goes width x Restart = settled_on x (restarts x.client)
 
--- the course behind all steps, in order
+-- the course after all steps, in order
 abbrev pub course : ℕ → Course → List Step → Course
 course width x [] = x
 course width x (step ∷ steps) = course width (goes width x step) steps

@@ -9,7 +9,8 @@ use Rattle.gc_catalogue.specs.declared.call.Call.{Call}
 use Rattle.gc_client.specs.declared.window.TheConstants.{WINDOW, IDS}
 use Rattle.gc_client.specs.declared.pending.Pending.{Pending}
 
--- how a request ended: by a reply line, which is its bytes; by one that came after it was given up; or without one
+-- how a request ended: by a reply line, which is its bytes; by a reply line that came after the request was given up; or without
+-- a reply
 pub data Outcome : Type 0 where
   Answered : (line : List ℕ) → Outcome
   Late : Outcome
@@ -31,12 +32,12 @@ pub record Windowed : Type 0 where
   pub width : ℕ
   pub ids : ById
 
--- a send that was not refused: the id that its request line was written with, and the client behind it
+-- a send that was not refused: the id that its request line was written with, and the client after it
 pub record Sending (Client : Type 0) : Type 0 where
   pub id : ℕ
   pub client : Client
 
--- what was settled, and the client behind it
+-- what was settled, and the client after it
 pub record Settled (Client : Type 0) : Type 0 where
   pub settlements : List Settlement
   pub client : Client
@@ -124,7 +125,8 @@ heard line = id_in (reply_at line)
 
 -- The rule.
 
--- what a send gives: none, which is a refusal, where the window is full (true), and else the request's id and the client behind the send
+-- what a send gives: none, which is a refusal, where the window is full (true), and else the request's id and the client after
+-- the send
 abbrev pub id_send : ById → ℕ → Call → ℕ → Bool → Option (Sending ById)
 id_send c target call deadline true = None
 id_send c target call deadline false =
@@ -133,17 +135,18 @@ id_send c target call deadline false =
       client = record { next = (c.next + 1) % IDS; waiting = c.waiting ++ pending_of target call deadline ∷ [] };
     })
 
--- what a send gives: none, which is a refusal, where as many requests wait as the window is wide, and else as `id_send` has it
+-- what a send gives: none, which is a refusal, where as many requests wait as the window is wide, and else the request's id and
+-- the client after the send
 abbrev pub sends : ℕ → ById → ℕ → Call → ℕ → Option (Sending ById)
 sends width c target call deadline = id_send c target call deadline (nat_eq (length c.waiting) width)
 
--- what a reply does whose id has place k: where a request waits there (true) that one and those before it are settled and wait no more, and
--- else nothing changes
+-- what a reply line does, by the place k of its id. Where a request waits at that place (true), it and those before it are
+-- settled and wait no more. Where none does (false), nothing changes
 abbrev pub id_settled : ById → List ℕ → ℕ → Bool → Settled ById
 id_settled c line k false = record { settlements = []; client = c }
 id_settled c line k true = record { settlements = settle k line c.waiting; client = record { next = c.next; waiting = drop (k + 1) c.waiting } }
 
--- what a line with this id settles, and the client behind it; a line without an id settles nothing
+-- what a line with this id settles, and the client after it; a line without an id settles nothing
 abbrev pub hears : ById → List ℕ → Option ℕ → Settled ById
 hears c line None = record { settlements = []; client = c }
 hears c line (Some id) = id_settled c line (place_in c id) (nat_lt (place_in c id) (length c.waiting))

@@ -31,7 +31,7 @@ pub struct Beginning {
     answered: usize,
 }
 
-// A beginning is seen as the ids of the word that aren't answered yet.
+// In contracts a beginning is the list of the ids whose null procedures aren't answered yet, in order.
 impl Model for Beginning {
     ghost use Rattle.std.specs.Prelude.{◌≤◌, ℕ, List, drop};
     ghost use Rattle.gc_client.specs.Beginning.{the_word};
@@ -51,7 +51,7 @@ impl Beginning {
         Beginning { answered: 0 }
     }
 
-    /// Goes on where another beginning was, of whose null procedures the first `answered` are answered.
+    /// Resumes a beginning whose first `answered` null procedures, of eight, are answered.
     pub fn resume(answered: usize) -> Beginning
         requires { answered ≤ 8 }
         ensures { result ≡ drop answered the_word }

@@ -64,7 +64,7 @@ impl Error for WindowFull {}
 ///    its CR LF, to `on_line`. So a reply that came past its deadline is late. Go on at 1.
 /// 4. Where the connection fails, close it, keep the client, and go on over a new one: ids go on. Only where seven wait that
 ///    are all given up, discard what comes until the line is quiet, `restart`, and send a null procedure alone until it is
-///    answered: ids begin at 0 again (`docs/CLIENT.md`). By that call the caller vouches that no line is under way.
+///    answered: ids begin at 0 again (`docs/CLIENT.md`). By calling `restart` the caller vouches that no line is under way.
 ///
 /// What to do at each outcome:
 ///
@@ -76,6 +76,7 @@ impl Error for WindowFull {}
 pub struct Client<W: Window> {
     window: W,
     width: u8,
+    // The id of the next request.
     next: u8,
 }
 
@@ -403,12 +404,13 @@ fn place_of(next: u8, waiting: usize, id: Option<u8>) -> Option<usize>
     ensures within { IfSome result (λ k. k < waiting) }
 {
     let ids = usize::from(IDS);
+    // The id of the oldest request that waits; its place is 0, and ids go up by one, modulo 8, from place to place.
     let oldest = (usize::from(next) + ids - waiting) % ids;
     let k = (usize::from(id?) + ids - oldest) % ids;
     if k < waiting { Some(k) } else { None }
 }
 
-// The earlier of the earliest deadline so far, if there is one, and this one.
+// The earlier of this deadline and `earliest`, the earliest one so far, if there is one.
 #[inline]
 fn earlier(earliest: Option<u64>, deadline: u64) -> u64
     ensures { (ds : List ℕ) → IsEarliest ds earliest → IsEarliest (ds ++ deadline ∷ []) (Some result) }

@@ -1,5 +1,6 @@
 //! How requests end: settlements are written into the places of a list that is handed in, and no line is copied twice.
-//! An aggregate is zeroed at the entry of the function that holds it, so what is large and seldom has a function of its own.
+//! The compiler zeroes a large value at the entry of the function that holds it. So each large value that is seldom needed is
+//! made in a function of its own.
 
 ghost use Rattle.std.specs.Prelude.{◌≡◌, ◌+◌, ◌<◌, ◌≤◌, length, map, take, drop, Ok};
 ghost use Rattle.arrayvec.specs.ArrayVec.{array_vec_len};
@@ -16,7 +17,7 @@ use arrayvec::ArrayVec;
 use gc_catalogue::{Call, Reading, decode_answer, decode_answer_into};
 use gc_lines::{Line, Reply, append};
 
-/// Brings a list to `count` settlements, whatever they say.
+/// Makes a list `count` settlements long. What they say doesn't matter: the caller writes over them.
 #[inline]
 pub(crate) fn make_places(settled: &mut ArrayVec<Settlement, WINDOW>, count: usize)
     requires { count ≤ WINDOW }
@@ -28,8 +29,8 @@ pub(crate) fn make_places(settled: &mut ArrayVec<Settlement, WINDOW>, count: usi
     }
 }
 
-// Appends a settlement, whatever it says: it is an answer, so that another answer can be written over its parts. The function
-// has a frame of its own, because a settlement is large.
+// Appends a settlement that the caller writes over. It is an answer, so that the next answer can be written over its parts.
+// The function has a frame of its own, because a settlement is large.
 #[inline(never)]
 fn push_place(settled: &mut ArrayVec<Settlement, WINDOW>)
     requires { array_vec_len settled.old < WINDOW }

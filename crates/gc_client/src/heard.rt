@@ -8,7 +8,8 @@ use gc_lines::LineFault;
 /// What a client made of a line.
 #[derive(Debug, PartialEq, Eq, Drop)]
 pub enum Heard {
-    /// The line is the reply to a request that waits: the end of each request before it, and of that one, in order.
+    /// The line is the reply to a request that waits. The list holds the settlement of each request that was sent before
+    /// that request, and then its own, in the order of sending.
     Settled(ArrayVec<Settlement, WINDOW>),
     /// The line is a reply, and no request waits for it: it has no id, or one that nothing waits with.
     Stray,
@@ -16,11 +17,11 @@ pub enum Heard {
     Unread(LineFault),
 }
 
-/// What a client made of a line, where what it settled stands in the list that was handed in.
+/// What a client made of a line, without the settlements: those stand in the list that was handed in.
 #[derive(Clone, Copy, Debug, PartialEq, Eq)]
 pub enum Hearing {
-    /// The line is the reply to a request that waits, and the list holds the end of each request before it, and of that
-    /// one, in order.
+    /// The line is the reply to a request that waits. The list that was handed in holds the settlement of each request that was
+    /// sent before that request, and then its own, in the order of sending.
     Settled,
     /// The line is a reply, and no request waits for it: it has no id, or one that nothing waits with.
     Stray,

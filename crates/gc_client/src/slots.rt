@@ -15,7 +15,9 @@ const PLACES: usize = IDS as usize;
 #[derive(Drop)]
 pub struct Slots {
     places: [Pending; PLACES],
+    // The place of the oldest request.
     oldest: usize,
+    // How many requests wait: the oldest, and those at the places behind it, going round.
     len: usize,
 }
 
@@ -70,10 +72,12 @@ impl Window for Slots {
         self.len
     }
 
+    // Request k stands k places behind the oldest, going round.
     fn get(&self, k: usize) -> Pending {
         self.places[(self.oldest + k) % PLACES]
     }
 
+    // The request goes to the place behind the youngest, going round.
     fn push(&mut self, p: Pending) {
         self.places[(self.oldest + self.len) % PLACES] = p;
         self.len += 1;

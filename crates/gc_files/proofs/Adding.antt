@@ -1,4 +1,6 @@
--- How calls of a file add up.
+-- How calls of a file add up. The life of a file is what it held at first, and the steps (calls) since then. To mend a file is
+-- to cut off what stands behind its last line feed, and to sync that. An opening mends a file, and writes the head where it has
+-- no whole row.
 use Rattle.std.proofs.Common.{◌≡◌, inl, inr, ℕ, ◌≤◌, ◌<◌, ◌==◌, true, false, List, [], ◌∷◌, ◌++◌, length, take, refl, sym, ◌∙◌, ap, subst, arith, append_assoc, Bool, if◌then◌else◌, Option, Some, None}
 use Rattle.std.proofs.lemmas.Bool.{cases_Bool, eqb-true, eq-eqb}
 use Rattle.std.proofs.lemmas.List.{append-nil}
@@ -9,15 +11,15 @@ use Rattle.gc_files.specs.Files.{Step, Append, Cut, Sync, Life, has_sync, conten
 use Rattle.gc_files.specs.Runs.{synced}
 use Rattle.gc_files.specs.Rows.{whole, is_none, mended, cuts_none, appended, Ran, IsFront, Opens, OpensInPart, PutsAll}
 
--- a life with steps behind it and more behind these has both behind it
+-- adding the steps `xs` to a life, and then `ys`, is adding `xs ++ ys`
 pub later_two : (xs ys : List Step) (life : Life) → later_by ys (later_by xs life) ≡ later_by (xs ++ ys) life
 later_two xs ys life = ap (λ (steps : List Step). record { start = life.start; steps = steps }) (append_assoc life.steps xs ys)
 
--- a life is the same with no steps behind it
+-- adding no steps leaves a life as it is
 pub later_none : (life : Life) → life ≡ later_by [] life
 later_none life = ap (λ (steps : List Step). record { start = life.start; steps = steps }) (sym (append-nil life.steps))
 
--- steps behind a file's life, and more behind these, are both behind it
+-- where the steps `xs` were added to a file's life, and then `ys`, the steps `xs ++ ys` were added to it
 pub adds_two : (old mid new : Option Life) (xs ys : List Step) → Adds old mid xs → Adds mid new ys → Adds old new (xs ++ ys)
 adds_two old mid new xs ys first second life is = second (later_by xs life) (first life is) ∙ ap (λ (l : Life). Some l) (later_two xs ys life)
 
@@ -28,7 +30,7 @@ cuts_two (Append bytes ∷ xs) ys one two = cuts_two xs ys one two
 cuts_two (Sync ∷ xs) ys one two = cuts_two xs ys one two
 cuts_two (Cut size ∷ xs) ys one two = let wrong : false ≡ true = one in cc
 
--- steps, and others behind them, append what the first append, and behind that what the others do
+-- the steps `xs ++ ys` append what `xs` append, and behind that what `ys` append
 pub appended_two : (xs ys : List Step) → appended (xs ++ ys) ≡ appended xs ++ appended ys
 appended_two [] ys = refl
 appended_two (Append bytes ∷ xs) ys = ap (λ (l : List ℕ). bytes ++ l) (appended_two xs ys) ∙ sym (append_assoc bytes (appended xs) (appended ys))
@@ -61,10 +63,11 @@ is_whole held end len more within is ends = elim (cases_Bool (length (whole held
   | inr differs ↦ absurd (wrong (length (whole held)) (length held) (omega (arith, more, within, is, ends)) differs)
 ]
   where
+    -- equal numbers don't test as unequal
     wrong : (a b : ℕ) → a ≡ b → (a == b) ≡ false → ⊥
     wrong a b same differs = let both : true ≡ false = sym (eq-eqb a b same) ∙ differs in cc
 
--- a cut behind the whole rows, and a sync behind it, mend a file
+-- a cut behind the whole rows, and a sync after it, mend a file
 pub mend_all : (old mid new : Option Life) (known : Life) (end len : ℕ) → end < len → len ≡ length (content known) → end ≡ length (whole (content known))
     → Adds old mid (Cut end ∷ []) → Adds mid new (Sync ∷ []) → Adds old new (mended (content known))
 mend_all old mid new known end len less is ends cut sync =
@@ -93,7 +96,7 @@ opens_whole head old new end more ends adds life is = (
   },
 )
 
--- where a file was mended, and then got these bytes, that is what `Ran` says
+-- a file that was mended, and to which these bytes were then appended, has added to its life such steps as `Ran` asks for
 pub ran_more : (old mid new : Option Life) (bytes : List ℕ) → ((known : Life) → old ≡ Some known → Adds old mid (mended (content known)))
     → PutsAll mid new bytes → (life : Life) → old ≡ Some life → (steps : List Step) × (new ≡ Some (later_by steps life)) × Ran (content life) steps bytes
 ran_more old mid new bytes adds puts life is =
@@ -110,13 +113,14 @@ opens_head head old mid new end none ends adds puts life is =
     let ran = ran_more old mid new head adds puts life is in
     (ran.0, ran.1, subst (λ (bytes : List ℕ). Ran (content life) ran.0 bytes) (sym (start_at head (whole (content life)) (omega (arith, none, ends life is)))) ran.2)
 
--- an opening that mended the file in part did a part of its steps
+-- a file that was mended, in part or whole, was opened as far as the opening came (`OpensInPart`)
 pub opens_part : (head : List ℕ) (old new : Option Life) → ((known : Life) → old ≡ Some known → (count : ℕ) × Adds old new (take count (mended (content known)))) → OpensInPart head old new
 opens_part head old new part life is =
     let p = part life is in
     (take p.0 (mended (content life)), p.1 life is, inl (record { count = p.0; is = refl }))
 
--- an opening that mended the file and appended a front of the head did a part of its steps
+-- a file without a whole row that was mended, and to which a front of the head was appended, was opened as far as the opening
+-- came (`OpensInPart`)
 pub opens_head_part : (head : List ℕ) (old mid new : Option Life) (end : ℕ) → end ≤ 0
     → ((life : Life) → old ≡ Some life → end ≡ length (whole (content life))) → ((known : Life) → old ≡ Some known → Adds old mid (mended (content known)))
     → (front : List ℕ) × IsFront front head × PutsAll mid new front → OpensInPart head old new
@@ -140,7 +144,7 @@ content_same (Some life) new adds =
 pub appended_more : (steps : List Step) (bytes : List ℕ) → appended (steps ++ Append bytes ∷ []) ≡ appended steps ++ bytes
 appended_more steps bytes = appended_two steps (Append bytes ∷ []) ∙ ap (λ (xs : List ℕ). appended steps ++ xs) (append-nil bytes)
 
--- one more sync appends none
+-- one more sync appends nothing
 pub appended_sync : (steps : List Step) → appended (steps ++ Sync ∷ []) ≡ appended steps
 appended_sync steps = appended_two steps (Sync ∷ []) ∙ append-nil (appended steps)
 
@@ -151,7 +155,7 @@ has_last (Append bytes ∷ steps) = has_last steps
 has_last (Cut size ∷ steps) = has_last steps
 has_last (Sync ∷ steps) = refl
 
--- all that was appended stands before a sync at the end
+-- where the last step is a sync, all that was appended was synced
 pub synced_all : (steps : List Step) → synced (steps ++ Sync ∷ []) ≡ appended steps
 synced_all [] = refl
 synced_all (Append bytes ∷ steps) = ap (λ (b : Bool). if b then bytes ++ synced (steps ++ Sync ∷ []) else []) (has_last steps) ∙ ap (λ (xs : List ℕ). bytes ++ xs) (synced_all steps)

@@ -1,4 +1,6 @@
--- Over failed syncs a table stays, where a copy takes the file's place before a run goes on.
+-- Over failed syncs a table stays, where a copy takes the file's place before a run goes on. A file has two sides: what a read
+-- returns, and what is on the disk. `Lasts` says of a side that whatever a crash leaves of it has the rows of some runs behind
+-- the table from before them.
 use Rattle.std.proofs.Common.{◌≡◌, inl, inr, ℕ, Bool, true, false, List, [], ◌∷◌, ◌++◌, refl, sym, ◌∙◌, ap, subst, append_assoc, if◌then◌else◌}
 use Rattle.std.proofs.lemmas.List.{append-nil}
 use Rattle.gc_files.specs.Files.{Life, content, later_by}
@@ -9,7 +11,8 @@ use Rattle.gc_files.proofs.Whole.{whole_front}
 use Rattle.gc_files.proofs.Moments.{may_stay}
 use Rattle.gc_files.proofs.Lasting.{Lasts, one_more}
 
--- both sides have the rows, and are one where the file isn't in doubt
+-- both sides of a file have the rows of these runs behind the table `before`, and the sides are the same where the file isn't
+-- in doubt
 record Good (head before : List ℕ) (runs : List Run) (sides : Sides) (doubted : Bool) : Type 0 where
   read : HasRows head before runs (content sides.read)
   disk : Lasts head before runs sides.disk
@@ -19,26 +22,28 @@ record Good (head before : List ℕ) (runs : List Run) (sides : Sides) (doubted 
 hole_is_none : (head front hole : List ℕ) → has_feed hole ≡ false → table head (front ++ hole) ≡ table head front
 hole_is_none head front hole none = ap (λ (l : List ℕ). l ++ (if is_none l then head else [])) (whole_front front hole none)
 
--- what has the same table has the same rows
+-- where a file that holds `held` has the rows of these runs, a file that holds `left` and has the same table has these rows,
+-- too
 same_rows : (head before : List ℕ) (runs : List Run) (held left : List ℕ) → HasRows head before runs held → table head left ≡ table head held → HasRows head before runs left
 same_rows head before runs held left has same = (has.0, has.1, same ∙ has.2)
 
--- what a file holds that is on the disk is all that a crash leaves
+-- where all that a file holds is on the disk, and it has the rows of these runs, whatever a crash leaves has them
 settled_lasts : (head before : List ℕ) (runs : List Run) (held : List ℕ) → HasRows head before runs held → Lasts head before runs (settled held)
 settled_lasts head before runs held has left may = subst (HasRows head before runs) (sym may) has
 
--- what a failed sync leaves of a side has the rows
+-- where whatever a crash leaves of a side has the rows of these runs, what a failed sync makes of that side has them, too
 lost_has : (head before : List ℕ) (runs : List Run) (life : Life) (now : List ℕ) → Lasts head before runs life → Loses life now → HasRows head before runs now
 lost_has head before runs life now lasts lost =
     same_rows head before runs lost.front now (lasts lost.front lost.may) (ap (table head) lost.is ∙ hole_is_none head lost.front lost.hole lost.none)
 
+-- for a file with this head, and `before` as its table before all runs
 module _ (head before : List ℕ) (heads : IsHead head) where
-  -- behind a run in a file that isn't in doubt, the disk has the run's rows, too
+  -- after a run in a file that isn't in doubt, the disk has the run's rows, too
   run_lasts : (runs : List Run) (sides : Sides) (run : Run) → Lasts head before runs sides.disk → sides.read ≡ sides.disk → IsRun head (content sides.read) run
       → Lasts head before (runs ++ run ∷ []) (later_by run.steps sides.disk)
   run_lasts runs sides run lasts same is = one_more head before heads runs sides.disk run lasts (subst (λ (life : Life). IsRun head (content life) run) same is)
 
-  -- behind a run in a file that isn't in doubt both sides have the run's rows, and are one
+  -- after a run in a file that isn't in doubt both sides have the run's rows, and are the same
   ran : (runs : List Run) (sides : Sides) (run : Run) → Lasts head before runs sides.disk → sides.read ≡ sides.disk → IsRun head (content sides.read) run
       → Good head before (runs ++ run ∷ []) (done_by run.steps sides) false
   ran runs sides run lasts same is =
@@ -51,7 +56,7 @@ module _ (head before : List ℕ) (heads : IsHead head) where
         same = λ _. both;
       }
 
-  -- behind a run whose last sync failed both sides have its rows, and the file is in doubt
+  -- after a run whose last sync failed both sides have its rows, and the file is in doubt
   failed : (runs : List Run) (sides : Sides) (run : Run) (read disk : List ℕ) → Lasts head before runs sides.disk → sides.read ≡ sides.disk → IsRun head (content sides.read) run
       → Loses (later_by run.steps sides.read) read → Loses (later_by run.steps sides.disk) disk
       → Good head before (runs ++ run ∷ []) (record { read = settled read; disk = settled disk }) true
@@ -65,7 +70,7 @@ module _ (head before : List ℕ) (heads : IsHead head) where
         same = λ wrong. let clash : true ≡ false = wrong in cc;
       }
 
-  -- whatever is found behind more events has the rows of their runs, too
+  -- where both sides have the rows of the runs `done`, whatever is found after more events has the rows of their runs, too
   lasts_on : (done : List Run) (sides : Sides) (doubted : Bool) (events : List Event) → Good head before done sides doubted → Occur is_trusted head sides doubted events
       → (left : List ℕ) → IsFound (sides_after sides events) left → HasRows head before (done ++ runs_of events) left
   lasts_on done sides doubted [] good occur left found =

@@ -1,4 +1,5 @@
--- A file that is copied: how many lines it has, and what is appended in pieces.
+-- A file that is copied block by block: `at` is how many of its bytes were copied so far, and each line feed among them is
+-- counted.
 use Rattle.std.proofs.Common.{◌≡◌, inl, inr, ℕ, zero, suc, ◌+◌, ◌≤◌, ◌<◌, ◌==◌, List, [], ◌∷◌, ◌++◌, length, take, drop, slice_index, refl, sym, ◌∙◌, ap, subst, arith, Option, Some}
 use Rattle.std.proofs.Math.Seq.{take-add}
 use Rattle.std.proofs.lemmas.Bool.{cases_Bool}
@@ -21,13 +22,13 @@ one_feed b = elim (cases_Bool (b == 10)) [
   | inr isnt ↦ rw (isnt) (omega arith)
 ]
 
--- so many line feeds are among the first bytes
+-- `count` is the number of line feeds among the first `at` bytes
 pub record Counted (xs : List ℕ) (count at : ℕ) : Type 0 where
   pub within : at ≤ length xs
   pub few : count ≤ at
   pub is : count ≡ feeds (take at xs)
 
--- the count stays right with one byte more
+-- where the line feeds of the first `at` bytes are counted, adding that of the next byte counts those of the first `at + 1`
 pub counted_next : (xs : List ℕ) (count at more : ℕ) → at < length xs → count ≤ at → count ≡ feeds (take at xs) → more ≡ feed_of (slice_index xs at) → Counted xs (count + more) (at + 1)
 counted_next xs count at more less few is feed =
     let next : at + 1 ≡ suc at = omega arith in
@@ -42,11 +43,11 @@ pub feeds_two : (xs ys : List ℕ) → feeds (xs ++ ys) ≡ feeds xs + feeds ys
 feeds_two [] ys = omega arith
 feeds_two (b ∷ xs) ys = omega (arith, feeds_two xs ys)
 
--- nothing was appended
+-- to a file of which no call was made, nothing was appended
 pub puts_none : (old : Option Life) → PutsAll old old []
 puts_none old life is = ([], is ∙ ap (λ (l : Life). Some l) (later_none life), record { none_cut = refl; all = refl })
 
--- bytes were appended, and then more: both were
+-- where `xs` were appended, and then `ys`, `xs ++ ys` were appended
 pub puts_two : (old mid new : Option Life) (xs ys : List ℕ) → PutsAll old mid xs → PutsAll mid new ys → PutsAll old new (xs ++ ys)
 puts_two old mid new xs ys first second life is =
     let one = first life is in
@@ -71,17 +72,19 @@ puts_block old mid new held block at size is long first second =
     subst (PutsAll old new) (ap (λ (l : List ℕ). take at held ++ l) (is ∙ ap (λ n. take n (drop at held)) long) ∙ sym (take-add at size held))
     (puts_two old mid new (take at held) block first second)
 
--- the line feeds of a block are added to those of the bytes before it
+-- where `lines` is the number of line feeds in the first `at` bytes, and `more` that of the block behind them, their sum is
+-- that of the first `at + size`
 pub counts_block : (held block : List ℕ) (at size lines more : ℕ) → block ≡ take (length block) (drop at held) → length block ≡ size
     → lines ≡ feeds (take at held) → more ≡ feeds block → lines + more ≡ feeds (take (at + size) held)
 counts_block held block at size lines more is long first second =
     let whole : take (at + size) held ≡ take at held ++ block = take-add at size held ∙ ap (λ (l : List ℕ). take at held ++ l) (sym (is ∙ ap (λ n. take n (drop at held)) long)) in
     omega (arith, first, second, ap feeds whole, feeds_two (take at held) block)
 
--- where the place is at the end, the whole file was copied
+-- where the first `at` bytes of a file, which are all that it holds, were appended to a copy, and the copy was synced, all that
+-- the file holds was appended to the copy
 pub puts_all : (old mid new : Option Life) (held : List ℕ) (at : ℕ) → length held ≤ at → PutsAll old mid (take at held) → Adds mid new (Sync ∷ []) → PutsAll old new held
 puts_all old mid new held at all puts sync = subst (PutsAll old new) (take_all at held all) (puts_synced old mid new (take at held) puts sync)
 
--- where the place is at the end, all line feeds of the file are counted
+-- where the line feeds of the first `at` bytes are counted, and these are all bytes, all line feeds of the file are counted
 pub counts_all : (held : List ℕ) (at lines : ℕ) → length held ≤ at → lines ≡ feeds (take at held) → lines ≡ feeds held
 counts_all held at lines all is = is ∙ ap feeds (take_all at held all)

@@ -8,28 +8,28 @@ use Rattle.gc_files.proofs.Adding.{cuts_two, appended_two}
 use Rattle.gc_files.proofs.Lasting.{RunHas, run_moments, has_more}
 use Rattle.gc_files.proofs.Moments.{may_stay, behind_two, two_steps, mend_synced}
 
--- a sync at the end is one among all
+-- steps that end with a sync have a sync among them
 ends_synced : (steps : List Step) → has_sync (steps ++ Sync ∷ []) ≡ true
 ends_synced [] = refl
 ends_synced (Append bytes ∷ steps) = ends_synced steps
 ends_synced (Cut size ∷ steps) = ends_synced steps
 ends_synced (Sync ∷ steps) = refl
 
--- a sync behind steps that cut nothing keeps all that they appended
+-- a sync after steps that cut nothing keeps all that they appended
 all_synced : (steps : List Step) → cuts_none steps ≡ true → synced (steps ++ Sync ∷ []) ≡ appended steps
 all_synced [] none = refl
 all_synced (Append bytes ∷ steps) none = rw (ends_synced steps) (ap (λ (l : List ℕ). bytes ++ l) (all_synced steps none))
 all_synced (Sync ∷ steps) none = all_synced steps none
 all_synced (Cut size ∷ steps) none = let wrong : false ≡ true = none in cc
 
--- a sync behind a run keeps all that the run appended
+-- a sync after a run keeps all that the run appended
 pub ran_synced : (held : List ℕ) (steps : List Step) (bytes : List ℕ) → Ran held steps bytes → synced (steps ++ Sync ∷ []) ≡ bytes
 ran_synced held steps bytes ran =
     let at : steps ++ Sync ∷ [] ≡ take 2 (mended held) ++ (ran.later ++ Sync ∷ []) =
     ap (λ (xs : List Step). xs ++ Sync ∷ []) ran.split ∙ append_assoc (mended held) ran.later (Sync ∷ []) ∙ ap (λ (xs : List Step). xs ++ (ran.later ++ Sync ∷ [])) (sym (two_steps held)) in
     ap synced at ∙ mend_synced held 2 (ran.later ++ Sync ∷ []) ∙ all_synced ran.later ran.puts.none_cut ∙ ran.puts.all
 
--- an opening, and what was put behind it, is a run
+-- an opening, and after it appends and syncs of a front of the lines of some rows, are a run of these rows
 pub calls_opened : (head held : List ℕ) (opening later : List Step) (front : List ℕ) (rows : List (List ℕ)) (kept : ℕ) (left : Option (List ℕ))
     → Ran held opening (start_of head held) → Puts later front → IsFront front (lines rows) → AreRows rows → kept ≤ length rows
     → WereKept head held rows kept (opening ++ later)
@@ -65,11 +65,11 @@ calls_failed head held steps left comes = record {
   kept = inl refl;
 }
 
--- a run with a sync behind its steps
+-- a run with a sync after its steps
 abbrev synced_run : Run → Run
 synced_run run = record run { steps = run.steps ++ Sync ∷ [] }
 
--- what a killed run left has its rows
+-- a file after a run that ended by itself or by a kill has the run's rows, at least all that went out whole
 killed_has : (head held : List ℕ) (run : Run) → IsHead head → IsKilled head held run → RunHas head held run (behind held run.steps)
 killed_has head held run heads one = elim one.written [
   | inl none ↦ run_moments head held run (behind held run.steps) heads (record { rows = one.rows; steps = one.steps; few = one.few; kept = inl none }) (may_stay held run.steps)
@@ -104,7 +104,7 @@ killed_has head held run heads one = elim one.written [
       }
 ]
 
--- what is left behind a run is what a read returns
+-- after a run, a file holds what the run's steps make of what it held before
 left_by : (life : Life) (run : Run) → content (later_by run.steps life) ≡ behind (content life) run.steps
 left_by life run = behind_two life.start life.steps run.steps
 

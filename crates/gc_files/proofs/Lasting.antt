@@ -1,4 +1,5 @@
--- Over runs and crashes a table stays.
+-- Over runs and crashes a table stays. A table is the head and the whole rows of a file; `held` is what the file held before a
+-- run, and `left` what is found in it at some moment of the run or after it.
 use Rattle.std.proofs.Common.{◌≡◌, ◌⊎◌, inl, inr, ℕ, zero, suc, ◌≤◌, Bool, true, false, List, [], ◌∷◌, ◌++◌, length, take, refl, sym, ◌∙◌, ap, subst, arith, append_assoc, length-append, if◌then◌else◌, Option, Some, None}
 use Rattle.std.proofs.lemmas.Bool.{cases_Bool, cases_lt}
 use Rattle.std.proofs.lemmas.List.{append-nil, take_all, take_at, take-append-le}
@@ -19,7 +20,8 @@ pub record Has (head held : List ℕ) (rows : List (List ℕ)) (k : ℕ) (left :
 table_by : (head left : List ℕ) (rows : List ℕ) → whole left ≡ rows → table head left ≡ rows ++ (if is_none rows then head else [])
 table_by head left rows is = ap (λ (l : List ℕ). l ++ (if is_none l then head else [])) is
 
--- nothing more is whole: no row ends within no bytes
+-- a file whose table is as it was before a run has what `Has` asks for 0 bytes: none of the run's rows, as none ends within 0
+-- bytes
 pub none_more : (head held : List ℕ) (rows : List (List ℕ)) (left : List ℕ) → AreRows rows → table head left ≡ table head held → Has head held rows 0 left
 none_more head held rows left are same =
     let w = within rows 0 are in
@@ -39,7 +41,7 @@ line_first : (row : List ℕ) → (b : ℕ) × (bs : List ℕ) × (line row ≡ 
 line_first [] = (10, [], refl)
 line_first (b ∷ row) = (b, row ++ 10 ∷ [], refl)
 
--- in a file with a whole row, the first k bytes that a run appends have the rows that end within them (`Has`)
+-- a file with a whole row, to which a run appended the first k of its bytes, has the rows that end within them (`Has`)
 behind_rows : (head held : List ℕ) (b : ℕ) (bs : List ℕ) (rows : List (List ℕ)) (k : ℕ) (left : List ℕ) → AreRows rows → whole held ≡ b ∷ bs
     → left ≡ whole held ++ take k (start_of head held ++ lines rows) → Has head held rows k left
 behind_rows head held b bs rows k left are some is =
@@ -55,7 +57,8 @@ behind_rows head held b bs rows k left are some is =
       least = λ m few le. w.least m few (subst (λ (l : List ℕ). length (l ++ lines (take m rows)) ≤ k) start le);
     }
 
--- in a file without a whole row, and without a head, the first k bytes that a run appends have the rows that end within them
+-- a file without a whole row, and for which there is no head, to which a run appended the first k of its bytes, has the rows
+-- that end within them (`Has`)
 behind_nothing : (held : List ℕ) (rows : List (List ℕ)) (k : ℕ) (left : List ℕ) → AreRows rows → whole held ≡ []
     → left ≡ whole held ++ take k (start_of [] held ++ lines rows) → Has [] held rows k left
 behind_nothing held rows k left are none is =
@@ -69,14 +72,17 @@ behind_nothing held rows k left are none is =
       least = λ m few le. w.least m few (subst (λ (l : List ℕ). length (l ++ lines (take m rows)) ≤ k) start le);
     }
   where
+    -- a choice between equal lists is that list
     either_same : (e : List ℕ) (t : Bool) → (if t then e else e) ≡ e
     either_same e true = refl
     either_same e false = refl
 
+    -- without a head, a file's table is its whole rows
     plain : (l : List ℕ) → table [] l ≡ whole l
     plain l = ap (λ (e : List ℕ). whole l ++ e) (either_same [] (is_none (whole l))) ∙ append-nil (whole l)
 
--- in a file without a whole row, where the head comes first, the whole lines behind a run are the head and the rows that the run left
+-- in a file without a whole row, where the run first writes a head, which is the line `row`: where the file has the first
+-- `count` of the lines of head and rows, at least all that end within k bytes, it has the rows that end within k bytes (`Has`)
 head_first : (row held : List ℕ) (rows : List (List ℕ)) (k : ℕ) (left : List ℕ) → whole held ≡ [] → (count : ℕ) → count ≤ length (row ∷ rows) → whole left ≡ lines (take count (row ∷ rows))
     → ((m : ℕ) → m ≤ length (row ∷ rows) → length (lines (take m (row ∷ rows))) ≤ k → m ≤ count) → Has (line row) held rows k left
 head_first row held rows k left none zero few is least =
@@ -103,7 +109,7 @@ list_cases : (xs : List ℕ) → (xs ≡ []) ⊎ ((b : ℕ) × (bs : List ℕ) �
 list_cases [] = inl refl
 list_cases (b ∷ bs) = inr (b, bs, refl)
 
--- the first k bytes that a run appends have the rows that end within them
+-- a file to which a run appended the first k of its bytes has the rows that end within them (`Has`)
 pub reached : (head held : List ℕ) (rows : List (List ℕ)) (k : ℕ) (left : List ℕ) → IsHead head → AreRows rows
     → left ≡ whole held ++ take k (start_of head held ++ lines rows) → Has head held rows k left
 reached head held rows k left heads are is = elim (list_cases (whole held)) [
@@ -120,7 +126,8 @@ reached head held rows k left heads are is = elim (list_cases (whole held)) [
   ]
 ]
 
--- a run's rows, at a moment of it
+-- a file that was found with `left`, at a moment of a run, has the table from before and the run's first `count` rows, at least
+-- the kept ones
 pub record RunHas (head held : List ℕ) (run : Run) (left : List ℕ) : Type 0 where
   pub count : ℕ
   pub least : run.kept ≤ count
@@ -131,7 +138,8 @@ pub record RunHas (head held : List ℕ) (run : Run) (left : List ℕ) : Type 0 
 front_length : (front all : List ℕ) → IsFront front all → length front ≤ length all
 front_length front all f = omega (arith, ap length f.split, length-append front f.rest)
 
--- where at least what was synced is there, so are the rows that were kept
+-- where a file has the rows that end within the first k bytes of a run, and at most k of the run's bytes were synced, the kept
+-- rows are among them
 kept_within : (head held : List ℕ) (run : Run) (left : List ℕ) (k : ℕ) → IsRun head held run → length (synced run.steps) ≤ k → Has head held run.rows k left → RunHas head held run left
 kept_within head held run left k one enough has = record {
   count = has.count;
@@ -143,7 +151,8 @@ kept_within head held run left k one enough has = record {
   is = has.is;
 }
 
--- where nothing of a run was synced, a file to which nothing was added has what the run must leave (`RunHas`)
+-- where nothing of a run was synced, none of its rows is kept, so that a file to which nothing was added has what the run must
+-- leave (`RunHas`)
 none_of : (head held : List ℕ) (run : Run) (left : List ℕ) → IsRun head held run → synced run.steps ≡ [] → RunHas head left run left
 none_of head held run left one nothing =
     let w = within run.rows 0 one.rows in
@@ -162,7 +171,8 @@ none_of head held run left one nothing =
 same_table : (head left held : List ℕ) → whole left ≡ whole held → table head left ≡ table head held
 same_table head left held same = ap (λ (l : List ℕ). l ++ (if is_none l then head else [])) same
 
--- the first k bytes of a front are the first bytes of the whole: at least k, or all of the front
+-- the first k bytes of a front are the first `count` bytes of the whole, and `count` is at least k or at least the front's
+-- length
 front_take : (held all bytes : List ℕ) (k : ℕ) (f : IsFront bytes all) → (count : ℕ) × (k ≤ count ⊎ length bytes ≤ count) × (held ++ take k bytes ≡ held ++ take count all)
 front_take held all bytes k f = elim (cases_lt k (length bytes)) [
   | inl less ↦ (k, inl (omega arith), ap (λ (l : List ℕ). held ++ l) (sym (take-append-le k bytes f.rest (omega (arith, less))) ∙ ap (take k) (sym f.split)))
@@ -189,6 +199,8 @@ run_moments head held run left heads one may = elim one.steps [
   | inr all ↦ ran_moments all.0 all.1 all.2
 ]
   where
+    -- whatever a crash leaves of a run that mended the file, and then appended a front of the head and its rows, has the run's
+    -- rows
     ran_moments : (bytes : List ℕ) → Ran held run.steps bytes → IsFront bytes (start_of head held ++ lines run.rows) → RunHas head held run left
     ran_moments bytes ran front =
         let steps = mended held ++ ran.later in
@@ -211,10 +223,11 @@ run_moments head held run left heads one may = elim one.steps [
               kept_within head held run left t.0 one enough (reached head held run.rows t.0 left heads one.rows (at_bytes ∙ t.2))
         ]
       where
+        -- mending appends nothing, so what is synced is what the later steps have synced
         whole_mended : (later : List Step) → synced (mended held ++ later) ≡ synced later
         whole_mended later = ap (λ (steps : List Step). synced (steps ++ later)) (sym (two_steps held)) ∙ mend_synced held 2 later
 
--- the counts of runs, and that of one more
+-- counts for some runs, and behind them a count for one more run, are counts for all of these runs
 pub counts_more : (runs : List Run) (counts : List ℕ) (run : Run) (n : ℕ) → Counts runs counts → run.kept ≤ n → n ≤ length run.rows → Counts (runs ++ run ∷ []) (counts ++ n ∷ [])
 counts_more [] [] run n cs least few = (least, few, tt)
 counts_more [] (m ∷ counts) run n cs least few = absurd cs
@@ -229,7 +242,7 @@ rows_more (r ∷ runs) [] run n cs = absurd cs
 rows_more (r ∷ runs) (m ∷ counts) run n cs = ap (λ (l : List ℕ). lines (take m r.rows) ++ l) (rows_more runs counts run n cs.2)
     ∙ sym (append_assoc (lines (take m r.rows)) (rows_of runs counts) (lines (take n run.rows)))
 
--- one more run adds its rows
+-- where a file has the rows of some runs, and one more run added its own, the file has the rows of all
 pub has_more : (head before : List ℕ) (runs : List Run) (run : Run) (held left : List ℕ) → HasRows head before runs held → RunHas head held run left → HasRows head before (runs ++ run ∷ []) left
 has_more head before runs run held left has more = (
   has.0 ++ more.count ∷ [],
@@ -238,10 +251,11 @@ has_more head before runs run held left has more = (
       ∙ ap (λ (l : List ℕ). before ++ l) (sym (rows_more runs has.0 run more.count has.1)),
 )
 
--- whatever a crash leaves of a file, the table has the rows
+-- whatever a crash leaves of a file with this life has the rows of the runs behind the table `before`
 abbrev pub Lasts : List ℕ → List ℕ → List Run → Life → Type 0
 Lasts head before runs life = (left : List ℕ) → MayLeave life.start life.steps left → HasRows head before runs left
 
+-- for a file with this head, and `before` as its table before all runs
 module _ (head before : List ℕ) (heads : IsHead head) where
   -- the table lasts over one more run
   pub one_more : (runs : List Run) (life : Life) (run : Run) → Lasts head before runs life → IsRun head (content life) run → Lasts head before (runs ++ run ∷ []) (later_by run.steps life)
@@ -253,7 +267,7 @@ module _ (head before : List ℕ) (heads : IsHead head) where
     | inr new ↦ has_more head before runs run (content life) left (lasts (content life) (may_stay life.start life.steps)) (run_moments head (content life) run left heads one new)
   ]
 
-  -- the table lasts over what the run's end leaves
+  -- the table lasts over one more run and its end, also where that end is a crash of the machine
   ended : (runs : List Run) (life : Life) (run : Run) (left : Option (List ℕ)) → Lasts head before runs life → IsRun head (content life) run
       → Ended life run left → Lasts head before (runs ++ run ∷ []) (lived life run left)
   ended runs life run None lasts one end = one_more runs life run lasts one

@@ -1,4 +1,5 @@
--- What a look at a file finds.
+-- What a look at a file finds: whether it fits the sign (one begins with the other), and where its last whole row ends. `at` is
+-- how many bytes were looked at, and `rest` is the sign behind them.
 use Rattle.std.proofs.Common.{◌≡◌, inl, inr, ℕ, zero, suc, ◌+◌, ◌-◌, ◌≤◌, ◌<◌, ◌==◌, ◌&&◌, true, false, List, [], ◌∷◌, ◌++◌, length, take, drop, refl, sym, ◌∙◌, ap, subst, arith, append_assoc, length-append, length-drop, slice_index, Option, Some, None}
 use Rattle.std.proofs.Math.Seq.{take-add, take-append-add}
 use Rattle.std.proofs.lemmas.Bool.{cases_Bool, eqb-true, eq-eqb}
@@ -44,7 +45,7 @@ looked_on at k sign held rest is same =
     fits_on k (drop at sign) (drop at held) (ap (take k) (sym is) ∙ same)
     ∙ ap (λ (s : List ℕ). fits s (drop k (drop at held))) (drop-drop k at sign) ∙ ap (λ (h : List ℕ). fits (drop (at + k) sign) h) (drop-drop k at held)
 
--- a piece of the file that differs from the sign: the file hasn't the sign
+-- where a piece of the file differs from the sign, the file doesn't fit the sign
 pub looked_not : (at k : ℕ) (sign held rest : List ℕ) → rest ≡ drop at sign → k ≤ length rest → at + k ≤ length held
     → (take k rest ≡ take k (drop at held) → ⊥) → fits (drop at sign) (drop at held) ≡ false
 looked_not at k sign held rest is one two differ =
@@ -54,7 +55,8 @@ looked_not at k sign held rest is one two differ =
 pub looked_all : (at : ℕ) (sign held : List ℕ) → length held ≤ at → fits (drop at sign) (drop at held) ≡ true
 looked_all at sign held past = ap (fits (drop at sign)) (drop_all at held past) ∙ fits_none (drop at sign)
 
--- n more bytes of a buffer are read, behind those that are read already
+-- where the first `done` bytes of a buffer are the file's from place `at` on, and n more are read behind them, its first `done
+-- + n` bytes are the file's
 pub read_more : (done n at k : ℕ) (buf ys held : List ℕ) → done ≤ length buf → n ≤ length ys → take done buf ≡ take done (drop at held) → take n ys ≡ take n (drop (at + done) held)
     → take (done + n) (put_mid done k buf ys) ≡ take (done + n) (drop at held)
 read_more done n at k buf ys held within few first second =
@@ -105,12 +107,14 @@ last_feed (b ∷ xs) zero less is none =
     let nothing : whole xs ≡ [] = whole_none xs (none_feed xs (λ j below. none (suc j) (omega arith) (omega (arith, below)))) in
     sym (whole_first b xs (some_feed (b ∷ xs) zero less is) ∙ ap (λ (l : List ℕ). suc (length l)) nothing)
   where
+    -- where there is a line feed, the first byte is in the whole rows
     whole_first : (b : ℕ) (xs : List ℕ) → has_feed (b ∷ xs) ≡ true → length (whole (b ∷ xs)) ≡ suc (length (whole xs))
     whole_first b xs some = rw (some) refl
 last_feed (b ∷ xs) (suc k) less is none =
     let rest = last_feed xs k (omega (arith, less)) is (λ j above below. none (suc j) (omega (arith, above)) (omega (arith, below))) in
     sym (whole_first b xs (some_feed (b ∷ xs) (suc k) less is) ∙ ap suc (sym rest))
   where
+    -- where there is a line feed, the first byte is in the whole rows
     whole_first : (b : ℕ) (xs : List ℕ) → has_feed (b ∷ xs) ≡ true → length (whole (b ∷ xs)) ≡ suc (length (whole xs))
     whole_first b xs some = rw (some) refl
 
@@ -136,6 +140,7 @@ none_whole xs none = elim (cases_Bool (has_feed xs)) [
   | inr isnt ↦ isnt
 ]
   where
+    -- bytes with a line feed have a whole row
     first : (xs : List ℕ) → has_feed xs ≡ true → length (whole xs) ≡ 0 → ⊥
     first [] some none = let wrong : false ≡ true = some in cc
     first (b ∷ xs) some none = let is : length (whole (b ∷ xs)) ≡ suc (length (whole xs)) = rw (some) refl in omega (arith, none, is)
@@ -147,7 +152,7 @@ some_whole xs some = elim (cases_Bool (has_feed xs)) [
   | inr isnt ↦ absurd (omega (arith, some, ap length (whole_none xs isnt)))
 ]
 
--- a block has no whole row, and no line feed is behind it: no line feed is behind its beginning
+-- where a block of a file has no whole row, and no line feed stands behind the block, none stands behind the block's beginning
 pub block_none : (at size end : ℕ) (held block : List ℕ) → block ≡ take size (drop at held) → at + size ≡ end → has_feed (drop end held) ≡ false
     → length (whole block) ≤ 0 → has_feed (drop at held) ≡ false
 block_none at size end held block is ends none no_rows =
@@ -155,7 +160,8 @@ block_none at size end held block is ends none no_rows =
     ∙ ap (λ (l : List ℕ). l ++ drop size (drop at held)) (sym is) ∙ ap (λ (l : List ℕ). block ++ l) (drop-drop size at held) in
     ap has_feed rest ∙ feed_front block (drop (at + size) held) (ap (λ n. has_feed (drop n held)) ends ∙ none) ∙ none_whole block (omega (arith, no_rows))
 
--- a block has a whole row, and no line feed is behind it: the file's whole rows end where the block's do
+-- where a block of a file has a whole row, and no line feed stands behind the block, the file's whole rows end where the
+-- block's do
 pub block_some : (at size end : ℕ) (held block : List ℕ) → block ≡ take size (drop at held) → at + size ≡ end → at ≤ length held
     → has_feed (drop end held) ≡ false → 0 < length (whole block) → at + length (whole block) ≡ length (whole held)
 block_some at size end held block is ends within none rows =
@@ -165,13 +171,13 @@ block_some at size end held block is ends within none rows =
     ∙ whole_front (take at held ++ block) (drop (at + size) held) behind ∙ whole_behind (take at held) block (some_whole block rows) in
     omega (arith, ap length whole_is, length-append (take at held) (whole block), length-take-le at held within)
 
--- the first bytes were appended, and then some more of them
+-- where the first `done` bytes were appended, and then the next n, the first `done + n` were appended
 pub put_more : (old mid new : Option Life) (bytes piece : List ℕ) (done n : ℕ) → piece ≡ drop done bytes → PutsAll old mid (take done bytes)
     → Adds mid new (Append (take n piece) ∷ []) → PutsAll old new (take (done + n) bytes)
 put_more old mid new bytes piece done n is puts adds =
     subst (PutsAll old new) (ap (λ (l : List ℕ). take done bytes ++ take n l) is ∙ sym (take-add done n bytes)) (puts_more old mid new (take done bytes) (take n piece) puts adds)
 
--- where no more was appended, a front of the bytes was
+-- where the first `done` bytes were appended, and then nothing more, a front of the bytes was appended
 pub put_part : (old mid new : Option Life) (bytes : List ℕ) (done : ℕ) → PutsAll old mid (take done bytes) → new ≡ mid → (front : List ℕ) × IsFront front bytes × PutsAll old new front
 put_part old mid new bytes done puts same = (
   take done bytes,

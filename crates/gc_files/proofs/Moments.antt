@@ -1,4 +1,5 @@
--- What a file holds at each moment of a run.
+-- What a file holds at each moment of a run. To mend a file is to cut off what stands behind its last line feed, and to sync
+-- that.
 use Rattle.std.proofs.Common.{◌≡◌, ◌⊎◌, inl, inr, ℕ, zero, suc, ◌+◌, ◌≤◌, ◌==◌, true, false, List, [], ◌∷◌, ◌++◌, length, take, refl, sym, ◌∙◌, ap, subst, arith, append_assoc, length-append}
 use Rattle.std.proofs.Math.Seq.{take-append-add}
 use Rattle.std.proofs.lemmas.Bool.{cases_Bool, cases_lt, eqb-true}
@@ -13,25 +14,28 @@ pub may_stay : (held : List ℕ) (steps : List Step) → MayLeave held steps (be
 may_stay held [] = refl
 may_stay held (step ∷ steps) = inr (may_stay (stepped held step) steps)
 
--- behind steps, and others behind them, a file holds what the others make of what the first made
+-- after the steps `xs ++ ys`, a file holds what `ys` make of what it holds after `xs`
 pub behind_two : (held : List ℕ) (xs ys : List Step) → behind held (xs ++ ys) ≡ behind (behind held xs) ys
 behind_two held [] ys = refl
 behind_two held (step ∷ xs) ys = behind_two (stepped held step) xs ys
 
+-- no steps have no first steps
 take_nil : (n : ℕ) → take {A = Step} n [] ≡ []
 take_nil n = take_all n [] (omega arith)
 
+-- true isn't false
 is_not : true ≡ false → ⊥
 is_not e = cc
 
--- where steps and others behind them have no sync, neither the first nor the others have one
+-- where there is no sync in `xs ++ ys`, there is none in `xs`, and none in `ys`
 sync_two : (xs ys : List Step) → has_sync (xs ++ ys) ≡ false → (has_sync xs ≡ false) × (has_sync ys ≡ false)
 sync_two [] ys none = (refl, none)
 sync_two (Append bytes ∷ xs) ys none = sync_two xs ys none
 sync_two (Cut size ∷ xs) ys none = sync_two xs ys none
 sync_two (Sync ∷ xs) ys none = absurd (is_not none)
 
--- what a crash leaves behind two stretches was left by the first, with no sync in the second, or by the second
+-- what a crash may leave after the steps `xs ++ ys` is what it may leave after `xs` alone, where `ys` have no sync, or what it
+-- may leave after `ys` of the file that `xs` made
 pub leaves_two : (held : List ℕ) (xs ys : List Step) (left : List ℕ) → MayLeave held (xs ++ ys) left → ((has_sync ys ≡ false) × MayLeave held xs left) ⊎ MayLeave (behind held xs) ys left
 leaves_two held [] ys left may = inr may
 leaves_two held (step ∷ xs) ys left (inl now) =
@@ -62,14 +66,16 @@ mends held = elim (cases_Bool (length (whole held) == length held)) [
       ap (behind held) two ∙ ap (take (length (whole held))) t.split ∙ take_at (whole held) t.torn (length (whole held)) refl
 ]
   where
+    -- numbers that test as equal are equal
     eq_of : {a b : ℕ} → (a == b) ≡ true → a ≡ b
     eq_of e = eqb-true _ _ e
 
+    -- a file whose whole rows have its length is its whole rows
     all : (held : List ℕ) (t : Torn held) → length (whole held) ≡ length held → held ≡ whole held
     all held t same = sym (take_all (length held) held (omega arith)) ∙ ap
         (λ n. take n held) (sym same) ∙ ap (take (length (whole held))) t.split ∙ take_at (whole held) t.torn (length (whole held)) refl
 
--- a cut behind the whole rows, and a sync, leave these at each moment
+-- at each moment of a cut behind the whole rows, and of a sync after it, whatever a crash leaves has the same whole rows
 cut_moments : (held : List ℕ) (count : ℕ) (left : List ℕ) → MayLeave held (take count (Cut (length (whole held)) ∷ Sync ∷ [])) left → whole left ≡ whole held
 cut_moments held zero left may = ap whole may
 cut_moments held (suc zero) left (inl now) = ap whole now.1.2 ∙ whole_take held now.1.0 now.1.1
@@ -79,7 +85,7 @@ cut_moments held (suc (suc n)) left (inr (inl now)) = absurd (is_not now.0)
 cut_moments held (suc (suc n)) left (inr (inr next)) =
     ap whole (subst (λ (steps : List Step). MayLeave (take (length (whole held)) held) steps left) (take_nil n) next) ∙ whole_take held (length (whole held)) (omega arith)
 
--- mending a file, in part or whole, leaves its whole rows at each moment
+-- at each moment of mending a file, in part or to the end, whatever a crash leaves has the same whole rows
 pub mend_moments : (held : List ℕ) (count : ℕ) (left : List ℕ) → MayLeave held (take count (mended held)) left → whole left ≡ whole held
 mend_moments held count left may = elim (cases_Bool (length (whole held) == length held)) [
   | inl same ↦
@@ -98,7 +104,7 @@ two_steps held = elim (cases_Bool (length (whole held) == length held)) [
   | inr less ↦ rw (less) refl
 ]
 
--- mending a file appends nothing, so what was synced is that of the later steps
+-- mending a file appends nothing: what was synced of it and later steps is what was synced of the later steps alone
 pub mend_synced : (held : List ℕ) (count : ℕ) (later : List Step) → synced (take count (mended held) ++ later) ≡ synced later
 mend_synced held count later = elim (cases_Bool (length (whole held) == length held)) [
   | inl same ↦
@@ -109,12 +115,13 @@ mend_synced held count later = elim (cases_Bool (length (whole held) == length h
       ap (λ (steps : List Step). synced (take count steps ++ later)) two ∙ none_in later count
 ]
   where
+    -- a cut and a sync, or a front of these two steps, append nothing: what is synced is what the later steps have synced
     none_in : (later : List Step) (n : ℕ) → synced (take n (Cut (length (whole held)) ∷ Sync ∷ []) ++ later) ≡ synced later
     none_in later zero = refl
     none_in later (suc zero) = refl
     none_in later (suc (suc n)) = ap (λ (steps : List Step). synced (steps ++ later)) (take_nil n)
 
--- a front of what a run appends stands in the file, at least as long as what was synced
+-- `left` is `held` and the first `count` bytes of `all` behind it, and `count` is at least the length of `least`
 pub record Reached (held all least left : List ℕ) : Type 0 where
   pub count : ℕ
   pub is : left ≡ held ++ take count all

@@ -12,11 +12,12 @@ head = 10 ∷ []
 abbrev first : Run
 first = record { rows = []; steps = Append (10 ∷ []) ∷ []; kept = 0; left = None }
 
--- a run behind it that writes a row, which is reported to it as kept
+-- a second run, which writes a row that is reported to it as kept
 abbrev second : Run
 second = record { rows = (65 ∷ []) ∷ []; steps = Append (65 ∷ 10 ∷ []) ∷ Sync ∷ []; kept = 1; left = None }
 
--- the first one's sync fails: a read still returns the head, and on the disk there is a zero in its place
+-- the last sync of the first run fails: a read still returns the head, and the disk has a zero in its place. Then the second
+-- run goes on in that file
 abbrev events : List Event
 events = Failed first (10 ∷ []) (0 ∷ []) ∷ Ran second ∷ []
 

@@ -1,11 +1,12 @@
--- What a file in memory remembers.
+-- What a file in memory remembers: its calls, as the steps of its life. A file is kept where a crash leaves all that it holds
+-- (`IsKept`).
 use Rattle.std.proofs.Common.{◌≡◌, inl, inr, ℕ, true, false, List, [], ◌∷◌, ◌++◌, refl, sym, ◌∙◌, ap, Option, None, Some, subst, Result, Ok, Err, OnOk}
 use Rattle.gc_files.specs.declared.memory_file.Call.{Call}
 use Rattle.gc_files.specs.Calls.{step_of, steps_of, life_by}
 use Rattle.gc_files.specs.Files.{Step, Sync, Life, stepped, behind, content, MayLeave, IsKept, later_by, Adds, Makes}
 use Rattle.gc_files.proofs.Moments.{behind_two, leaves_two}
 
--- the steps of calls, and of one more, are those of the calls, and that of the last
+-- the steps of `calls` and then c are those of `calls`, and then that of c
 steps_more : (calls : List Call) (c : Call) → steps_of (calls ++ c ∷ []) ≡ steps_of calls ++ step_of c ∷ []
 steps_more [] c = refl
 steps_more (d ∷ calls) c = ap (λ (steps : List Step). step_of d ∷ steps) (steps_more calls c)
@@ -14,11 +15,12 @@ steps_more (d ∷ calls) c = ap (λ (steps : List Step). step_of d ∷ steps) (s
 pub life_more : (start : List ℕ) (calls new : List Call) (c : Call) → new ≡ calls ++ c ∷ [] → life_by start new ≡ later_by (step_of c ∷ []) (life_by start calls)
 life_more start calls new c is = ap (life_by start) is ∙ ap (λ (steps : List Step). record { start = start; steps = steps }) (steps_more calls c)
 
--- behind one more step a file holds what that step makes of what it held
+-- after one more step a file holds what that step makes of what it held
 pub content_step : (life : Life) (step : Step) → content (later_by (step ∷ []) life) ≡ stepped (content life) step
 content_step life step = behind_two life.start life.steps (step ∷ [])
 
--- behind a call that is noted, the file holds what its calls made of it
+-- where a file holds what its noted calls made of its start, it still does once one more call is noted and the file holds what
+-- that call made of it
 pub noted : (start : List ℕ) (calls new : List Call) (c : Call) (old now next : List ℕ) → new ≡ calls ++ c ∷ [] → now ≡ next → next ≡ stepped old (step_of c)
     → old ≡ content (life_by start calls) → now ≡ content (life_by start new)
 noted start calls new c old now next is put made was =
@@ -29,40 +31,45 @@ pub noted_step : (start : List ℕ) (calls new : List Call) (c : Call) → new �
 noted_step start calls new c is life same =
     ap (λ (l : Life). Some l) (life_more start calls new c is) ∙ ap (λ (o : Option Life). after o) same
   where
+    -- a known life to which the step of the call was added
     after : Option Life → Option Life
     after None = None
     after (Some l) = Some (later_by (step_of c ∷ []) l)
 
--- behind a sync a crash leaves what is there
+-- after a sync a crash leaves what is there
 sync_keeps : (start : List ℕ) (steps : List Step) (left : List ℕ) → MayLeave start (steps ++ Sync ∷ []) left → left ≡ behind start (steps ++ Sync ∷ [])
 sync_keeps start steps left may = elim (leaves_two start steps (Sync ∷ []) left may) [
   | inl old ↦ absurd (is_not old.0)
   | inr new ↦ last new
 ]
   where
+    -- true isn't false
     is_not : true ≡ false → ⊥
     is_not e = cc
 
+    -- what a crash leaves after the last sync is what the file holds
     last : MayLeave (behind start steps) (Sync ∷ []) left → left ≡ behind start (steps ++ Sync ∷ [])
     last (inl now) = absurd (is_not now.0)
     last (inr rest) = rest ∙ sym (behind_two start steps (Sync ∷ []))
 
--- behind a sync a file in memory is kept
+-- after a sync a file in memory is kept
 pub kept_behind : (old : Life) → IsKept (later_by (Sync ∷ []) old)
 kept_behind old left may = sync_keeps old.start old.steps left may
 
--- a file that is known behind a sync is kept
+-- where a sync was added to the life of a file, and its life is known to be `known`, the file is kept
 pub kept_of : (old known : Life) (now : Option Life) → Adds (Some old) now (Sync ∷ []) → now ≡ Some known → IsKept known
 kept_of old known now adds is = subst IsKept (inside (sym (adds old refl) ∙ is)) (kept_behind old)
   where
+    -- the life that there is, or `other`
     out : Life → Option Life → Life
     out other None = other
     out other (Some l) = l
 
+    -- equal lives within `Some` are equal
     inside : {x y : Life} → Some x ≡ Some y → x ≡ y
     inside {x} {y} same = ap (λ (o : Option Life). out x o) same
 
--- behind a sync that went well a file in memory is kept
+-- after a sync that went well a file in memory is kept
 pub kept_result : {X E : Type 0} (old : Life) (now : Option Life) (r : Result X E) → Makes (Some old) now r (λ _. Sync) → OnOk r ((known : Life) → now ≡ Some known → IsKept known)
 kept_result old now (Ok x) makes = λ known is. kept_of old known now makes is
 kept_result old now (Err e) makes = tt

@@ -1,4 +1,4 @@
--- A step that the walks of `src/past.rt` share. Assumes `Logic`.
+-- A step that the hand-written proofs (walks) of `src/past.rt` share. Assumes `Logic`.
 use Rattle.std.proofs.Common.{List, [], ◌∷◌, refl}
 use seplogic.Ra.Ura.{Ura}
 use mir.Val.{Val, vstruct, vnil}
@@ -8,13 +8,15 @@ use denote.RattleType.{RattleType, Valss}
 use denote.Steps.{nothing}
 use denote.Struct.Struct.{Struct, within}
 
+-- the value of a struct without fields
 abbrev pub none : Val
 none = vstruct vnil
 
+-- the type of a struct without fields
 abbrev pub fieldless : RattleType
 fieldless = Struct (record { name = []; args = []; types = []; fields = [] })
 
--- a step of a walk behind which a struct without fields is there: that value owns nothing
+-- a step of a walk over the value of a struct without fields, which owns nothing: the other items and the goal stay as they are
 pub none_made : {M : Type 1} {𝓤 : Ura M} {𝓛 : Logic 𝓤} {K : Type 0} {Γ : List (Item 𝓤)} {G : Goal 𝓤 𝓛.H} → K → Step K 𝓛 (‵ (fieldless.own_val tt (none ∷ [])) ∷ Γ) G Γ G
 none_made t = step (λ s.
     nothing t $ feq_i t (List Val) (none ∷ []) (none ∷ []) refl $ fjoin t $

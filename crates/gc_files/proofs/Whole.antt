@@ -1,4 +1,5 @@
--- What is whole of a file, and of a front of lines.
+-- The whole rows of bytes, which are all through their last line feed, and how many rows are whole in the first k bytes of the
+-- lines of rows.
 use Rattle.std.proofs.Common.{◌≡◌, inl, inr, ℕ, zero, suc, ◌+◌, ◌-◌, ◌≤◌, ◌<◌, ◌==◌, true, false, List, [], ◌∷◌, ◌++◌, length, take, drop, refl, sym, ◌∙◌, ap, subst, arith, length-append, if◌then◌else◌}
 use Rattle.std.proofs.Math.Seq.{take-append-add}
 use Rattle.std.proofs.lemmas.Bool.{cases_Bool, cases_lt}
@@ -45,7 +46,7 @@ pub whole_front : (xs ys : List ℕ) → has_feed ys ≡ false → whole (xs ++ 
 whole_front [] ys none = whole_none ys none
 whole_front (b ∷ xs) ys none = rw (feed_front (b ∷ xs) ys none, whole_front xs ys none) refl
 
--- what stands behind the last line feed
+-- bytes are their whole rows and, behind these, `torn`, which has no line feed
 pub record Torn (xs : List ℕ) : Type 0 where
   pub torn : List ℕ
   pub none : has_feed torn ≡ false
@@ -64,7 +65,7 @@ torn_of (b ∷ xs) = elim (cases_Bool (has_feed (b ∷ xs))) [
       record { torn = b ∷ xs; none = e; split = ap (λ (l : List ℕ). l ++ (b ∷ xs)) (sym is) }
 ]
 
--- the whole rows of whole rows are these
+-- whole rows have nothing behind their last line feed: their whole rows are all of them
 pub whole_whole : (xs : List ℕ) → whole (whole xs) ≡ whole xs
 whole_whole xs =
     let t = torn_of xs in
@@ -92,7 +93,8 @@ whole_take xs k far =
     feed_first (take (k - length (whole xs)) t.torn) (drop (k - length (whole xs)) t.torn) (ap has_feed (take-append-drop (k - length (whole xs)) t.torn) ∙ t.none) in
     ap whole at ∙ whole_front (whole xs) (take (k - length (whole xs)) t.torn) none ∙ whole_whole xs
 
--- a count of these rows that are whole in the first k bytes of their lines, at least all that end within these
+-- what is whole in the first k bytes of the lines of rows is the lines of the first `count` rows, and all rows that end within
+-- k bytes are among these
 pub record Within (rows : List (List ℕ)) (k : ℕ) : Type 0 where
   pub count : ℕ
   pub few : count ≤ length rows
@@ -108,7 +110,7 @@ no_more : (row : List ℕ) (rows : List (List ℕ)) (k : ℕ) → k < length (li
 no_more row rows k less zero le = omega arith
 no_more row rows k less (suc m) le = absurd (omega (arith, less, le, length-append (line row) (lines (take m rows))))
 
--- for each k there is a count of the rows that are whole in the first k bytes
+-- for each k it can be said how many rows are whole in the first k bytes of their lines (`Within`)
 pub within : (rows : List (List ℕ)) (k : ℕ) → AreRows rows → Within rows k
 within [] k are = record { count = 0; few = omega arith; is = ap whole (take_all k [] (omega arith)); least = λ m few le. few }
 within (row ∷ rows) k are = elim (cases_lt k (length (line row))) [
@@ -131,6 +133,8 @@ within (row ∷ rows) k are = elim (cases_lt k (length (line row))) [
       }
 ]
   where
+    -- where `count` is at least the number of later rows that end within the bytes behind the first row's line, `count + 1` is
+    -- at least the number of all rows that end within k bytes
     least_more : (row : List ℕ) (rows : List (List ℕ)) (k count : ℕ) → ((m : ℕ) → m ≤ length rows → length (lines (take m rows)) ≤ k - length (line row) → m ≤ count)
         → (m : ℕ) → m ≤ length (row ∷ rows) → length (lines (take m (row ∷ rows))) ≤ k → m ≤ suc count
     least_more row rows k count least zero few le = omega arith

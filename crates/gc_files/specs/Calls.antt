@@ -15,6 +15,6 @@ abbrev pub steps_of : List Call → List Step
 steps_of [] = []
 steps_of (c ∷ calls) = step_of c ∷ steps_of calls
 
--- the life of a file that held this at first, behind these calls
+-- the life of a file that held `start` at first, after these calls
 abbrev pub life_by : List ℕ → List Call → Life
 life_by start calls = record { start = start; steps = steps_of calls }

@@ -1,9 +1,10 @@
--- How the logic stores the steps of a file.
+-- The coding of a file's steps as numbers and bytes, from which the steps come back. A field for proofs alone holds what has one
+-- (`Coded`); nothing of it is on the disk.
 use Rattle.std.specs.Prelude.{◌≡◌, ℕ, List, [], cond, ◌==◌, refl}
 use Rattle.std.specs.Coded.{Coded, code_by, coded×, coded_ℕ, coded_list}
 use Rattle.gc_files.specs.Files.{Step, Append, Cut, Sync}
 
--- which step, its bytes, and how many
+-- which kind of step (0 is an append, 1 a cut, 2 a sync), the bytes of an append, and the size of a cut
 abbrev Parts : Type 0
 Parts = ℕ × (List ℕ × ℕ)
 
@@ -23,6 +24,6 @@ from_parts-to_parts (Append bytes) = refl
 from_parts-to_parts (Cut size) = refl
 from_parts-to_parts Sync = refl
 
--- how a list of steps is stored
+-- the coding of a list of steps, for the field `steps` of `past.rt`
 abbrev pub steps_code : Coded (List Step)
 steps_code = coded_list (code_by Parts (coded× coded_ℕ (coded× (coded_list coded_ℕ) coded_ℕ)) to_parts from_parts from_parts-to_parts)

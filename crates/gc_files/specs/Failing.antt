@@ -23,15 +23,16 @@ pub record Sides : Type 0 where
 abbrev pub settled : List ℕ → Life
 settled held = record { start = held; steps = [] }
 
--- both sides of a file in which no sync failed
+-- both sides of a file in which no sync failed: this life
 abbrev pub one : Life → Sides
 one life = record { read = life; disk = life }
 
--- both sides behind these steps, each of which is done on both: so a later sync keeps what is on the disk, whatever a read returns
+-- both sides after these steps, each of which is done on both: so a later sync keeps what is on the disk, whatever a read returns
 abbrev pub done_by : List Step → Sides → Sides
 done_by steps sides = record { read = later_by steps sides.read; disk = later_by steps sides.disk }
 
--- what a failed sync may make of a side: what a crash might have left, and in place of what is lost bytes that end no row, as zeros
+-- what a failed sync may make of a side: a front that a crash might have left, and behind it, in place of what is lost, bytes
+-- without a line feed, as zeros
 pub record Loses (life : Life) (now : List ℕ) : Type 0 where
   pub front : List ℕ
   pub may : MayLeave life.start life.steps front
@@ -51,7 +52,7 @@ pub data Event : Type 0 where
   -- the machine crashed, which left this
   Crashed : (left : List ℕ) → Event
 
--- both sides of a file behind these events
+-- both sides of a file after these events, which had the sides `sides` before them
 abbrev pub sides_after : Sides → List Event → Sides
 sides_after sides [] = sides
 sides_after sides (Ran run ∷ events) = sides_after (done_by run.steps sides) events
@@ -60,8 +61,10 @@ sides_after sides (Copied true ∷ events) = sides_after (one (settled (content 
 sides_after sides (Copied false ∷ events) = sides_after (record { read = settled (content sides.read); disk = sides.disk }) events
 sides_after sides (Crashed left ∷ events) = sides_after (one (settled left)) events
 
--- these events can happen to a file with these sides. A run goes on only where `goes` allows it, by whether the file is in doubt: a sync of it
--- failed, and no copy has taken its place since
+-- these events can happen to a file with these sides; `head` is what a new file gets first. `doubted` is whether the file is in
+-- doubt: a sync of it failed, and no copy has taken its place since. A run goes on only where `goes` allows it for a file that is
+-- in doubt (true) or isn't (false). A failed sync puts the file in doubt; a copy whose name is on the disk, and a crash, end the
+-- doubt
 abbrev pub Occur : (Bool → Type 0) → List ℕ → Sides → Bool → List Event → Type 0
 Occur goes head sides doubted [] = Unit {0}
 Occur goes head sides doubted (Ran run ∷ events) = goes doubted × IsRun head (content sides.read) run × Occur goes head (done_by run.steps sides) doubted events
@@ -72,7 +75,7 @@ Occur goes head sides doubted (Copied true ∷ events) = Occur goes head (one (s
 Occur goes head sides doubted (Copied false ∷ events) = Occur goes head (record { read = settled (content sides.read); disk = sides.disk }) true events
 Occur goes head sides doubted (Crashed left ∷ events) = MayLeave sides.disk.start sides.disk.steps left × Occur goes head (one (settled left)) false events
 
--- the runs among them
+-- the runs among these events, in order
 abbrev pub runs_of : List Event → List Run
 runs_of [] = []
 runs_of (Ran run ∷ events) = run ∷ runs_of events
@@ -84,8 +87,8 @@ runs_of (Crashed left ∷ events) = runs_of events
 abbrev pub IsFound : Sides → List ℕ → Type 0
 IsFound sides left = (left ≡ content sides.read) ⊎ MayLeave sides.disk.start sides.disk.steps left
 
--- whatever is found behind events among which runs go on only where `goes` allows it, the next opening makes of it the table that was there
--- before, and the rows of the runs
+-- after any events among which runs go on only where `goes` allows it: whatever is then found of the file, the next opening makes
+-- of it the table that was there before the events, and behind it the rows of the runs
 abbrev pub TablesLastWhere : (Bool → Type 0) → Type 0
 TablesLastWhere goes = (head held : List ℕ) → IsHead head → (events : List Event) → Occur goes head (one (settled held)) false events
     → (left : List ℕ) → IsFound (sides_after (one (settled held)) events) left → HasRows head (table head held) (runs_of events) left

@@ -1,7 +1,8 @@
 -- A file that is only appended to and cut at its end, and what a crash leaves of it: this project's own.
 use Rattle.std.specs.Prelude.{◌≡◌, ◌⊎◌, ℕ, ◌≤◌, Bool, true, false, List, [], ◌∷◌, ◌++◌, length, take, drop, Option, Some, Result, Ok, Err}
 
--- one call that changed a file, or synced it
+-- one call that changed a file, or synced it: these bytes were appended, or it was cut to its first `size` bytes, or all of it
+-- was synced
 pub data Step : Type 0 where
   Append : (bytes : List ℕ) → Step
   Cut : (size : ℕ) → Step
@@ -12,13 +13,13 @@ pub record Life : Type 0 where
   pub start : List ℕ
   pub steps : List Step
 
--- what a file holds behind a step
+-- what a file holds after a step
 abbrev pub stepped : List ℕ → Step → List ℕ
 stepped held (Append bytes) = held ++ bytes
 stepped held (Cut size) = take size held
 stepped held Sync = held
 
--- what a file holds behind these steps
+-- what a file that held `held` holds after these steps
 abbrev pub behind : List ℕ → List Step → List ℕ
 behind held [] = held
 behind held (step ∷ steps) = behind (stepped held step) steps
@@ -37,8 +38,9 @@ has_sync (Sync ∷ steps) = true
 has_sync (Append bytes ∷ steps) = has_sync steps
 has_sync (Cut size ∷ steps) = has_sync steps
 
--- what a crash may leave behind these steps: what the file holds now, or what it held in the course of a step with no sync behind it.
--- Outside of this is a crash that leaves bytes without those before them, because the system wrote pages back in another order
+-- what a crash after these steps may leave of a file that held `held` before them: what the file holds now, or what it held in
+-- the course of a step that is no sync and that no sync follows. Outside of this is a crash that leaves bytes without those
+-- before them, because the system wrote pages back in another order
 abbrev pub MayLeave : List ℕ → List Step → List ℕ → Type 0
 MayLeave held [] left = left ≡ held
 MayLeave held (step ∷ steps) left = ((has_sync (step ∷ steps) ≡ false) × InPart held step left) ⊎ MayLeave (stepped held step) steps left
@@ -51,11 +53,11 @@ content life = behind life.start life.steps
 abbrev pub IsKept : Life → Type 0
 IsKept life = (left : List ℕ) → MayLeave life.start life.steps left → left ≡ content life
 
--- the same life with these steps behind it
+-- the same life with these steps added at its end
 abbrev pub later_by : List Step → Life → Life
 later_by steps life = record { start = life.start; steps = life.steps ++ steps }
 
--- a file of which all was known is known still, with these steps at the end of its life
+-- where the life of a file was known (`old`), it is known still (`new`), and has these steps at its end
 abbrev pub Adds : Option Life → Option Life → List Step → Type 0
 Adds old new steps = (life : Life) → old ≡ Some life → new ≡ Some (later_by steps life)
 

@@ -1,17 +1,17 @@
--- The steps that were done.
+-- The steps that were done to a file, as they are noted for proofs: a note is a step, or a whole list of earlier notes (a past).
 use Rattle.std.specs.Prelude.{◌≡◌, List, [], ◌∷◌, ◌++◌, Result, Ok, Err}
 use Rattle.gc_files.specs.Files as step
 use Rattle.gc_files.specs.Files.{Step}
 use Rattle.gc_files.specs.declared.past.Done.{Done}
 use Rattle.gc_files.specs.declared.past.Done.TheVariants.{Append, Sync, All}
 
--- the steps that this stands for: that of a call, or all of another past
+-- the steps that a note stands for: the one step of a call, or all steps of another past
 abbrev pub steps_done : Done → List Step
 steps_done (Append bytes) = step.Append bytes.now ∷ []
 steps_done Sync = step.Sync ∷ []
 steps_done (All past) = past.now.steps
 
--- a call that went well is noted as this step, and one that failed isn't noted
+-- a call that went well is noted as this step, behind the steps noted before (`old`), and one that failed isn't noted
 abbrev pub Notes : {X E : Type 0} → List Step → List Step → Result X E → (X → Step) → Type 0
 Notes old new (Ok x) step = new ≡ old ++ step x ∷ []
 Notes old new (Err _) step = new ≡ old

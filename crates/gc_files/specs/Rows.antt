@@ -1,4 +1,5 @@
--- Files of rows, each ended by a line feed: what is whole of one, and what an opening makes of it. This project's own.
+-- Files of rows, each ended by a line feed: what is whole of such a file, and what an opening makes of it. A head is what a new
+-- file gets first: a line, or nothing. `old` and `new` are a file's life before and after, where it is known. This project's own.
 use Rattle.std.specs.Prelude.{◌≡◌, ◌⊎◌, ℕ, ◌==◌, ◌&&◌, Bool, true, false, List, [], ◌∷◌, ◌++◌, length, take, if◌then◌else◌, Option, Some}
 use Rattle.gc_files.specs.Files.{Step, Append, Cut, Sync, Life, content, later_by}
 
@@ -58,13 +59,13 @@ pub record Puts (steps : List Step) (bytes : List ℕ) : Type 0 where
   pub none_cut : cuts_none steps ≡ true
   pub all : appended steps ≡ bytes
 
--- a file was mended, and then these bytes were appended
+-- the steps mended a file that held `held`, and then appended these bytes
 pub record Ran (held : List ℕ) (steps : List Step) (bytes : List ℕ) : Type 0 where
   pub later : List Step
   pub split : steps ≡ mended held ++ later
   pub puts : Puts later bytes
 
--- a file was mended in part, and nothing else was done
+-- the steps mended a file that held `held`, in part or whole, and did nothing else
 pub record Mending (held : List ℕ) (steps : List Step) : Type 0 where
   pub count : ℕ
   pub is : steps ≡ take count (mended held)
@@ -74,8 +75,8 @@ pub record IsFront (front all : List ℕ) : Type 0 where
   pub rest : List ℕ
   pub split : all ≡ front ++ rest
 
--- what a run did, as far as it came, to a file that held `held`: it mended the file, at least in part, and behind the whole mending appended
--- a front of `all`
+-- what a run did, as far as it came, to a file that held `held`: it mended the file, in part or whole, and did nothing else; or
+-- it mended the file whole, and then appended a front of `all`
 abbrev pub ComesTo : List ℕ → List ℕ → List Step → Type 0
 ComesTo held all steps = Mending held steps ⊎ ((bytes : List ℕ) × Ran held steps bytes × IsFront bytes all)
 
@@ -83,7 +84,8 @@ ComesTo held all steps = Mending held steps ⊎ ((bytes : List ℕ) × Ran held 
 abbrev pub Opens : List ℕ → Option Life → Option Life → Type 0
 Opens head old new = (life : Life) → old ≡ Some life → (steps : List Step) × (new ≡ Some (later_by steps life)) × Ran (content life) steps (start_of head (content life))
 
--- an opening did to the file what an opening does, as far as it came
+-- an opening did a front of what an opening does, as far as it came: it mended the file, in part or whole, and did nothing else;
+-- or it mended the file whole, and then wrote a front of the head, where no whole row was there
 abbrev pub OpensInPart : List ℕ → Option Life → Option Life → Type 0
 OpensInPart head old new = (life : Life) → old ≡ Some life → (steps : List Step) × (new ≡ Some (later_by steps life)) × ComesTo (content life) (start_of head (content life)) steps
 

@@ -32,7 +32,8 @@ AreRows rows = AllByRecursion (λ row. has_feed row ≡ false) rows
 abbrev pub IsHead : List ℕ → Type 0
 IsHead head = (head ≡ []) ⊎ ((row : List ℕ) × (has_feed row ≡ false) × (head ≡ line row))
 
--- the first `kept` rows were kept, or there are none of these: they were appended, the head before them, before the last sync
+-- the first `kept` rows of a run are kept: they were appended before the last sync, and before them the head where the run
+-- wrote it; or `kept` is 0
 abbrev pub WereKept : List ℕ → List ℕ → List (List ℕ) → ℕ → List Step → Type 0
 WereKept head held rows kept steps = (kept ≡ 0) ⊎ IsFront (start_of head held ++ lines (take kept rows)) (synced steps)
 
@@ -49,22 +50,22 @@ abbrev pub lived : Life → Run → Option (List ℕ) → Life
 lived life run None = later_by run.steps life
 lived life run (Some left) = record { start = left; steps = [] }
 
--- where a crash of the machine ended the run, it left what it may leave
+-- where a crash of the machine ended the run, what the crash left (`left`) is what one may leave of the file then
 abbrev pub Ended : Life → Run → Option (List ℕ) → Type 0
 Ended life run None = Unit {0}
 Ended life run (Some left) = MayLeave life.start (life.steps ++ run.steps) left
 
--- these runs happened to the file, one after the other
+-- these runs happened, one after the other, to the file with this head, which had this life before them
 abbrev pub Happen : List ℕ → Life → List Run → Type 0
 Happen head life [] = Unit {0}
 Happen head life (run ∷ runs) = IsRun head (content life) run × Ended life run run.left × Happen head (lived life run run.left) runs
 
--- the file's life behind these runs
+-- the file's life after these runs
 abbrev pub life_after : Life → List Run → Life
 life_after life [] = life
 life_after life (run ∷ runs) = life_after (lived life run run.left) runs
 
--- the first rows of each run, by these counts
+-- the lines of the first rows of each run, one run after the other: of each run as many rows as its count says
 abbrev pub rows_of : List Run → List ℕ → List ℕ
 rows_of [] counts = []
 rows_of (run ∷ runs) [] = []
@@ -89,7 +90,8 @@ TablesLast = (head held : List ℕ) → IsHead head → (runs : List Run) → Ha
     → (left : List ℕ) → MayLeave (life_after (record { start = held; steps = [] }) runs).start (life_after (record { start = held; steps = [] }) runs).steps left
     → HasRows head (table head held) runs left
 
--- the first `count` rows went out whole, the head before them
+-- the first `count` rows of a run went out whole: what was appended after the mending begins with the head, where the run
+-- wrote it, and these rows; or `count` is 0
 abbrev pub WereWritten : List ℕ → List ℕ → List (List ℕ) → ℕ → List Step → Type 0
 WereWritten head held rows count steps =
     (count ≡ 0)
@@ -114,8 +116,8 @@ abbrev pub KillsLoseNothing : Type 0
 KillsLoseNothing = (head : List ℕ) → IsHead head → (life : Life) (runs : List Run) → AreKilled head life runs
     → HasRows head (table head (content life)) runs (content (life_after life runs))
 
--- What the calls do to a file is a run: an opening, and behind it writes and syncs of rows as far as they came; or an opening that failed.
--- A sync behind them keeps all that was appended.
+-- What the calls do to a file is a run. `opened`: an opening, and after it writes and syncs of rows as far as they came.
+-- `failed`: an opening that failed. `kept`: a sync after an opening and writes keeps all that was appended.
 pub record CallsAreRuns : Type 0 where
   pub opened : (head held : List ℕ) (opening later : List Step) (front : List ℕ) (rows : List (List ℕ)) (kept : ℕ) (left : Option (List ℕ))
       → Ran held opening (start_of head held) → Puts later front → IsFront front (lines rows) → AreRows rows → kept ≤ length rows

@@ -18,7 +18,7 @@ use std::io::ErrorKind;
 use std::path::Path;
 use std::rt::Files;
 
-// Three paths: of a file, behind any links, of its mark, and of its copy.
+// Three paths: of a file, with all symbolic links followed, of its mark, and of its copy.
 #[derive(Drop)]
 struct Beside {
     file: String,
@@ -66,12 +66,12 @@ impl Beside {
         }
     }
 
-    // Takes the mark away. Where it stays or comes back, the next start copies what needs no copy.
+    // Takes the mark away. Where that fails, or a crash brings the mark back, the next start makes a copy that isn't needed.
     fn clear<R: Files<File = File>>(&self, rt: &R) {
         let _ = fs::remove_file(rt, self.mark.as_str());
     }
 
-    // Gives back the file that was opened, in doubt where the mark is there.
+    // Gives back the file that was opened, set in doubt where the mark is there.
     fn look<R: Files<File = File>>(&self, rt: &R, file: SystemFile) -> Result<SystemFile, Unfit> {
         if self.is_marked(rt)? {
             return Ok(file.doubt());
@@ -152,7 +152,8 @@ fn sync_link<R: Files<File = File>>(rt: &R, path: &str) -> Result<(), Unfit> {
     }
 }
 
-// Whether the last row of a file is torn. `Foreign`: the file neither begins with the sign nor is a front of it.
+// Whether the last row of a file is torn: bytes stand behind the last line feed. `Foreign`: the file neither begins with the
+// sign nor is a front of it.
 fn look<F: Appending>(file: &F, sign: &[u8]) -> Result<bool, Refused>
     ensures taken { OnOk result ((known : Life) → F.life file.now ≡ Some known → fits sign.now (content known) ≡ true) }
     ensures why { IsErrOf result Refused.Foreign → (known : Life) → F.life file.now ≡ Some known → fits sign.now (content known) ≡ false }
@@ -183,12 +184,13 @@ fn rows_of(lines: u64, head: &[u8]) -> u64 {
 /// Opens a file of rows by its path, as [`open_rows`] does, and locks it against every other opening of it, by a program of
 /// this kind, until it is dropped. Where the path is free, it makes the file.
 ///
-/// With `sync` the file's name is on the disk, too, before anything is written into it. That holds also for a file that stood
-/// there, because whoever made it may not have synced its name. It holds, too, for a mark beside the file, `FILE.open`, which
-/// [`end_at`] takes away.
+/// With `sync` the file's name is on the disk before anything is written into the file, also where the file stood there
+/// already, because whoever made it may not have synced its name. A mark beside the file, `FILE.open`, is made and is on the
+/// disk by then, too; [`end_at`] takes it away.
 ///
-/// Where a mark is found, an earlier run was killed, or a sync of it failed. Then what the file holds is copied to a new one, which
-/// is synced and takes its place. The second result is how many rows were copied. A copy takes as much room as the file has.
+/// Where a mark is found, an earlier run was killed, or one of its syncs failed. Then what the file holds is copied to a new one,
+/// which is synced and takes its place. The second result is how many rows were copied. A copy takes as much room as the file
+/// has.
 pub fn open_at<R: Files<File = File>>(
     rt: &R,
     alloc: Global,
@@ -227,9 +229,9 @@ pub fn open_at<R: Files<File = File>>(
     Ok((rows, rows_of(lines, head)))
 }
 
-/// Ends the appending to a file that [`open_at`] opened at this path. Where the file was opened with `sync`, and all that it
-/// holds is on the disk, or is by one more sync, the mark beside it is taken away. Where the path leads elsewhere the mark
-/// stays, because it may be another program's.
+/// Ends the appending to a file that [`open_at`] opened at this path. A file opened without `sync` is only closed. One opened
+/// with `sync` is synced once more if some of it may not be on the disk. Where all that it holds is on the disk then, the mark
+/// beside it is taken away. Where the path now leads to another file, the mark stays, because it may be another program's.
 pub fn end_at<R: Files<File = File>>(
     rt: &R,
     alloc: Global,

@@ -1,4 +1,4 @@
-//! A copy of a file of rows, which is synced: behind a sync of a file that failed, the rows go on in a copy of it.
+//! A synced copy of a file of rows: after a sync of the file failed, further rows go into the copy.
 
 ghost use Rattle.std.specs.Prelude.{◌≡◌, ◌≤◌, length, Some, IfOk, OnOk};
 ghost use Rattle.gc_files.specs.Failing.{feed_of, feeds};

@@ -13,7 +13,7 @@
 //!   `sync` a crash of the machine may take the last rows of a run, and those behind them, but never one in between.
 //! - Where only programs end, by themselves or by a kill, each row that went out whole is there, synced or not
 //!   ([`laws::kills_lose_nothing`]).
-//! - An opening, and what is written and synced behind it, is such a run ([`laws::calls_are_runs`]).
+//! - An opening, and what is written and synced after it, is such a run ([`laws::calls_are_runs`]).
 //! - A file in which a sync failed is in doubt, and no row goes into it any more: what it holds is copied ([`copy_lines`]), and the
 //!   copy takes its place. Then the table stays over failed syncs, too ([`laws::tables_outlast_failures`]), and without copies it
 //!   doesn't ([`laws::copies_are_needed`]).
@@ -26,10 +26,10 @@
 //!   feed.
 //!
 //! Outside of that are: an append that failed and wrote a part, and a cut that failed and was made; and a crash that leaves bytes
-//! without those before them, because the system wrote pages back in another order. A sink appends nothing behind a failed call, and
-//! the next opening cuts off half a row. No clause says when a file can be opened, which path is refused, and whether a path leads
-//! to a file; nor that the mark by which [`open_at`] knows a file in doubt is there, and that a copy takes a file's place in one
-//! step.
+//! without those before them, because the system wrote pages back in another order. A sink appends nothing after a failed call,
+//! and the next opening cuts off half a row. No clause says when a file can be opened, which path is refused, and whether a path
+//! leads to a file; nor that the mark by which [`open_at`] knows a file in doubt is there, and that a copy takes a file's place
+//! in one step.
 #![tactic(auto)]
 
 mod appending;

@@ -97,6 +97,7 @@ impl Appending for MemoryFile {
         Ok(self.bytes.len() as u64)
     }
 
+    // Copies the bytes from place `at` on, as many as there are and `buf` has room for.
     fn read_at(&self, at: u64, buf: &mut [u8]) -> Result<usize, PortFailed> {
         let from = (at as usize).min(self.bytes.len());
         let n = buf.len().min(self.bytes.len() - from);
@@ -104,6 +105,7 @@ impl Appending for MemoryFile {
         Ok(n)
     }
 
+    // Keeps the first `len` bytes. It fails where memory was refused.
     fn cut(&mut self, len: u64) -> Result<(), PortFailed> {
         let Ok(next) = self.bytes[..(len as usize).min(self.bytes.len())].to_vec(self.alloc) else {
             return Err(PortFailed);

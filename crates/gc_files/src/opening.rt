@@ -123,8 +123,8 @@ pub(crate) fn end_of_rows<F: Appending>(file: &F, len: u64) -> Result<u64, PortF
     Ok(0)
 }
 
-// Cuts a file of `len` bytes to its first `end`, and syncs that cut before anything is appended. Where they are all, it does
-// nothing.
+// Cuts a file of `len` bytes to its first `end` bytes, and syncs that cut before anything is appended. Where `end` is `len`, it
+// does nothing.
 fn repair<F: Appending>(file: &mut F, len: u64, end: u64) -> Result<(), PortFailed>
     requires len { (known : Life) → F.life file.old ≡ Some known → len ≡ length (content known) }
     requires end { (known : Life) → F.life file.old ≡ Some known → end ≡ length (whole (content known)) }

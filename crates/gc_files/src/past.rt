@@ -25,6 +25,7 @@ pub enum Done<'a> {
     Append(&'a [u8]),
     /// All that the file holds was synced.
     Sync,
+    /// All calls of another past, in order.
     All(&'a Past),
 }
 
@@ -38,7 +39,7 @@ impl Past {
         Past {}
     }
 
-    /// The past with `_done` behind it. Its calls are ghost, so there is nothing to copy.
+    /// The past with the call `_done` added at its end. The calls are ghost, so there is nothing to copy.
     pub fn then(&self, _done: &Done<'_>) -> Past
         ensures { result.steps ≡ self.now.steps ++ steps_done _done.now }
     {

@@ -96,7 +96,7 @@ impl<F: Appending> RowsFile<F> {
     }
 
     // Gives the file back, and says whether all that it holds is on the disk. Where some of it may not be, the file is synced
-    // first, also behind a failed write, unless the file is in doubt.
+    // first, also after a failed write, unless the file is in doubt.
     pub(crate) fn settle(self) -> (F, bool)
         ensures { IsTrue result.1 → (known : Life) → F.life result.0 ≡ Some known → IsKept known }
     {
@@ -145,6 +145,7 @@ impl<F: Appending> Sink for RowsFile<F> {
 
     ghost failed = { λ r. r.broken };
 
+    // Appends bytes to the file, as many as it takes at once, and returns how many. A sink that has failed takes nothing more.
     fn write(&mut self, bytes: &[u8]) -> Result<usize, PortFailed>
         requires { 0 < length bytes.now }
         ensures bytes { TakesBytes (Some (taken_in self.old)) (Some (taken_in self.new)) result bytes.now }

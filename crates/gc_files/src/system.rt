@@ -98,7 +98,7 @@ impl SystemFile {
     }
 }
 
-// The answer, with a failure of the file in place of any error of the system.
+// The result of a call of the system, with an error of any kind as `PortFailed`.
 fn failed<T>(answer: io::Result<T>) -> Result<T, PortFailed> {
     answer.map_err(|_| PortFailed)
 }
@@ -128,6 +128,7 @@ impl Appending for SystemFile {
         failed(self.file.set_len(len))
     }
 
+    // One write of the system. A write that took nothing counts as failed.
     fn append(&mut self, bytes: &[u8]) -> Result<usize, PortFailed> {
         match self.file.write(bytes) {
             Ok(0) | Err(_) => Err(PortFailed),
@@ -135,6 +136,7 @@ impl Appending for SystemFile {
         }
     }
 
+    // Syncs the file's bytes and length. Where that fails, the file is in doubt from then on.
     fn sync(&mut self) -> Result<(), PortFailed> {
         let synced = failed(self.file.sync_data());
         if synced.is_err() {
@@ -144,8 +146,8 @@ impl Appending for SystemFile {
     }
 }
 
-// Refuses a path that leads to anything but a regular file; a path that leads to nothing passes. It looks before the file is opened,
-// because opening a device can already act on it.
+// Refuses a path that leads to anything but a regular file; a path that leads to nothing passes. It looks before the file is
+// opened, because opening a device can already act on it.
 fn expect_file<R: Files<File = File>>(rt: &R, path: &str) -> Result<(), Unfit> {
     match fs::metadata(rt, path) {
         Ok(found) if found.is_file() => Ok(()),
@@ -154,7 +156,8 @@ fn expect_file<R: Files<File = File>>(rt: &R, path: &str) -> Result<(), Unfit> {
     }
 }
 
-/// Opens a regular file by its path for reading and appending. Where the path is free, it makes the file. What stands in it stays.
+/// Opens a regular file by its path for reading and appending. Where the path is free, it makes the file. What stands in it
+/// stays.
 pub fn open_file<R: Files<File = File>>(rt: &R, path: &str) -> Result<SystemFile, Unfit> {
     expect_file(rt, path)?;
     let opened = OpenOptions::new()

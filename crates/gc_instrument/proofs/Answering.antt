@@ -1,4 +1,5 @@
--- What was made for a request is the reply that it has.
+-- What the code wrote for a request is the reply that the definitions give to it (`AnswersRequest`, `IsReplied`, `handed`), and
+-- it says of the call what carrying it out gave.
 use Rattle.std.proofs.Common.{◌≡◌, ◌≢◌, ◌⊎◌, inl, inr, ℕ, zero, suc, ◌<◌, arith, List, cond, ◌==◌, if◌then◌else◌, Some, None, Result, Ok, Err, refl, sym, ap, ◌∙◌, subst, Bool, [], true, false, Option}
 use Rattle.std.specs.Prelude.{unwrap_or}
 use Rattle.gc_lines.specs.Lines.{IsPlain}
@@ -27,7 +28,7 @@ use Rattle.gc_instrument.specs.State.{State, IsFittingState}
 use Rattle.gc_instrument.specs.Execution.{Executed, Executes, exec}
 use Rattle.gc_instrument.specs.Replying.{IsReplied, silent, answers, AnswersCall, repeats, executes, AnswersRequest, refuses, answers_call, AppendsCall, AppendsReply, IsAnswered, IsExchanged, Handed, handed, again_or_new, kept_line, with_kept, reading_of, refusal_line, executed_line, reply_id}
 
--- the line written of a call's outcome is the line of carrying out the call
+-- the reply line written of the code and the answer that a call gave is `executed_line` of the call
 pub executed_is : (before after : State) (call : Call) (number code places : ℕ) (answer : Answer) → Executes before call after code answer
     → places ≡ after.precision → reply_line number code answer places ≡ executed_line number (exec before call)
 executed_is before after call number code places answer done precision =
@@ -38,12 +39,12 @@ pub refused_reply : (state : State) (q : RequestFields) (fault : CallFault) (num
     → IsRefusal q.rpc q.params fault → number ≡ reply_id q → line ≡ refusal_line number fault → AnswersRequest state q state line
 refused_reply state q fault number line is same made = refuses fault is refl (made ∙ ap (λ n. refusal_line n fault) same)
 
--- the answer to a request that a line reads as is the reply to the line
+-- where a line reads as this request, what an instrument does with the request is what it does with the line
 pub request_replied : (before after : State) (line bytes : List ℕ) (q : RequestFields) (text : List ℕ) → bytes ≡ line → IsRequest bytes q
     → AnswersRequest before q after text → IsReplied before line after (Some text)
 request_replied before after line bytes q text same is made = answers q (subst (λ (x : List ℕ). IsRequest x q) same is) text made refl
 
--- a line that doesn't read as a request gets no reply
+-- a line that doesn't read as a request gets no reply. The premise about `view` is the contract of the reading that failed
 pub silence_replied : (state : State) (line bytes : List ℕ) (fault : LineFault) (view : Request → RequestFields) → bytes ≡ line
     → ((q : RequestFields) → IsRequest bytes q → Gives view (Err fault) (Ok q)) → IsReplied state line state None
 silence_replied state line bytes fault view same only =
@@ -54,15 +55,15 @@ zero_or_more : (n : ℕ) → (n ≡ 0) ⊎ (n ≢ 0)
 zero_or_more zero = inl refl
 zero_or_more (suc n) = inr (λ h. omega (arith, h))
 
--- the choice by a number that is 0
+-- a choice by whether n is 0 gives a, where n is 0
 at_zero : (n : ℕ) (a b : Reading) → n ≡ 0 → (if n == 0 then a else b) ≡ a
 at_zero n a b h = ap (λ (m : ℕ). if m == 0 then a else b) h
 
--- the choice by a number that isn't 0
+-- a choice by whether n is 0 gives b, where n isn't 0
 past_zero : (n : ℕ) (a b : Reading) → n ≢ 0 → (if n == 0 then a else b) ≡ b
 past_zero n a b h = ap (λ (t : Bool). cond t a b) (ne_eqb n 0 h)
 
--- an outcome's line that reads back as the outcome's reading answers the call
+-- where the reply line of a call's outcome reads back as the outcome's reading, it says of the call what carrying it out gave
 reads_as : (before : State) (number : ℕ) (call : Call) (x : Executed) (reading : Reading) → exec before call ≡ x → reading_of x ≡ reading
     → ReadsBackAnswer call number x.rc x.answer x.state.precision reading → IsAnswered before number call (executed_line number x)
 reads_as before number call x reading e same back = record {
@@ -72,7 +73,8 @@ reads_as before number call x reading e same back = record {
   reading = subst (λ (r : Reading). IsReading call (reply_of number x.rc x.answer x.state.precision) r) (sym (ap reading_of e ∙ same)) back.is_reading;
 }
 
--- a reply that reads back says of its call what carrying it out gave
+-- where the reply line of a call's outcome reads back as the answer, if the code is 0, and else as the refusal, that line says of
+-- the call what carrying the call out gave
 pub reads_executed : (before : State) (number : ℕ) (call : Call) (x : Executed) → exec before call ≡ x
     → (x.rc ≡ 0 → ReadsBackAnswer call number x.rc x.answer x.state.precision (Value (rounded_answer x.state.precision x.answer)))
     → (x.rc ≢ 0 → ReadsBackAnswer call number x.rc x.answer x.state.precision (Refused x.rc)) → IsAnswered before number call (executed_line number x)
@@ -81,7 +83,8 @@ reads_executed before number call x e done refused = elim (zero_or_more x.rc) [
   | inr h ↦ reads_as before number call x (Refused x.rc) e (past_zero x.rc _ _ h) (refused h)
 ]
 
--- a line that was written of a call's code and answer, and reads back, says of its call what carrying it out gave
+-- where the line written of the code and the answer that a call gave, with the precision after it, reads back as that answer,
+-- or as the refusal where the code isn't 0, it says of the call what carrying it out gave
 pub made_answered : (before after : State) (call : Call) (number code places : ℕ) (answer : Answer) → Executes before call after code answer → places ≡ after.precision
     → (code ≡ 0 → IsAnswerOf call answer → ReadsBackAnswer call number code answer places (Value (rounded_answer places answer)))
     → (code ≢ 0 → ReadsBackAnswer call number code answer places (Refused code))
@@ -110,7 +113,7 @@ pub handed_new : (s : State) (id : ℕ) (call : Call) → kept_line s.kept (Some
 unfolding handed
 handed_new s id call e = ap (again_or_new s id call) e
 
--- what was done with a call is what handing over its request line gives
+-- what an instrument does with a call (`AnswersCall`) is what `handed` gives: the same state and the same reply
 pub handed_does : (before after : State) (id : ℕ) (call : Call) (text : List ℕ) → AnswersCall before (Some id) call after text
     → (after ≡ (handed before id call).state) × (text ≡ (handed before id call).reply)
 handed_does before after id call text (repeats e same) =
@@ -122,7 +125,7 @@ handed_does before after id call text (executes e state line) =
       line ∙ sym (ap (λ (x : Handed State). x.reply) h),
     )
 
--- the answer to a call's own request exchanges the call
+-- what an instrument does with the request that names this call, with this id, is as `IsExchanged` has it
 pub exchanged : (before after : State) (q : RequestFields) (id : ℕ) (call : Call) (text : List ℕ) → q.id ≡ Some id → IsCall q.rpc q.params call
     → AnswersRequest before q after text → IsPlain text → (kept_line before.kept q.id ≡ None → IsAnswered before (reply_id q) call text) → IsExchanged before id call after (Some text)
 exchanged before after q id call text same is (refuses fault refusal state line) plain answered = absurd (no_refusal q.rpc q.params call fault is refusal)
@@ -140,7 +143,7 @@ exchanged before after q id call text same is (answers_call made is_made does) p
           (subst (λ (n : ℕ). IsAnswered before n call text) (ap (λ (o : Option ℕ). unwrap_or o 0) same) (answered (ap (kept_line before.kept) same ∙ new)));
     }
 
--- in a state that fits, the line of carrying out a call answers the call
+-- in a state that fits, the reply line of a call says of the call what carrying it out gave
 pub executed_answered : (s : State) (id : ℕ) (call : Call) → IsFittingState s → id < 8 → IsFitting call → IsAnswered s id call (executed_line id (exec s call))
 executed_answered s id call good small fits =
     let x = exec s call in
@@ -151,7 +154,7 @@ executed_answered s id call good small fits =
     (λ h. subst (λ (a : Answer). ReadsBackAnswer call id x.rc a x.state.precision (Refused x.rc)) (sym (outcome.refuses h))
     (refusal_again call id x.rc x.state.precision small (omega (arith, h)) outcome.code))
 
--- in a state that fits, handing over a request whose id isn't the kept one answers the call
+-- in a state that fits, the reply to a request whose id isn't the kept one says of the call what carrying it out gave
 pub handed_answered : (s : State) (id : ℕ) (call : Call) → IsFittingState s → id < 8 → IsFitting call → kept_line s.kept (Some id) ≡ None → IsAnswered s id call (handed s id call).reply
 handed_answered s id call good small fits new =
     subst (λ (h : Handed State). IsAnswered s id call h.reply) (sym (handed_new s id call new)) (executed_answered s id call good small fits)
@@ -160,7 +163,8 @@ handed_answered s id call good small fits new =
 own_request : (id : ℕ) (call : Call) → id < 8 → IsFitting call → IsRequest (request_line (Some id) call) (request_of (Some id) call)
 own_request id call small fits = request_found (request_line (Some id) call) (request_of (Some id) call) (call_again (Some id) call small fits).line
 
--- the answer to the request that a call's own line reads as exchanges the call
+-- where a line is the request line of this call, what an instrument does with the request that it reads as is as `IsExchanged`
+-- has it
 pub line_exchanged : (before after : State) (line bytes : List ℕ) (q : RequestFields) (id : ℕ) (call : Call) (text : List ℕ) → bytes ≡ line
     → IsRequest bytes q → id < 8 → IsFitting call → line ≡ request_line (Some id) call
     → AnswersRequest before q after text → ((d : Call) → IsCall q.rpc q.params d → IsPlain text)
@@ -170,7 +174,8 @@ line_exchanged before after line bytes q id call text same is small fits own mad
     let call_is : IsCall q.rpc q.params call = subst (λ (p : RequestFields). IsCall p.rpc p.params call) (sym q_is) (call_again (Some id) call small fits).is_call in
     exchanged before after q id call text (ap (λ (p : RequestFields). p.id) q_is) call_is made (plain call call_is) (answered call call_is)
 
--- where a line didn't read as a request, nothing is left to show of a call whose line it is: each call's own line does read as one
+-- a line that doesn't read as a request isn't a call's request line, which always does: so whatever is claimed of such a line
+-- holds
 pub silence_exchanged : (state : State) (line bytes : List ℕ) (fault : LineFault) (view : Request → RequestFields) (id : ℕ) (call : Call) → bytes ≡ line
     → ((q : RequestFields) → IsRequest bytes q → Gives view (Err fault) (Ok q)) → id < 8 → IsFitting call → line ≡ request_line (Some id) call → IsExchanged state id call state None
 silence_exchanged state line bytes fault view id call same only small fits own =
@@ -184,14 +189,14 @@ pub kept_or_not : (o : Option (List ℕ)) → ((line : List ℕ) × (o ≡ Some 
 kept_or_not (Some line) = inl (line, refl)
 kept_or_not None = inr refl
 
--- handing over a call's request is what an instrument does with the call
+-- what `handed` gives is what an instrument does with the call (`AnswersCall`)
 pub handed_answers : (s : State) (id : ℕ) (call : Call) → AnswersCall s (Some id) call (handed s id call).state (handed s id call).reply
 handed_answers s id call = elim (kept_or_not (kept_line s.kept (Some id))) [
   | inl h ↦ subst (λ (x : Handed State). AnswersCall s (Some id) call x.state x.reply) (sym (handed_again s id call h.0 h.1)) (repeats h.1 refl)
   | inr e ↦ subst (λ (x : Handed State). AnswersCall s (Some id) call x.state x.reply) (sym (handed_new s id call e)) (executes e refl refl)
 ]
 
--- handing over a call's request line is what an instrument does with that line
+-- what `handed` gives is what an instrument does with the call's request line (`IsReplied`)
 pub handed_replied : (s : State) (id : ℕ) (call : Call) → id < 8 → IsFitting call → IsReplied s (request_line (Some id) call) (handed s id call).state (Some (handed s id call).reply)
 handed_replied s id call small fits =
     answers (request_of (Some id) call) (own_request id call small fits) (handed s id call).reply (answers_call call (call_again (Some id) call small fits).is_call (handed_answers s id call)) refl
@@ -200,7 +205,7 @@ handed_replied s id call small fits =
 pub replied_alone : (s t : State) (line new : List ℕ) → AppendsAnswer (IsReplied s line t) [] new true → IsReplied s line t (Some new)
 replied_alone s t line new h = subst (λ (text : List ℕ). IsReplied s line t (Some text)) (sym h.2) h.1
 
--- where a reply that exchanges a call was appended to the empty text, the text is then a reply that does
+-- where a reply to a call, as `IsExchanged` has it, was appended to the empty text, the text is then that reply
 pub exchanged_alone : (s t : State) (id : ℕ) (call : Call) (new : List ℕ) → AppendsAnswer (IsExchanged s id call t) [] new true → IsExchanged s id call t (Some new)
 exchanged_alone s t id call new h = subst (λ (text : List ℕ). IsExchanged s id call t (Some text)) (sym h.2) h.1
 

@@ -1,4 +1,6 @@
--- What every execution is: the instrument stays itself, its values fit, and beside a code other than 0 stands no answer.
+-- What holds of the outcome of every call, `ComesOut`: the serial number, the name and the scene stay, the values lie in their
+-- types, and with a code other than 0 comes no answer. A call *comes out* where this holds of its outcome. A state *fits* where
+-- its values lie in their types (`IsFittingState`).
 use Rattle.std.proofs.Common.{◌≡◌, ℕ, ℤ, pos, negsuc, ◌<◌, ◌≤◌, ◌&&◌, ◌||◌, Bool, true, false, cond, T, Option, Some, None, refl, sym, subst, lit≤, arith}
 use Rattle.std.specs.Prelude.{int_lt, int_le, nat_le, unsigned_abs}
 use Rattle.std.specs.Ordering.{int_eq}
@@ -23,7 +25,8 @@ use Rattle.gc_instrument.specs.declared.face.Face.{Face}
 use Rattle.gc_instrument.specs.declared.face.Face.TheVariants.{Normal, Turned}
 use Rattle.gc_instrument.specs.declared.target.Target.{Target}
 
--- a call that was carried out comes out, where the instrument stays itself, its values fit, and the answer is the call's
+-- a call that was carried out comes out, where serial number, name and scene stay, the values fit, and the answer is one of
+-- that call
 done_outcome : (s t : State) (call : Call) (a : Answer) → opening_of t ≡ opening_of s → (IsFittingState s → IsFittingState t) → IsAnswerOf call a
     → (IsFittingState s → IsFitting call → IsFittingAnswer a) → ComesOut s call (done t a)
 done_outcome s t call a same fits of_call answer_fits = record {
@@ -35,7 +38,7 @@ done_outcome s t call a same fits of_call answer_fits = record {
   answer_fits = answer_fits;
 }
 
--- a call that was refused comes out, where the instrument stays itself and its values fit
+-- a call that was refused comes out, where serial number, name and scene stay, and the values fit
 refused_outcome : (s t : State) (call : Call) (code : ℕ) → opening_of t ≡ opening_of s → (IsFittingState s → IsFittingState t) → 0 < code → code < 65536 → ComesOut s call (refused t code)
 refused_outcome s t call code same fits some small = record {
   same = same;
@@ -46,7 +49,7 @@ refused_outcome s t call code same fits some small = record {
   answer_fits = λ _ _. tt;
 }
 
--- a call that only answers comes out
+-- a call that only answers comes out, where the answer is one of that call, and its values fit
 told_outcome : (s : State) (call : Call) (a : Answer) → IsAnswerOf call a → (IsFittingState s → IsFitting call → IsFittingAnswer a) → ComesOut s call (done s a)
 told_outcome s call a of_call answer_fits = done_outcome s s call a refl (λ f. f) of_call answer_fits
 
@@ -61,12 +64,14 @@ moved s t p n l d r k f = record {
   kept = subst IsFittingKept k f.kept;
 }
 
--- a call that sets a value, if that is allowed, comes out
+-- a call that leads from the state s to t if that is allowed (b is true), and else is refused and leaves s, comes out either way: if t has
+-- the serial number, name and scene of s; if t, where it is allowed, fits whenever s does; and if the call is answered without values
 set_outcome : (b : Bool) (s t : State) (call : Call) → opening_of t ≡ opening_of s → (b ≡ true → IsFittingState s → IsFittingState t) → IsAnswerOf call Nothing → ComesOut s call (set_if b s t)
 set_outcome true s t call same fits of_call = done_outcome s t call Nothing same (fits refl) of_call (λ _ _. tt)
 set_outcome false s t call same fits of_call = refused_outcome s s call 2 refl (λ f. f) (omega arith) (omega arith)
 
--- a call that answers with a distance, or has none, comes out
+-- a call that answers with the distance d, or is refused where there is none, comes out, where serial number, name and scene
+-- stay, and the values fit
 with_outcome : (s t : State) (call : Call) (answer_with : Decimal → Answer) (d : Option Decimal) → opening_of t ≡ opening_of s → (IsFittingState s → IsFittingState t)
     → ((x : Decimal) → IsAnswerOf call (answer_with x)) → ((x : Decimal) → IsFitting call → IsFittingAnswer (answer_with x)) → ComesOut s call (told t answer_with d)
 with_outcome s t call answer_with (Some d) same fits of_call answer_fits = done_outcome s t call (answer_with d) same fits (of_call d) (λ _ c. answer_fits d c)
@@ -75,6 +80,7 @@ with_outcome s t call answer_with None same fits of_call answer_fits = refused_o
 -- measuring as commanded comes out
 commanded_outcome : (s : State) (call : Call) (command : ℤ) → IsAnswerOf call Nothing → ComesOut s call (commanded s command)
 commanded_outcome s call command of_call = by_tests (int_eq command (pos 0)) (int_eq command (pos 1)) (int_eq command (pos 3)) where
+  -- whichever outcome the three tests of the command choose, it comes out
   by_tests : (a b c : Bool) → ComesOut s call (cond a (done s Nothing) (cond b (done (measured s) Nothing) (cond c (done (unmeasured s) Nothing) (refused s 2))))
   by_tests true b c = told_outcome s call Nothing of_call (λ _ _. tt)
   by_tests false true c = done_outcome s (measured s) call Nothing refl (moved s (measured s) refl refl refl refl refl refl) of_call (λ _ _. tt)
@@ -89,6 +95,7 @@ adjusted_outcome s call None of_call = refused_outcome s s call 8710 refl (λ f.
 -- looking for a target within areas comes out
 searched_outcome : (s : State) (call : Call) (area_hz area_v : Decimal) → IsAnswerOf call Nothing → ComesOut s call (searched s area_hz area_v)
 searched_outcome s call area_hz area_v of_call = by_test (int_lt area_hz.digits (pos 0) || int_lt area_v.digits (pos 0)) where
+  -- whether an area is below zero (true) or none is, the outcome comes out
   by_test : (b : Bool) → ComesOut s call (cond b (refused s 2) (adjusted s (first_within s.pointing area_hz area_v s.scene)))
   by_test true = refused_outcome s s call 2 refl (λ f. f) (omega arith) (omega arith)
   by_test false = adjusted_outcome s call (first_within s.pointing area_hz area_v s.scene) of_call
@@ -119,7 +126,8 @@ short_fits : (z : ℤ) → int_le (pos 1) z ≡ true → int_le z (pos 9999) ≡
 short_fits (pos k) low high = let few : k ≤ 9999 = at_most k 9999 high in (omega (arith, ints), omega (arith, ints, few))
 short_fits (negsuc k) low high = let wrong : ⊥ = cc in absurd wrong
 
--- where all tests of a date hold, each that its values' ranges need does
+-- where all nine tests of a date hold, a to i in the order of `is_date`, so does each that the ranges of its values need: all
+-- but c and e, that month and day are at least 1
 tests : (a b c d e f g h i : Bool) → a && b && c && d && e && f && g && h && i ≡ true
     → (a ≡ true) × (b ≡ true) × (d ≡ true) × (f ≡ true) × (g ≡ true) × (h ≡ true) × (i ≡ true)
 tests a b c d e f g h i all =
@@ -181,7 +189,7 @@ dated s d h f = record { precision = f.precision; serial = f.serial; name = f.na
 prismed : (s : State) (n : ℤ) → is_prism n ≡ true → IsFittingState s → IsFittingState (record s { prism = n })
 prismed s n h f = record { precision = f.precision; serial = f.serial; name = f.name; date = f.date; prism = prism_fits n h; kept = f.kept }
 
--- what the rows of the table are made of
+-- the lemmas of which the search proves each row of the execution table
 ruleset row_rules = (told_outcome, done_outcome, set_outcome, with_outcome, commanded_outcome, searched_outcome, moved, precise, dated, prismed, face_fits, precision_fits, arith)
 
 -- every call comes out in every state. A new row is made of the same parts, so it needs nothing here

@@ -1,4 +1,4 @@
--- Frames that an instrument answered are lines that it was handed.
+-- Frames that an instrument answered are lines that it was handed; frames that are no lines are passed over.
 use Rattle.std.proofs.Common.{◌≡◌, ℕ, ◌+◌, ◌<◌, List, [], ◌∷◌, ◌++◌, length, map, take, suc, Option, Some, None, Result, Ok, Err, refl, sym, ap, ◌∙◌, subst, true, false, append_assoc}
 use Rattle.std.specs.List.{filter_map}
 use Rattle.std.specs.Option.{option_map, option_to_list}
@@ -33,18 +33,19 @@ unanswered_line before after line old new h = ((None, h.0, refl), h.1)
 abbrev pub lines_of : List Frame → List (List ℕ)
 lines_of seen = filter_map line_in seen
 
--- a function goes over an optional element in front of a list and over the list alike
+-- mapping f over an optional element, and over the list behind it, is mapping f over the two in a row
 mapped : {X Y : Type 0} (f : X → Y) (o : Option X) (xs : List X) → option_to_list (option_map f o) ++ map f xs ≡ map f (option_to_list o ++ xs)
 mapped f None xs = refl
 mapped f (Some x) xs = refl
 
--- what the lines of frames were heard as, and that the texts are the replies with their CR LF
+-- the lines among these frames take the instrument from s to t, and the texts are its replies, each with its CR LF
 record Heard (s t : State) (seen : List Frame) (texts : List (List ℕ)) : Type 0 where
   replies : List (List ℕ)
   hears : Hears s (lines_of seen) t replies
   texts_are : texts ≡ map with_end replies
 
--- frames that are heard are so, too, with one more line in front, whose reply comes in front of theirs
+-- where a line takes the instrument from s to u, and `Heard` holds of frames from u to t, it holds of the line and those frames
+-- from s to t, with the line's reply, if there is one, in front
 heard_line : (s u t : State) (line : List ℕ) (reply text : Option (List ℕ)) (later : List Frame) (rest texts : List (List ℕ)) → IsReplied s line u reply → text ≡ option_map with_end reply
     → Heard u t later rest → texts ≡ option_to_list text ++ rest → Heard s t (Line (record { items = line }) ∷ later) texts
 heard_line s u t line reply text later rest texts replied text_is h are = record {
@@ -54,7 +55,8 @@ heard_line s u t line reply text later rest texts replied text_is h are = record
       ∙ ap (λ (ts : List (List ℕ)). option_to_list (option_map with_end reply) ++ ts) h.texts_are ∙ mapped with_end reply h.replies;
 }
 
--- frames that are heard are so, too, with a frame in front that is no line and changes nothing
+-- for a frame that is no line, which leaves the state as it is and has no text: where `Heard` holds of the frames behind it
+-- from the state u after it, it holds of them from the state s before it
 heard_silence : (s u t : State) (text : Option (List ℕ)) (seen : List Frame) (rest texts : List (List ℕ)) → u ≡ s → text ≡ None → Heard u t seen rest
     → texts ≡ option_to_list text ++ rest → Heard s t seen texts
 heard_silence s u t text seen rest texts same none h are = record {
@@ -63,7 +65,7 @@ heard_silence s u t text seen rest texts same none h are = record {
   texts_are = are ∙ ap (λ (o : Option (List ℕ)). option_to_list o ++ rest) none ∙ h.texts_are;
 }
 
--- frames that have the same lines are heard alike
+-- where `Heard` holds of frames, it holds of other frames that have the same lines
 silent_frame : (s u t : State) (seen more : List Frame) (texts : List (List ℕ)) → lines_of more ≡ lines_of seen → Heard s t seen texts → Heard s t more texts
 silent_frame s u t seen more texts same h = record {
   replies = h.replies;
@@ -84,7 +86,7 @@ written_as : (replies : List (List ℕ)) → all_of (map with_end replies) ≡ r
 written_as [] = refl
 written_as (reply ∷ later) = ap (λ (bytes : List ℕ). with_end reply ++ bytes) (written_as later)
 
--- a function over a list keeps its length
+-- mapping a function over a list keeps its length
 length-mapped : {X Y : Type 0} (f : X → Y) (xs : List X) → length (map f xs) ≡ length xs
 length-mapped f [] = refl
 length-mapped f (x ∷ xs) = ap suc (length-mapped f xs)
@@ -114,7 +116,7 @@ drawn_line : (s t : State) (line : List ℕ) (reply : Option (List ℕ)) (text :
 drawn_line s t line None text replied is = let wrong : ⊥ = cc in absurd wrong
 drawn_line s t line (Some reply) text replied is = record { line = line; reply = reply; is_line = λ later. refl; replied = replied; text_is = cc }
 
--- a text that is there isn't missing
+-- `Some text` isn't `None`
 never : (text : List ℕ) → ◌≡◌ {A = Option (List ℕ)} (Some text) None → ⊥
 never text is = cc
 
@@ -153,7 +155,8 @@ serves_frames s t seen a b (Err (Read n)) h = all_serves s t seen a b 0 n h
 serves_frames s t seen a b (Err (Write n bytes)) h = part_serves s t seen a b 0 n bytes h
 serves_frames s t seen a b (Err (TooManyReads n)) h = all_serves s t seen a b 0 n h
 
--- the lines of a stream that ends in a line feed, and of another behind it, are those of the one and then those of the other
+-- the lines of two streams, one behind the other, of which the first is empty or ends in a line feed, are those of the first and
+-- then those of the second
 pub lines-next : (first next : List ℕ) → rest_of first ≡ [] → lines (first ++ next) ≡ lines first ++ lines next
 lines-next first next none =
     ap lines_of (frames-append first next) ∙ filter_map-append line_in (frames first) (frames_behind (rest_behind [] first) next)

@@ -1,4 +1,4 @@
--- Lines that are handed on one list after another: what stands after them, and what is written.
+-- Two lists of lines, handed to an instrument one after the other: the state after them, and what is written.
 use Rattle.std.proofs.Common.{◌≡◌, ℕ, List, [], ◌∷◌, ◌++◌, Option, refl, sym, ap, ◌∙◌, subst, append_assoc}
 use Rattle.std.specs.Option.{option_to_list}
 use Rattle.std.proofs.lemmas.List.{append-nil}
@@ -8,7 +8,7 @@ use Rattle.gc_instrument.specs.State.{State}
 use Rattle.gc_instrument.specs.Replying.{IsReplied}
 use Rattle.gc_instrument.specs.Hearing.{Hears, replies_text}
 
--- hearing lines, and then others from the state behind them, is hearing all of them
+-- hearing lines, and then others from the state after them, is hearing all of them
 pub hears_then : (s t u : State) (xs ys ps qs : List (List ℕ)) → Hears s xs t ps → Hears t ys u qs → Hears s (xs ++ ys) u (ps ++ qs)
 hears_then s t u [] ys ps qs first next =
     rw first.1 (subst (λ (v : State). Hears v ys u qs) first.0 next)
@@ -21,7 +21,7 @@ hears_then s t u (x ∷ xs) ys ps qs first next = (
   ap (λ (zs : List (List ℕ)). zs ++ qs) first.5 ∙ append_assoc (option_to_list first.1) first.2 qs,
 )
 
--- hearing one line is replying to it
+-- where `IsReplied` holds of a line, `Hears` holds of that line alone, with its reply, if there is one
 pub hears_one : (s t : State) (line : List ℕ) (reply : Option (List ℕ)) → IsReplied s line t reply → Hears s (line ∷ []) t (option_to_list reply)
 hears_one s t line reply h = (t, reply, [], h, (refl, refl), sym (append-nil (option_to_list reply)))
 

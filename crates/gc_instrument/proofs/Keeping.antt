@@ -1,4 +1,4 @@
--- What is kept, and what becomes of it.
+-- The reply that an instrument keeps: for which id it is found, that no call depends on it, and what is kept after an execution.
 use Rattle.std.proofs.Common.{◌≡◌, ℤ, pos, ◌||◌, Bool, true, false, cond, ℕ, List, Option, Some, None, refl, sym, ap, ◌∙◌, subst, eqb, ◌+◌, ◌-◌, [], ◌∷◌, ◌++◌, length, take, drop, arith, length-append}
 use Rattle.std.specs.Prelude.{int_lt, unwrap_or}
 use Rattle.std.proofs.lemmas.List.{take_all}
@@ -19,7 +19,7 @@ use Rattle.gc_instrument.specs.State.{State, KeptReply, IsFittingState, IsFittin
 use Rattle.gc_instrument.specs.Targets.{first_within}
 use Rattle.gc_instrument.specs.declared.target.Target.{Target}
 
--- the id of what is kept is the id that was put there
+-- what `kept_in` keeps of an id and a line has that id
 pub id_kept : (id : Option ℕ) (line : List ℕ) → id ≡ option_map (λ (k : KeptReply). k.id) (kept_in id line)
 id_kept None line = refl
 id_kept (Some id) line = refl
@@ -35,7 +35,7 @@ pub none_kept : (id asked : Option ℕ) (line : List ℕ) → id ≡ None → No
 none_kept None asked line e = refl
 none_kept (Some n) asked line e = let never : ⊥ = cc in absurd never
 
--- a choice by a test is that by the test's answer
+-- where b is c, a choice by c is the choice by b
 by_test : (b : Bool) (o p : Option (List ℕ)) (c : Bool) → b ≡ c → cond c o p ≡ cond b o p
 by_test b o p c e = ap (λ x. cond x o p) (sym e)
 
@@ -50,7 +50,7 @@ pub other_kept : (id asked : Option ℕ) (k n : ℕ) (line : List ℕ) → id �
 other_kept id asked k n line e f other =
     subst (λ o. None ≡ kept_line (kept_in o line) asked) (sym e) (subst (λ o. None ≡ kept_line (Some (record { id = k; line = line })) o) (sym f) (by_test (eqb k n) (Some line) None false other))
 
--- What is kept doesn't count for a call. Each of these begins with what came of it, from which the search knows the rest.
+-- The outcome of a call doesn't depend on what is kept. Each equation has that outcome on its left, by which the search finds it.
 
 -- setting a value doesn't depend on what is kept
 set_apart : (b : Bool) (s t : State) (kept : Option KeptReply) → executed_with kept (set_if b s t) ≡ set_if b (with_kept kept s) (with_kept kept t)
@@ -69,6 +69,7 @@ rows t a b c = cond a (done t Nothing) (cond b (done (measured t) Nothing) (cond
 -- measuring as commanded doesn't depend on what is kept
 commanded_apart : (s : State) (kept : Option KeptReply) (command : ℤ) → executed_with kept (commanded s command) ≡ commanded (with_kept kept s) command
 commanded_apart s kept command = by_tests (int_eq command (pos 0)) (int_eq command (pos 1)) (int_eq command (pos 3)) where
+  -- whichever outcome the three tests of the command choose, it doesn't depend on what is kept
   by_tests : (a b c : Bool) → executed_with kept (rows s a b c) ≡ rows (with_kept kept s) a b c
   by_tests true b c = refl
   by_tests false true c = refl
@@ -83,12 +84,13 @@ adjusted_apart s kept (Some t) = refl
 -- looking for a target doesn't depend on what is kept
 searched_apart : (s : State) (kept : Option KeptReply) (area_hz area_v : Decimal) → executed_with kept (searched s area_hz area_v) ≡ searched (with_kept kept s) area_hz area_v
 searched_apart s kept area_hz area_v = by_test (int_lt area_hz.digits (pos 0) || int_lt area_v.digits (pos 0)) where
+  -- whether an area is below zero (true) or none is, the outcome doesn't depend on what is kept
   by_test : (b : Bool) → executed_with kept (cond b (refused s 2) (adjusted s (first_within s.pointing area_hz area_v s.scene))) ≡ cond b
       (refused (with_kept kept s) 2) (adjusted (with_kept kept s) (first_within s.pointing area_hz area_v s.scene))
   by_test true = refl
   by_test false = adjusted_apart s kept (first_within s.pointing area_hz area_v s.scene)
 
--- what the rows of the table are made of
+-- the lemmas of which the search proves each row of the execution table
 ruleset apart_rules = (set_apart, told_apart, commanded_apart, searched_apart)
 
 -- no call's outcome depends on what is kept. A new row is made of the same parts, so it needs nothing here
@@ -97,7 +99,7 @@ unfolding exec
 by_rows s kept NullProc = refl
 by_rows s kept call = search apart_rules
 
--- the reply that is kept neither counts for a call nor is changed by it
+-- what carrying out a call gives doesn't depend on the reply that is kept, and leaves that reply as it is
 pub executes_apart : ExecutesApart
 executes_apart s kept call = sym (by_rows s kept call)
 
@@ -128,11 +130,12 @@ behind old new all text start same is first = ap (λ xs. take (length xs - start
 number_is : (id : Option ℕ) (n number : ℕ) → id ≡ Some n → number ≡ unwrap_or id 0 → number ≡ n
 number_is id n number e same = same ∙ ap (λ o. unwrap_or o 0) e
 
--- a state that fits does so with a reply kept that fits
+-- where a state's values lie in their types, they still do with another line kept, if that is a reply with the id kept with it
 pub fits_kept : (s : State) (kept : Option KeptReply) → IsFittingState s → IsFittingKept kept → IsFittingState (with_kept kept s)
 fits_kept s kept h k = record { precision = h.precision; serial = h.serial; name = h.name; date = h.date; prism = h.prism; kept = k }
 
--- keeping a reply to a request with its id leaves the instrument fit, and what is kept plain
+-- where a state's values lie in their types, and its kept line has neither CR nor LF, both are still so once the reply to a
+-- request is kept with the request's id
 pub sound_keeping : (s : State) (id : Option ℕ) (kept : Option KeptReply) (number : ℕ) (line : List ℕ) (fields : ReplyFields) → IsFittingState s
     → IsPlainKept s.kept → kept ≡ kept_after s.kept id line → number ≡ unwrap_or id 0
     → IsReply line fields → fields.id ≡ Some number → IsPlain line → IsFittingState (with_kept kept s) × IsPlainKept kept
@@ -143,7 +146,7 @@ sound_keeping s (Some n) kept number line fields h plain is same reply own one =
   subst IsPlainKept (sym is) one,
 )
 
--- carrying out a call whose id isn't kept, and keeping the reply, is what an instrument does with the call
+-- carrying out a call whose id isn't the kept one, and keeping the reply, is what `AppendsCall` says of that call
 pub kept_anew : (before after : State) (id : Option ℕ) (number : ℕ) (call : Call) (old new line : List ℕ) (kept : Option KeptReply) → number ≡ unwrap_or id 0 → kept_line before.kept id ≡ None
     → (h : AppendsExecuted before number call after old new) → line ≡ h.text → kept ≡ kept_after after.kept id line → AppendsCall before id call (with_kept kept after) old new
 kept_anew before after id number call old new line kept same none h line_is kept_is =

@@ -15,7 +15,7 @@ use Rattle.gc_instrument.proofs.HeardFrames.{lines-next}
 abbrev AreForeign : List (List ℕ) → Type 0
 AreForeign heard = AllByRecursion (λ line. (q : RequestFields) → ¬ IsRequest line q) heard
 
--- lines that are no requests may be put in front
+-- with lines that are no requests put in front, lines have the same replies, and lead to the same state
 put_in : (s t : State) (foreign later ps : List (List ℕ)) → AreForeign foreign → Hears s later t ps → Hears s (foreign ++ later) t ps
 put_in s t [] later ps none h = h
 put_in s t (line ∷ foreign) later ps none h = (s, None, ps, silent none.0 refl refl, put_in s t foreign later ps none.1 h, refl)
@@ -25,7 +25,7 @@ stays : (s u : State) (line : List ℕ) (reply : Option (List ℕ)) → ((q : Re
 stays s u line reply none (silent never same quiet) = (same, quiet)
 stays s u line reply none (answers q is text does told) = absurd (none q is)
 
--- lines that are no requests may be taken off the front
+-- without lines that are no requests in front, lines have the same replies, and lead to the same state
 take_out : (s t : State) (foreign later ps : List (List ℕ)) → AreForeign foreign → Hears s (foreign ++ later) t ps → Hears s later t ps
 take_out s t [] later ps none h = h
 take_out s t (line ∷ foreign) later ps none h =
@@ -34,17 +34,17 @@ take_out s t (line ∷ foreign) later ps none h =
     let all : ps ≡ h.2 = h.5 ∙ ap (λ (reply : Option (List ℕ)). option_to_list reply ++ h.2) same.1 in
     subst (λ (qs : List (List ℕ)). Hears s later t qs) (sym all) (subst (λ (u : State). Hears u later t h.2) same.0 rest)
 
--- where two lists of lines are heard alike, they are so behind the same lines
+-- where ys have the replies of xs and lead where xs lead, from any state, they still do with the lines `first` in front of both
 behind : (s t : State) (first xs ys ps : List (List ℕ)) → ((u : State) (qs : List (List ℕ)) → Hears u xs t qs → Hears u ys t qs) → Hears s (first ++ xs) t ps → Hears s (first ++ ys) t ps
 behind s t [] xs ys ps change h = change s ps h
 behind s t (line ∷ first) xs ys ps change h = (h.0, h.1, h.2, h.3, behind h.0 t first xs ys h.2 change h.4, h.5)
 
--- a stream that is empty or ends in a line feed has no rest
+-- a stream that is empty or ends in a line feed has no bytes behind its last line feed
 whole_rest : (stream : List ℕ) → IsWhole stream → rest_of stream ≡ []
 whole_rest stream (inl e) = ap rest_of e
 whole_rest stream (inr ends) = ap rest_of ends.1 ∙ rest-append [] ends.0 (10 ∷ [])
 
--- streams whose lines are heard alike have the same output
+-- where the lines of y have the replies of those of x and lead to the same state, y has the output of x
 same_output : (s t : State) (x y bytes : List ℕ) → ((ps : List (List ℕ)) → Hears s (lines x) t ps → Hears s (lines y) t ps) → IsOutput s x t bytes → IsOutput s y t bytes
 same_output s t x y bytes change h = record { replies = h.replies; hears = change h.replies h.hears; bytes_are = h.bytes_are }
 

@@ -1,4 +1,4 @@
--- A line has one reply, and lines have one output.
+-- From one state, a line leads to one state and one reply, and lines and streams lead to one state and one output.
 use Rattle.std.proofs.Common.{◌≡◌, ℕ, List, [], ◌∷◌, ◌++◌, Option, Some, None, sym, ap, ◌∙◌, subst}
 use Rattle.std.specs.Option.{option_to_list}
 use Rattle.gc_lines.specs.Frames.{lines, rest_of}
@@ -14,7 +14,7 @@ use Rattle.gc_instrument.specs.State.{State}
 use Rattle.gc_instrument.proofs.Hearing.{hears_then, replies_text-append}
 use Rattle.gc_instrument.proofs.HeardFrames.{lines-next}
 
--- an instrument does one thing with a call
+-- from one state a call leads to one state and one reply
 one_done : (s t u : State) (id : Option ℕ) (call : Call) (x y : List ℕ) → AnswersCall s id call t x → AnswersCall s id call u y → (t ≡ u) × (x ≡ y)
 one_done s t u id call x y (repeats e same) (repeats f again) = (same ∙ sym again, (let g : ◌≡◌ {A = Option (List ℕ)} (Some x) (Some y) = sym e ∙ f in cc))
 one_done s t u id call x y (repeats e same) (executes f again told) = let wrong : ◌≡◌ {A = Option (List ℕ)} (Some x) None = sym e ∙ f in let never : ⊥ = cc in absurd never
@@ -23,7 +23,7 @@ one_done s t u id call x y (executes e same made) (executes f again told) =
     let one : x ≡ y = made ∙ sym told in
     (same ∙ ap (λ (line : List ℕ). with_kept (kept_after s.kept id line) (exec s call).state) one ∙ sym again, one)
 
--- an instrument does one thing with a request
+-- from one state a request leads to one state and one reply
 one_answer : (s t u : State) (q : RequestFields) (x y : List ℕ) → AnswersRequest s q t x → AnswersRequest s q u y → (t ≡ u) × (x ≡ y)
 one_answer s t u q x y (refuses e is same made) (refuses f other again told) =
     (same ∙ sym again, made ∙ ap (λ (g : CallFault). refusal_line (reply_id q) g) (one_refusal q.rpc q.params e f is other) ∙ sym told)
@@ -51,7 +51,8 @@ one_hearing s t u (line ∷ later) ps qs h k =
       h.5 ∙ ap (λ (r : Option (List ℕ)). option_to_list r ++ h.2) first.1 ∙ ap (λ (xs : List (List ℕ)). option_to_list k.1 ++ xs) rest.1 ∙ sym k.5,
     )
 
--- the output of a stream that ends in a line feed, and of another behind it, is that of both
+-- the output of two streams, one behind the other, of which the first is empty or ends in a line feed, is that of the first and
+-- then that of the second
 pub output_then : (s t u : State) (first next xs ys : List ℕ) → rest_of first ≡ [] → IsOutput s first t xs → IsOutput t next u ys → IsOutput s (first ++ next) u (xs ++ ys)
 output_then s t u first next xs ys none h k =
     let parted = lines-next first next none in

@@ -61,7 +61,7 @@ measured s = record s { distance = option_map (λ t. t.distance) (first_at s.poi
 abbrev pub unmeasured : State → State
 unmeasured s = record s { distance = None }
 
--- the state in which the telescope points there, without a distance
+-- the state in which the telescope points in the direction of hz and v, without a distance
 abbrev pub pointed : State → Decimal → Decimal → State
 pointed s hz v = record s { pointing = record { hz = hz; v = v }; distance = None }
 

@@ -18,7 +18,7 @@ Hears before (line ∷ later) after replies =
 abbrev pub replies_text : List (List ℕ) → List ℕ
 replies_text replies = flat_map with_end replies
 
--- the bytes are all that is written for the stream, and `after` is the state behind its lines
+-- the bytes are all that is written for the stream, and `after` is the state after its lines
 pub record IsOutput (before : State) (stream : List ℕ) (after : State) (bytes : List ℕ) : Type 0 where
   pub replies : List (List ℕ)
   pub hears : Hears before (lines stream) after replies

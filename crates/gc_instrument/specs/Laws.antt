@@ -12,11 +12,12 @@ use Rattle.gc_instrument.specs.Outcomes.{ComesOut}
 use Rattle.gc_instrument.specs.Replying.{IsReplied, IsAnswered, handed, kept_line, with_kept, executed_with}
 use Rattle.gc_instrument.specs.State.{State, KeptReply, IsFittingState, restarted}
 
--- `ComesOut` holds of every call in every state
+-- what `ComesOut` says holds of every call in every state: what stays, that values lie in their types, and which answer comes
+-- with which code
 abbrev pub CallsComeOut : Type 0
 CallsComeOut = (s : State) (call : Call) → ComesOut s call (exec s call)
 
--- the reply that is kept neither counts for a call that is carried out nor is changed by it
+-- what carrying out a call gives doesn't depend on the reply that is kept, and leaves that reply as it is
 abbrev pub ExecutesApart : Type 0
 ExecutesApart = (s : State) (kept : Option KeptReply) (call : Call) → exec (with_kept kept s) call ≡ executed_with kept (exec s call)
 
@@ -34,8 +35,10 @@ pub record ExchangesCalls : Type 0 where
   pub replied : (s : State) (id : ℕ) (call : Call) → id < 8 → IsFitting call → IsReplied s (request_line (Some id) call) (handed s id call).state (Some (handed s id call).reply)
   pub answered : (s : State) (id : ℕ) (call : Call) → IsFittingState s → id < 8 → IsFitting call → kept_line s.kept (Some id) ≡ None → IsAnswered s id call (handed s id call).reply
 
--- lines lead to one state and one list of replies; the first of two lists of lines is answered first, and the second from the state that
--- the first leads to; so are two streams, where the first ends in a line feed or is empty
+-- `one`: from one state, lines lead to one state and one list of replies. `next`: two lists of lines, one behind the other, give
+-- the replies to the first and then those to the second, which starts from the state that the first leads to. `whole`: two
+-- streams of bytes, one behind the other, of which the first is empty or ends in a line feed, give what is written for the first
+-- and then what is written for the second
 pub record AnswersInTurn : Type 0 where
   pub one : (s t u : State) (heard : List (List ℕ)) (ps qs : List (List ℕ)) → Hears s heard t ps → Hears s heard u qs → (t ≡ u) × (ps ≡ qs)
   pub next : (s t u : State) (xs ys : List (List ℕ)) (ps qs : List (List ℕ)) → Hears s xs t ps → Hears t ys u qs → Hears s (xs ++ ys) u (ps ++ qs)

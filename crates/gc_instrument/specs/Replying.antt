@@ -38,7 +38,8 @@ kept_line None id = None
 kept_line (Some k) None = None
 kept_line (Some k) (Some id) = if nat_eq k.id id then Some k.line else None
 
--- what is kept behind an execution: the id and the reply line of its request, where that carried an id, and else what was kept before
+-- what is kept after an execution: the id and the reply line of its request, where that carried an id, and else what was kept
+-- before
 abbrev pub kept_after : Option KeptReply → Option ℕ → List ℕ → Option KeptReply
 kept_after kept None line = kept
 kept_after kept (Some id) line = Some (record { id = id; line = line })

@@ -21,15 +21,16 @@ AnswersFrame before Cleared after text = (after ≡ before) × (text ≡ None)
 AnswersFrame before Overlong after text = (after ≡ before) × (text ≡ None)
 AnswersFrame before More after text = (after ≡ before) × (text ≡ None)
 
--- all of these lines were handed on, and their replies went out whole: with the `before` that had gone out earlier they are `count`
+-- the instrument was handed all of these lines, and all their replies went out whole, into what the sink has taken (`old`, then
+-- `new`). `before` replies had gone out earlier, and `count` have with these
 pub record ServesAll (from to : State) (heard : List (List ℕ)) (old new : Option (List ℕ)) (before count : ℕ) : Type 0 where
   pub replies : List (List ℕ)
   pub hears : Hears from heard to replies
   pub counts : count ≡ before + length replies
   pub took : Appends old new (replies_text replies)
 
--- these lines were handed on up to one whose reply was cut: only its first `bytes` bytes went out, and no later line was handed on. With the
--- `before` replies that had gone out earlier, `count` went out whole
+-- the instrument was handed these lines up to one whose reply was cut: only the first `bytes` bytes of that reply went out, and
+-- no later line was handed over. `before` replies had gone out earlier, and `count` have gone out whole with these
 pub record ServesPart (from to : State) (heard : List (List ℕ)) (old new : Option (List ℕ)) (before count bytes : ℕ) : Type 0 where
   pub earlier : List (List ℕ)
   pub line : List ℕ
@@ -56,5 +57,5 @@ pub record IsServing (from to : State) (old new : Ports) (most : ℕ) (result : 
   -- the lines of the bytes that the source gave were handed to the instrument, and the sink took their replies as the result says
   pub serves : (given : List ℕ) × Consumes old.remaining new.remaining given
       × (length given ≤ 256 * (new.reads - old.reads)) × Serves from to (lines given) old.taken new.taken result
-  -- why the run ended: which result comes exactly where, and what it says of the ports
+  -- why the run ended, and what that says of the ports, as `HasEnded` has it
   pub ended : HasEnded old new most result

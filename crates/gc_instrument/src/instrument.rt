@@ -115,6 +115,7 @@ impl Instrument {
         ensures state { result ≡ simulator_opening }
         ensures fits { IsFittingState result }
     {
+        // The scene has three targets, so it is never refused.
         match Instrument::new(simulator::SERIAL, simulator::name(), &simulator::scene()) {
             Ok(instrument) => instrument,
             Err(_) => unreachable!(),

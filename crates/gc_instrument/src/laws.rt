@@ -8,12 +8,12 @@ pub fn calls_come_out()
     ensures { CallsComeOut }
 {}
 
-/// The reply that is kept neither counts for a call that is carried out nor is changed by it.
+/// Carrying out a call leaves the reply that is kept as it is, and what it gives doesn't depend on that reply.
 pub fn executes_apart()
     ensures { ExecutesApart }
 {}
 
-/// Restarting twice is restarting once, and a state whose values lie in their ranges before a restart is such a state after it.
+/// Restarting twice is restarting once. Where the values of a state lie in their ranges before a restart, they do so after it.
 pub fn restarts()
     ensures { Restarts }
 {}
@@ -29,8 +29,9 @@ pub fn exchanges_calls()
     ensures { ExchangesCalls }
 {}
 
-/// Lines lead to one state and one list of replies. The first of two lists of lines is answered first, and the second from the state
-/// that the first leads to; so are two streams, where the first ends in a line feed.
+/// From one state, lines lead to one state and to one list of replies. Two lists of lines, one behind the other, give the
+/// replies to the first list and then those to the second, which starts from the state that the first leads to. The same holds
+/// of two streams of bytes, where the first is empty or ends in a line feed.
 pub fn answers_in_turn()
     ensures { AnswersInTurn }
 {}

@@ -13,6 +13,7 @@ pub const SERIAL: i32 = 123456;
 pub fn name() -> Text
     ensures { result ≡ codes "GEOCOM SIM" }
 {
+    // No byte of this name is refused, and they are few.
     match Text::new(b"GEOCOM SIM") {
         Ok(name) => name,
         Err(_) => unreachable!(),

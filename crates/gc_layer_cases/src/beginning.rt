@@ -1,4 +1,6 @@
 //! Rows of a beginning, one null procedure after the other.
+//! A row is `do WORD WHAT -> CAME`. What comes of it is told to `came`, a text that is then compared with CAME.
+//! `what` is WHAT as it stands, and `bytes` are the bytes for which it stands.
 
 use gc_cases::{Rows, Told};
 use gc_client::Beginning;
@@ -39,6 +41,7 @@ impl Beginnings {
 }
 
 impl Rows for Beginnings {
+    // Plays a row: `ask`, `hear` with a line, `answered`, or `resume`.
     fn play(&mut self, _alloc: Global, word: &str, _what: &str, bytes: &[u8], came: &mut Told) {
         match word {
             "ask" => self.ask(came),

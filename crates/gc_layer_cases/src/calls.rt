@@ -1,4 +1,6 @@
 //! Rows of calls and answers on the line.
+//! A row is `do WORD WHAT -> CAME`. What comes of it is told to `came`, a text that is then compared with CAME.
+//! `what` is WHAT as it stands, and `bytes` are the bytes for which it stands.
 
 use gc_cases::{Rows, Told, cut_word};
 use gc_catalogue::{
@@ -7,11 +9,12 @@ use gc_catalogue::{
 use gc_lines::{read_reply, read_request};
 use std::alloc::Global;
 
-/// Nothing is kept from row to row.
+/// What plays these rows. Nothing is kept from row to row.
 #[derive(Drop)]
 pub struct Calls;
 
 impl Rows for Calls {
+    // Plays a row: `call` with a request's line, or `reading` or `answer` with the lines of a request and a reply.
     fn play(&mut self, _alloc: Global, word: &str, what: &str, bytes: &[u8], came: &mut Told) {
         match word {
             "call" => call_again(bytes, came),
@@ -71,8 +74,8 @@ fn tell_reading(words: &str, came: &mut Told) {
     }
 }
 
-// Tells the line that an instrument with a precision of 3 writes, for the id 4, of the reading of two words, as `reading_of`
-// has it.
+// Reads a reply, the second word, for the call of a request, the first one (`reading_of`), and tells the reply line that an
+// instrument would write with what was read, for id 4 at precision 3. A reading that is neither a value nor a refusal has none.
 fn answer_again(words: &str, came: &mut Told) {
     match reading_of(words) {
         Some(Reading::Value(answer)) => { came.bytes(encode_answer(4, 0, &answer, 3).as_slice()) }

@@ -1,4 +1,6 @@
-//! Rows of a client: what happens to the client, and what it gives. A case is played over each window.
+//! Rows of a client: what happens to the client, and what it gives. A case is played twice, over each kind of window.
+//! A row is `do WORD WHAT -> CAME`. What comes of it is told to `came`, a text that is then compared with CAME.
+//! `what` is WHAT as it stands, and `bytes` are the bytes for which it stands.
 
 ghost use Rattle.std.specs.Prelude.{◌≤◌};
 ghost use Rattle.gc_client.specs.declared.window.TheConstants.{WINDOW};
@@ -20,7 +22,7 @@ struct Played<W: Window> {
     settled: ArrayVec<Settlement, WINDOW>,
 }
 
-/// Plays a case over places, and over a ring.
+/// Plays a case twice: with a client over a window in fixed places, and with one over a ring.
 pub fn play_clients(alloc: Global, case: &Case<'_>, wrong: &mut Told) {
     play_over(alloc, case, Slots::new(), wrong);
     match Ring::new(alloc) {

@@ -1,4 +1,6 @@
-//! Rows of a file of rows, in memory: what opening it leaves of the bytes that it held, and what it holds of those that are written.
+//! Rows of a file of rows, in memory: what opening it leaves of the bytes that it held, and what it holds of those that are
+//! written. A row is `do WORD WHAT -> CAME`. What comes of it is told to `came`, a text that is then compared with CAME. `what`
+//! is WHAT as it stands, and `bytes` are the bytes for which it stands.
 
 use gc_cases::{Rows, Told, bytes_of, cut_word};
 use gc_files::{MemoryFile, Refused, RowsFile, copy_lines, open_rows};
@@ -60,7 +62,8 @@ impl Files {
         }
     }
 
-    // Copies all that the open file holds into this one, and tells how many lines that were, or that no file is open. Then opens this one.
+    // Copies all that the open file holds into this one, and tells how many lines that were, or that no file is open. Then opens
+    // this one.
     fn copy_into(&mut self, mut fresh: MemoryFile, came: &mut Told) {
         match &self.rows {
             Some(rows) => tell_copy(copy_lines(rows.file(), &mut fresh), came),
@@ -79,6 +82,8 @@ impl Files {
 }
 
 impl Rows for Files {
+    // Plays a row: `open`, `open_synced` or `open_failing` with a count of bytes and what the file holds, `copy`, or a word of
+    // `use_rows`.
     fn play(&mut self, alloc: Global, word: &str, what: &str, bytes: &[u8], came: &mut Told) {
         match word {
             "open" => self.open(alloc, false, what, came),

@@ -1,4 +1,6 @@
 //! Rows of a simulated instrument: lines and calls that it takes, and its scene.
+//! A row is `do WORD WHAT -> CAME`. What comes of it is told to `came`, a text that is then compared with CAME.
+//! `what` is WHAT as it stands, and `bytes` are the bytes for which it stands.
 
 use crate::calls::call_of;
 use crate::embedded::tell_embedded;
@@ -86,6 +88,8 @@ impl Instruments {
 }
 
 impl Rows for Instruments {
+    // Plays a row: `line`, `execute`, `twice` or `embedded` with bytes, `target` or `instrument` with words, or a word of
+    // `play_word`.
     fn play(&mut self, alloc: Global, word: &str, what: &str, bytes: &[u8], came: &mut Told) {
         match word {
             "line" => hand_in(&mut self.instrument, bytes, came),

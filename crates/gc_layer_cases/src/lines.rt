@@ -1,4 +1,6 @@
 //! Rows of lines: requests and replies read and written again, headers, and what an assembler makes of a piece.
+//! A row is `do WORD WHAT -> CAME`. What comes of it is told to `came`, a text that is then compared with CAME.
+//! `what` is WHAT as it stands, and `bytes` are the bytes for which it stands.
 
 use gc_cases::{Rows, Told, cut_word, number_or};
 use gc_lines::{
@@ -7,7 +9,7 @@ use gc_lines::{
 };
 use std::alloc::Global;
 
-/// The assembler that the pieces of a case go through, one after the other.
+/// What plays these rows: the assembler that the pieces of a case go through, one after the other.
 #[derive(Drop)]
 pub struct Lines {
     assembler: Assembler,
@@ -23,6 +25,8 @@ impl Lines {
 }
 
 impl Rows for Lines {
+    // Plays a row: `request` or `reply` with a line, `header` with numbers, `piece` with bytes, or `start`: is the assembler at
+    // the start of a line?
     fn play(&mut self, _alloc: Global, word: &str, what: &str, bytes: &[u8], came: &mut Told) {
         match word {
             "request" => request_again(bytes, came),
@@ -61,7 +65,7 @@ fn reply_again(line: &[u8], came: &mut Told) {
     }
 }
 
-// The number of 16 bits that a word is. `None`: the word is none.
+// The number of 16 bits that a word writes. `None`: it writes none.
 fn number(word: &str) -> Option<u16> {
     u16::try_from(number_or(word, u64::MAX)).ok()
 }

@@ -1,4 +1,5 @@
-//! The cases of the layers up to the instrument, and of files of rows, played: no part of the product. A file of cases for each.
+//! Plays the cases of the layers up to the instrument, and of files of rows: no part of the product. The cases of a layer lie
+//! in a file of their own, `data/layers.NAME`, and are played by the file of `src` for that layer.
 #![tactic(auto)]
 
 mod beginning;
@@ -27,7 +28,7 @@ use std::io;
 use std::process::ExitCode;
 use values::Values;
 
-// The layer that the rows of a file play: the end of the file's name.
+// The layer whose cases a file has: `name` is the end of the file's name, as in `layers.client`.
 #[derive(Drop)]
 struct Layer {
     name: &'static str,
@@ -41,7 +42,7 @@ impl Player for Layer {
     }
 }
 
-// Plays a case of this layer.
+// Plays a case of this layer. What went wrong is appended to `wrong`.
 fn play_case(layer: &str, alloc: Global, case: &Case<'_>, wrong: &mut Told) {
     match layer {
         "lines" => play_rows(alloc, case, &mut Lines::new(), wrong),

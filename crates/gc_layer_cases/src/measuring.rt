@@ -1,5 +1,6 @@
-//! A station of one page, as `docs/CLIENT.md` shows it: it sends calls to targets, and tells how each request ended. Behind it are the rows
-//! of a case with one.
+//! A station of one page, as `docs/CLIENT.md` shows it: it sends calls to targets, and tells how each request ended. Behind it
+//! stands what plays the rows of a case with such a station. A row is `do WORD WHAT -> CAME`. What comes of it is told to
+//! `came`, a text that is then compared with CAME.
 
 use gc_cases::{Rows, Told, bytes_behind, cut_word, number_or};
 use gc_catalogue::{Answer, Call, Reading};
@@ -99,7 +100,7 @@ fn tell(settlement: &Settlement, told: &mut String) -> Result<(), AllocError> {
     Ok(())
 }
 
-/// A station, and what it sent.
+/// What plays these rows: a station, and all bytes that it sent.
 #[derive(Drop)]
 pub struct Stations {
     station: Station,
@@ -140,7 +141,7 @@ impl Stations {
         self.station.hear(read, number_or(now, 0), told)
     }
 
-    // Plays a row at which the station tells how requests ended.
+    // Plays a row at which the station tells how requests ended: `hear` with a moment and bytes, or `begin_anew`.
     fn tell(
         &mut self,
         word: &str,
@@ -166,6 +167,7 @@ impl Stations {
 }
 
 impl Rows for Stations {
+    // Plays a row: `ask` with a target and a deadline, `deadline`, `go_on`, `sent`, or a word of `tell`.
     fn play(&mut self, alloc: Global, word: &str, what: &str, bytes: &[u8], came: &mut Told) {
         match word {
             "ask" => self.ask(what, came),

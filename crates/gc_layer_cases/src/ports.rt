@@ -1,4 +1,6 @@
-//! Rows of the ports over a reader and a writer of std: how often a reader is asked and for how many bytes, and what fits into a writer.
+//! Rows of the ports over a reader and a writer of std: how often a reader is asked and for how many bytes, and what fits into a
+//! writer. A row is `do WORD WHAT -> CAME`. What comes of it is told to `came`, a text that is then compared with CAME. `what` is
+//! WHAT as it stands, and `bytes` are the bytes for which it stands.
 
 ghost use Rattle.std.specs.Prelude.{None};
 
@@ -43,11 +45,12 @@ impl Read for Slow<'_, '_> {
     }
 }
 
-/// Nothing is kept from row to row.
+/// What plays these rows. Nothing is kept from row to row.
 #[derive(Drop)]
 pub struct Ports;
 
 impl Rows for Ports {
+    // Plays a row: `source` or `ahead` with three words, `sink` with a room in bytes, or `lines`.
     fn play(&mut self, _alloc: Global, word: &str, what: &str, _bytes: &[u8], came: &mut Told) {
         match word {
             "source" => read_through(false, what, came),
@@ -59,8 +62,8 @@ impl Rows for Ports {
     }
 }
 
-// Reads the bytes of the third word through a port, read ahead or not. The first word says how many the reader gives a read at most, and
-// the second at which read it fails, counted from 0.
+// Reads the bytes of the third word through a port, read ahead or not. The first word says how many the reader gives a read at
+// most, and the second at which read it fails, counted from 0.
 fn read_through(is_ahead: bool, words: &str, came: &mut Told) {
     let (most, rest) = cut_word(words);
     let (fails_at, left) = cut_word(rest);

@@ -1,4 +1,6 @@
 //! Rows of values: lists of parameters, decimals, and items by their kinds.
+//! A row is `do WORD WHAT -> CAME`. What comes of it is told to `came`, a text that is then compared with CAME.
+//! `what` is WHAT as it stands, and `bytes` are the bytes for which it stands.
 
 ghost use Rattle.std.specs.Prelude.{◌≤◌};
 
@@ -10,11 +12,12 @@ use gc_values::{
 use std::alloc::Global;
 use std::fmt;
 
-/// Nothing is kept from row to row.
+/// What plays these rows. Nothing is kept from row to row.
 #[derive(Drop)]
 pub struct Values;
 
 impl Rows for Values {
+    // Plays a row: the word says what is read or done, and the rest of the row is an item, or numbers.
     fn play(&mut self, _alloc: Global, word: &str, what: &str, item: &[u8], came: &mut Told) {
         match word {
             "split" => split_list(item, came),
@@ -96,7 +99,7 @@ fn tell_parts(decimal: &Decimal, came: &mut Told) {
     came.titled(" text ", decimal);
 }
 
-// The number of 8 bits that a word is, and 255 for any other word.
+// The number of 8 bits that a word writes, and 255 for any other word.
 fn small_number(word: &str) -> u8 {
     u8::try_from(number_or(word, 255)).unwrap_or(255)
 }
@@ -125,7 +128,7 @@ fn round_to(decimal: &Decimal, places: u8, came: &mut Told)
     came.bytes(decimal.round(places).write().as_slice());
 }
 
-// Tells whether a decimal is within an area, the last word, round another one.
+// Tells whether the decimal of the first word differs from that of the second by at most that of the third.
 fn within(words: &str, came: &mut Told) {
     let (value, rest) = cut_word(words);
     match (Decimal::read(value.as_bytes()), two_decimals(rest)) {

@@ -1,4 +1,5 @@
--- A stream that is cut at its line feeds, piece by piece.
+-- A stream that is cut at its line feeds, piece by piece. r is what stands before the bytes that are cut, since the last line
+-- feed.
 use Rattle.std.proofs.Common.{◌≡◌, ℕ, ◌+◌, ◌<◌, ◌≤◌, suc, Bool, true, false, not, cond, List, [], ◌∷◌, ◌++◌, length, take, drop, Some, None, refl, sym, ap, ◌∙◌, arith, append_assoc, ◌≢◌, eqb, map}
 use Rattle.std.specs.List.{prefix_len, position, flat_map, AllByRecursion}
 use Rattle.std.proofs.lemmas.List.{append-nil, map-append}
@@ -7,11 +8,11 @@ use Rattle.std.proofs.Math.Dec.{ltb}
 use Rattle.std.proofs.Math.Numerals.{one-add}
 use Rattle.gc_lines.specs.Frames.{is_line_feed, pieces_behind, rest_behind, pieces, rest_of, HasNoLineFeed, IsCut, frame_of, frames}
 
--- whether a byte goes on the bytes before it: it is no line feed
+-- whether a byte continues the bytes before it: it is no line feed
 abbrev pub goes_on : ℕ → Bool
 goes_on b = not (is_line_feed b)
 
--- where the first line feed of xs is at n, or n is the length of xs: the pieces and the rest behind r
+-- the pieces and the rest of xs behind r, where n is the place of the first line feed of xs, or the length of xs without one
 record CutAt (r xs : List ℕ) (n : ℕ) : Type 0 where
   ends : length xs ≤ n → (pieces_behind r xs ≡ []) × (rest_behind r xs ≡ r ++ xs)
   goes : n < length xs → (pieces_behind r xs ≡ (r ++ take n xs) ∷ pieces_behind [] (drop (n + 1) xs)) × (rest_behind r xs ≡ rest_behind [] (drop (n + 1) xs))
@@ -32,7 +33,7 @@ cut_later r bs b n e c = record {
       (rw (e, same, one-add n) (k.0 ∙ ap (λ p. p ∷ pieces_behind [] (drop (n + 1) bs)) (append_assoc r (b ∷ []) (take n bs))), rw (e, same) k.1);
 }
 
--- bytes are cut at the first byte that doesn't go on
+-- bytes are cut at their first line feed, as `CutAt` says
 is_cut : (r xs : List ℕ) → CutAt r xs (prefix_len goes_on xs)
 is_cut r [] = record { ends = λ _. (refl, sym (append-nil r)); goes = λ h. absurd (omega arith) }
 is_cut r (b ∷ bs) = elim (is_line_feed b) as (λ v. is_line_feed b ≡ v → CutAt r (b ∷ bs) (cond (not v) (1 + prefix_len goes_on bs) 0)) [
@@ -57,7 +58,7 @@ cut_some r xs at e = elim (ltb (prefix_len goes_on xs) (length xs)) as (λ v. lt
       | false ↦ λ _ f. (cc)
     ] refl e
 
--- the pieces of a stream and another behind it are the first's, and the second's behind the first's rest
+-- the pieces of xs and ys in a row are those of xs, and then those of ys behind the rest of xs
 pub pieces-append : (r xs ys : List ℕ) → pieces_behind r (xs ++ ys) ≡ pieces_behind r xs ++ pieces_behind (rest_behind r xs) ys
 pieces-append r [] ys = refl
 pieces-append r (x ∷ xs) ys = elim (is_line_feed x) as (λ v. cond v (r ∷ pieces_behind [] (xs ++ ys)) (pieces_behind (r ++ x ∷ []) (xs ++ ys))
@@ -66,7 +67,7 @@ pieces-append r (x ∷ xs) ys = elim (is_line_feed x) as (λ v. cond v (r ∷ pi
       | false ↦ pieces-append (r ++ x ∷ []) xs ys
     ]
 
--- the rest of a stream and another behind it is the second's behind the first's rest
+-- the rest of xs and ys in a row is that of ys behind the rest of xs
 pub rest-append : (r xs ys : List ℕ) → rest_behind r (xs ++ ys) ≡ rest_behind (rest_behind r xs) ys
 rest-append r [] ys = refl
 rest-append r (x ∷ xs) ys = elim (is_line_feed x) as (λ v. cond v (rest_behind [] (xs ++ ys)) (rest_behind (r ++ x ∷ []) (xs ++ ys))
@@ -132,6 +133,7 @@ cut_clean r (b ∷ bs) clean = elim (is_line_feed b) as (λ v. is_line_feed b �
       | true ↦ λ _. let more = cut_clean [] bs tt in ((clean, more.0), more.1)
       | false ↦ λ e. cut_clean (r ++ b ∷ []) bs (clean_more r b clean e)
     ] refl where
+      -- bytes without a line feed, and behind them one that is none, have no line feed
       clean_more : (r : List ℕ) (b : ℕ) → HasNoLineFeed r → is_line_feed b ≡ false → HasNoLineFeed (r ++ b ∷ [])
       clean_more [] b clean e = ((λ same. let t = eq-eqb b 10 same in (cc)), tt)
       clean_more (x ∷ xs) b clean e = (clean.0, clean_more xs b clean.1 e)

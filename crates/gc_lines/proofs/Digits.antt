@@ -1,4 +1,4 @@
--- What a few digits are worth.
+-- What a few digits are worth. The run is the longest row of digits at the front of some bytes.
 use Rattle.std.proofs.Common.{◌≡◌, ℕ, ◌+◌, ◌-◌, ◌*◌, ◌/◌, ◌%◌, ◌^◌, ◌<◌, ◌≤◌, List, [], ◌∷◌, ◌++◌, true, false, cond, length, take, get_or, drop, slice_set, arith, refl, ap, ◌∙◌, sym, subst, inl, inr, lit<, append_assoc, add-one, Ok, Err, ◌⊎◌, length-drop}
 use Rattle.std.specs.Fmt.{decimal}
 use Rattle.std.proofs.lemmas.Fmt.{decimal_step, decimal_digit}
@@ -18,7 +18,7 @@ use Rattle.std.proofs.lemmas.List.Folds.{length-prefix_len}
 use Rattle.gc_lines.specs.Numbers.{NoDigitFirst}
 use Rattle.gc_lines.specs.Readers.{digits_len, number_at}
 
--- the worth of digits is that of a numeral of base 10
+-- texts of digits, with their values, are numerals of base 10 as the library's lemmas on numerals take them
 pub plain : IsNumeralModel (AllDigits 10) (digits_value 10)
 plain = numerals_by_value _ tells_digits
 
@@ -78,12 +78,14 @@ run_of_one b bs e = elim (is_ascii_digit b) as (λ v. is_ascii_digit b ≡ v →
   | true ↦ λ t h. let r = in_digits b t in let none : prefix_len is_ascii_digit bs ≡ 0 = omega arith in (r.0, r.1, subst (λ (n : ℕ). NoDigitFirst (drop n bs)) none (prefix_stops bs))
   | false ↦ λ _ h. absurd (omega arith)
 ] refl (sym (run_is (b ∷ bs)) ∙ e) where
+  -- an ASCII digit is a byte from 48 to 57
   in_digits : (b : ℕ) → is_ascii_digit b ≡ true → (48 ≤ b) × (b ≤ 57)
   in_digits b t = grind (arith, nat_tests)
 
 -- one digit that no digit follows is the run
 pub one_digit_runs : (i : ℕ) (rest : List ℕ) → i < 10 → NoDigitFirst rest → digits_len ((48 + i) ∷ rest) ≡ 1
 one_digit_runs i rest h stop = run_is ((48 + i) ∷ rest) ∙ rw (digit_of i h, stopped rest stop) refl where
+  -- 48 plus a number below ten is an ASCII digit
   digit_of : (i : ℕ) → i < 10 → is_ascii_digit (48 + i) ≡ true
   digit_of i h = grind (arith, nat_tests)
 
@@ -100,7 +102,9 @@ some_place at left below more = elim (cases_lt 0 at) [
   | inr none ↦ let zero : at ≡ 0 = omega arith in absurd (below_one_place left (subst (λ (n : ℕ). left < 10 ^ (n + 1)) zero below) more)
 ]
 
--- writing a number's last digit in front of those written leaves a shorter number to write, and keeps what is written in all
+-- A step of `push_digits`: the digits of `left` are still to be written, in front of those that stand behind place `at`, and
+-- together they are those of n. Once the last digit of `left` is written at place `at`, the digits of left / 10 are still to be
+-- written, and together with those that stand from that place on they are those of n.
 pub digit_written : (digits : List ℕ) (at left n : ℕ) → at ≤ 4 → length digits ≡ 5 → left < 10 ^ (at + 1) → left < 2 ^ 16 → 10 ≤ left → decimal left ++ drop (at + 1) digits ≡ decimal n
     → (0 < at) × (length (slice_set digits at (48 + left % 10)) ≡ 5) × (left / 10 < 10 ^ (at - 1 + 1)) × (decimal (left / 10) ++ drop (at - 1 + 1) (slice_set digits at (48 + left % 10)) ≡ decimal n)
 digit_written digits at left n room size below range more text =
@@ -113,7 +117,7 @@ digit_written digits at left n room size below range more text =
           (sym (append_assoc (decimal (left / 10)) ((48 + left % 10) ∷ []) (drop (at + 1) digits)) ∙ ap (λ ds. ds ++ drop (at + 1) digits) (sym (decimal_step left more (omega arith))) ∙ text),
     )
 
--- writing the last digit that is left completes the number
+-- the last step of `push_digits`: once the one digit that is left is written at place `at`, the digits of n stand from there on
 pub last_digit_written : (digits : List ℕ) (at left n : ℕ) → at ≤ 4 → length digits ≡ 5 → left < 10 → decimal left ++ drop (at + 1) digits ≡ decimal n
     → take (5 - at) (drop at (slice_set digits at (48 + left))) ≡ decimal n
 last_digit_written digits at left n room size small text =

@@ -6,8 +6,8 @@ use Rattle.gc_lines.specs.declared.served.Served.{Served}
 use Rattle.gc_lines.specs.declared.served.ServeFault.{ServeFault}
 use Rattle.gc_lines.specs.declared.served.ServeFault.TheVariants.{Read}
 
--- where the result says of the ports what `EndsBecause` has, and a served source is at its end, each result comes exactly where
--- `HasEnded` has it
+-- `HasEnded` follows from what the result says of the ports, as `EndsBecause` has it, and from a served source having no byte
+-- left
 pub ended_exactly : (old new : Ports) (most : ℕ) (r : Result Served ServeFault) → OnOk r (IsAtEnd new.remaining) → EndsBecause old new most r → HasEnded old new most r
 ended_exactly old new most (Err (Read n)) whole ends = record {
   whole = whole;

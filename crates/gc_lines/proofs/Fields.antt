@@ -126,11 +126,12 @@ id_found (a ∷ bs) x e = elim (eqb a 44) as (λ v. eqb a 44 ≡ v → cond v
       | true ↦ λ t f. subst (λ (n : ℕ). HasId (n ∷ bs) x.0 x.1) (sym (eqb-true a 44 t)) (id_after bs x f)
       | false ↦ λ t f. let same : (let p : Option ℕ × List ℕ = (None, a ∷ bs) in p) ≡ x = cc in subst (λ (p : Option ℕ × List ℕ). HasId (a ∷ bs) p.0 p.1) same (id_none (a ∷ bs) t)
     ] refl e where
+      -- what is read behind a comma as an id has the form of one, also where no byte stands there
       id_after : (bs : List ℕ) (x : Option ℕ × List ℕ) → cond (eqb (digits_len bs) 1 && ltb (get_or bs 0 0) 56) (Ok (Some (get_or bs 0 0 - 48), drop 1 bs)) (Err Id) ≡ Ok x → HasId (44 ∷ bs) x.0 x.1
       id_after [] x f = (cc)
       id_after (b ∷ cs) x f = id_some b cs x f
 
--- where no id ends, no comma stands first
+-- where `rest` follows a number without an id, as `EndsId` has it, `rest` doesn't begin with a comma
 no_comma : (rest : List ℕ) → EndsId None rest → eqb (get_or rest 0 0) 44 ≡ false
 no_comma [] h = refl
 no_comma (b ∷ bs) h = elim (eqb b 44) as (λ v. eqb b 44 ≡ v → v ≡ false) [
@@ -148,7 +149,7 @@ id_of_text (Some i) rest below ends =
 id_again : (bytes : List ℕ) (x : Option ℕ × List ℕ) → HasId bytes x.0 x.1 → id_at bytes ≡ Ok x
 id_again bytes x has = ap id_at has.whole ∙ id_of_text x.0 x.1 has.below has.ends
 
--- what is read is no fault
+-- a value that was read is no fault, so that anything follows where it is one
 ok_no_fault : {A : Type 0} (x : A) (d f : LineFault) → Ok x ≡ Err d → f ≡ d
 ok_no_fault x d f e = (cc)
 

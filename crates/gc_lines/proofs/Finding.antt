@@ -10,7 +10,7 @@ not_true : (b : Bool) → ¬ (b ≡ true) → b ≡ false
 not_true true = λ no. absurd (no refl)
 not_true false = λ _. refl
 
--- the place found first is the first place at which the test holds
+-- what `memchr` finds, the first place at which the test holds, is `position`
 pub first_position : (test : ℕ → Bool) (bytes : List ℕ) (r : Option ℕ) → IsFirstByte test bytes r → r ≡ position test bytes
 first_position test bytes None h =
     let at : position_or_len test bytes ≡ length bytes = position_or_len_is test bytes (length bytes) 0 (omega arith)

@@ -32,7 +32,7 @@ no_texts : (texts : List (List ℕ)) → [] ≡ map length texts → texts ≡ [
 no_texts [] e = refl
 no_texts (t ∷ ts) e = cc
 
--- where no text waits, all went out
+-- where no text waits, all frames were answered and their texts went out
 pub gathering_end : {State : Type 0} (rule : AnswerRule State) (from to : Progress State) (seen : List Frame) (text lengths : List ℕ)
     → lengths ≡ [] → Gathering rule from to seen text lengths → AnswersAll rule from.state to.state seen from.taken to.taken from.whole to.whole
 gathering_end {State} rule from to seen text lengths none g =
@@ -124,7 +124,7 @@ lt_true m n e = grind (arith, nat_tests)
 lt_false : (m n : ℕ) → nat_lt m n ≡ false → n ≤ m
 lt_false m n e = grind (arith, nat_tests)
 
--- the n bytes end within the first text
+-- `Cut` is true where the n bytes end within the first text
 cut_here : {State : Type 0} (rule : AnswerRule State) (s u : State) (frame : Frame) (later : List Frame) (t : List ℕ) (rest : List (List ℕ)) (whole n : ℕ)
     → rule s frame u (Some t) → nat_lt n (length t) ≡ true → Cut rule s (frame ∷ later) (t ∷ rest) whole n
 cut_here rule s u frame later t rest whole n draws e =
@@ -148,7 +148,7 @@ cut_here rule s u frame later t rest whole n draws e =
       front = take-append-le n t (all_of rest) within;
     }
 
--- the first text is whole within the n bytes, and they end within a later one
+-- `Cut` is true where the n bytes hold the first text whole, and the others end within a later one
 cut_on : {State : Type 0} (rule : AnswerRule State) (s u : State) (frame : Frame) (later : List Frame) (t : List ℕ) (rest : List (List ℕ)) (whole n : ℕ)
     → rule s frame u (Some t) → nat_lt n (length t) ≡ false → Cut rule u later rest (whole + 1) (n - length t) → Cut rule s (frame ∷ later) (t ∷ rest) whole n
 cut_on rule s u frame later t rest whole n draws e k =
@@ -173,7 +173,7 @@ cut_on rule s u frame later t rest whole n draws e k =
           ∙ sym (append_assoc t (all_of k.out) (take k.bytes k.text));
     }
 
--- a frame without a text in front changes nothing of where the n bytes end
+-- `Cut` stays true with a frame without a text in front
 cut_silent : {State : Type 0} (rule : AnswerRule State) (s u : State) (frame : Frame) (later : List Frame) (texts : List (List ℕ)) (whole n : ℕ)
     → rule s frame u None → Cut rule u later texts whole n → Cut rule s (frame ∷ later) texts whole n
 cut_silent rule s u frame later texts whole n draws k = record {
@@ -193,7 +193,8 @@ cut_silent rule s u frame later texts whole n draws k = record {
   front = k.front;
 }
 
--- a frame in front, with a text or without: the n bytes end within its text or a later one
+-- where `Cut` is true of the later frames and of any number of bytes that ends within their texts, it is true with one more frame
+-- in front, with a text or without, and of n bytes that end within the texts of all of them
 cut_text : {State : Type 0} (rule : AnswerRule State) (s u : State) (frame : Frame) (later : List Frame) (text : Option (List ℕ)) (rest : List (List ℕ)) (whole n : ℕ)
     → rule s frame u text → n < length (all_of (option_to_list text ++ rest)) → ((w m : ℕ) → m < length (all_of rest) → Cut rule u later rest w m)
     → Cut rule s (frame ∷ later) (option_to_list text ++ rest) whole n
@@ -205,7 +206,7 @@ cut_text rule s u frame later (Some t) rest whole n draws less next = elim (nat_
       cut_on rule s u frame later t rest whole n draws e (next (whole + 1) (n - length t) left)
 ] refl
 
--- fewer bytes than the texts have end within one of them
+-- `Cut` is true wherever n is less than the bytes that the texts have together
 cut : {State : Type 0} (rule : AnswerRule State) (from to : State) (seen : List Frame) (texts : List (List ℕ)) (whole n : ℕ)
     → AnswersInOrder State rule from seen to texts → n < length (all_of texts) → Cut rule from seen texts whole n
 cut rule from to [] texts whole n h less =

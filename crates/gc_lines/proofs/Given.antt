@@ -1,4 +1,5 @@
--- What was read so far, and what was done with its frames.
+-- What was read so far, and what was done with its frames. In the lemmas, in the order of the run: a, a', a'' are the bytes that
+-- the source still has, b, b', b'' those that the sink took, s, t, u the answerer's states, and n, n' how many texts went out.
 use Rattle.std.proofs.Common.{◌≡◌, Bool, false, ℕ, ◌+◌, ◌*◌, ◌≤◌, List, [], ◌++◌, length, Option, sym, subst, arith, length-append}
 use Rattle.std.specs.Io.KnownBytes.{Consumes}
 use Rattle.std.proofs.lemmas.List.{append-nil}

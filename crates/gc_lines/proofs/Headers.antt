@@ -163,7 +163,7 @@ line_fault signature body Body reads line d e = elim (bind_err (header_at signat
       subst (λ (f : LineFault). FirstBadField signature Body line f) bad.0 it
 ]
 
--- a first bad field is the fault
+-- a line's first bad field is its fault
 pub line_bad : {A : Type 0} (signature : List ℕ) (body : HeaderFields → Result A LineFault) (Body : List ℕ → Type 0) → ReadsBody body Body
     → (line : List ℕ) (f : LineFault) → FirstBadField signature Body line f → line_at signature body line ≡ Err f
 unfolding header_at

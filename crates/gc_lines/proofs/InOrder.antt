@@ -1,4 +1,5 @@
--- Frames that are answered one list after another: what stands after them, and what is written.
+-- Lists of frames that are answered one after the other: the state behind them, and what is written. In the lemmas, in the order
+-- of the run: s, t, u are the answerer's states, a, b, c the bytes that the sink took, and i, j, k how many texts went out whole.
 use Rattle.std.proofs.Common.{◌≡◌, ℕ, ◌+◌, List, [], ◌∷◌, ◌++◌, take, Option, Some, refl, sym, ap, ◌∙◌, subst, arith, append_assoc, length-append}
 use Rattle.std.specs.Option.{option_to_list}
 use Rattle.std.specs.Io.KnownBytes.{Appends}
@@ -36,7 +37,7 @@ all_of-append xs ys = flat_map-append (λ text. text) xs ys
 pub all_none : {State : Type 0} (rule : AnswerRule State) (state : State) (known : Option (List ℕ)) (count : ℕ) → AnswersAll rule state state [] known known count count
 all_none rule state known count = record { texts = []; answers = (refl, refl); counts = omega arith; took = Appends-nil known }
 
--- where all frames were answered, and then all of others, all of both were
+-- where all frames xs were answered, and then all frames ys, all frames `xs ++ ys` were
 pub all_then : {State : Type 0} (rule : AnswerRule State) (s t u : State) (xs ys : List Frame) (a b c : Option (List ℕ)) (i j k : ℕ)
     → AnswersAll rule s t xs a b i j → AnswersAll rule t u ys b c j k → AnswersAll rule s u (xs ++ ys) a c i k
 all_then rule s t u xs ys a b c i j k first next = record {
@@ -46,7 +47,8 @@ all_then rule s t u xs ys a b c i j k first next = record {
   took = Appends-is a c _ _ (sym (all_of-append first.texts next.texts)) (Appends-append a b c _ _ first.took next.took);
 }
 
--- where all frames were answered, and then others up to a part of a text, both were up to that part
+-- where all frames xs were answered, and then the frames ys up to one whose text went out in part, the frames `xs ++ ys` were
+-- answered up to that one
 pub part_then : {State : Type 0} (rule : AnswerRule State) (s t u : State) (xs ys : List Frame) (a b c : Option (List ℕ)) (i j k bytes : ℕ)
     → AnswersAll rule s t xs a b i j → AnswersPart rule t u ys b c j k bytes → AnswersPart rule s u (xs ++ ys) a c i k bytes
 part_then rule s t u xs ys a b c i j k bytes first part =
@@ -67,7 +69,7 @@ part_then rule s t u xs ys a b c i j k bytes first part =
           (Appends-append a b c _ _ first.took part.took);
     }
 
--- frames that come after the last one that was answered change nothing
+-- where `AnswersPart` is true of the frames xs, it is true of `xs ++ ys`: frames after the one whose text was cut change nothing
 pub part_before : {State : Type 0} (rule : AnswerRule State) (s u : State) (xs ys : List Frame) (a c : Option (List ℕ)) (i k bytes : ℕ)
     → AnswersPart rule s u xs a c i k bytes → AnswersPart rule s u (xs ++ ys) a c i k bytes
 part_before rule s u xs ys a c i k bytes part = record {

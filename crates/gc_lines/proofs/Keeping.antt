@@ -1,4 +1,4 @@
--- What is kept of a rest, as more comes.
+-- What an assembler keeps of the rest, which is the bytes since the last line feed, as more bytes come.
 use Rattle.std.proofs.Common.{◌≡◌, ℕ, ◌+◌, ◌-◌, ◌<◌, ◌≤◌, true, List, ◌++◌, length, take, get_or, sym, ◌∙◌, ap, arith, inl, inr, length-append, eq-eqb}
 use Rattle.std.proofs.lemmas.List.{length-take, take_all, take-append-le, append-nil, get_or-append-add}
 use Rattle.std.proofs.lemmas.Bool.{cases_lt, lt-ltb, le-ltb}
@@ -8,7 +8,7 @@ use Rattle.gc_lines.specs.Assembler.{Kept, StandsFor}
 use Rattle.gc_lines.specs.Frames.{frame_of}
 use Rattle.gc_lines.specs.declared.frame.Frame.TheVariants.{Line}
 
--- the first bytes of a rest and more are those of the rest, and as many of the others as there is room for
+-- the first `cap` bytes of a rest and further bytes are those of the rest, and as many of the further ones as there is room for
 pub take-append : (cap : ℕ) (rest bytes : List ℕ) → take cap (rest ++ bytes) ≡ take cap rest ++ take (cap - length rest) bytes
 take-append cap rest bytes = elim (cases_lt (length rest) cap) [
   | inr h ↦ let none : cap - length rest ≡ 0 = omega arith in rw (none, take-append-le cap rest bytes h) (sym (append-nil (take cap rest)))
@@ -16,7 +16,7 @@ take-append cap rest bytes = elim (cases_lt (length rest) cap) [
       ap (λ n. take n (rest ++ bytes)) sum ∙ take-append-add rest bytes (cap - length rest) ∙ ap (λ xs. xs ++ take (cap - length rest) bytes) (sym (take_all cap rest (omega arith)))
 ]
 
--- the last byte of a rest and more bytes is the last of those
+-- the last byte of a rest and further bytes is the last of the further bytes
 pub last-append : (rest bytes : List ℕ) → 0 < length bytes → get_or (rest ++ bytes) (length (rest ++ bytes) - 1) 0 ≡ get_or bytes (length bytes - 1) 0
 last-append rest bytes h =
     let sum : length (rest ++ bytes) - 1 ≡ length rest + (length bytes - 1) = omega (arith, length-append rest bytes) in
@@ -26,11 +26,11 @@ last-append rest bytes h =
 pub all_kept : (old : Kept) (rest : List ℕ) → StandsFor old rest → length old.front < 513 → length rest ≡ length old.front
 all_kept old rest s room = omega (arith, ap length s.front, length-take 513 rest)
 
--- the room that is left is that which the rest leaves
+-- an assembler has as much room left of 513 bytes as the rest leaves of them
 pub front_length : (old : Kept) (rest : List ℕ) → StandsFor old rest → 513 - length old.front ≡ 513 - length rest
 front_length old rest s = omega (arith, ap length s.front, length-take 513 rest)
 
--- where all further bytes fit, keeping them stands for the rest with them
+-- where all further bytes fit, an assembler that keeps them stands for the rest with these bytes behind it
 pub keeps_all : (old : Kept) (rest bytes front : List ℕ) (last : ℕ) → StandsFor old rest → 0 < length bytes → length bytes ≤ 513 - length old.front
     → front ≡ old.front ++ bytes → last ≡ get_or bytes (length bytes - 1) 0
     → StandsFor (record { front = front; last = last; long = old.long }) (rest ++ bytes)
@@ -43,7 +43,8 @@ keeps_all old rest bytes front last s some fits f l =
       long = s.long ∙ le-ltb 513 (length rest) (omega arith) ∙ sym (le-ltb 513 (length (rest ++ bytes)) (omega (arith, length-append rest bytes)));
     }
 
--- where only a part of further bytes fits, keeping that part stands for the rest with all of them
+-- where only a part of further bytes fits, an assembler that keeps that part stands for the rest with all of these bytes behind
+-- it
 pub keeps_part : (old : Kept) (rest bytes front : List ℕ) (last : ℕ) → StandsFor old rest → 513 - length old.front < length bytes
     → front ≡ old.front ++ take (513 - length old.front) bytes → last ≡ get_or bytes (length bytes - 1) 0
     → StandsFor (record { front = front; last = last; long = true }) (rest ++ bytes)

@@ -1,4 +1,4 @@
--- A piece on the way: which of its frames were answered, and what is left of it.
+-- A piece of the stream while it is answered: which of its frames were answered, and what is left of it (`Going`).
 use Rattle.std.proofs.Common.{◌≡◌, ℕ, ◌+◌, ◌<◌, Bool, true, false, eqb, cond, ◌-◌, List, [], ◌∷◌, ◌++◌, length, take, drop, map, Some, None, refl, sym, ap, ◌∙◌, subst, arith, append_assoc}
 use Rattle.std.specs.List.{position}
 use Rattle.std.proofs.lemmas.Bool.Decides.{nat_tests}
@@ -13,24 +13,26 @@ use Rattle.gc_lines.proofs.Cutting.{cut_none, cut_some, pieces-append, rest-appe
 use Rattle.gc_lines.proofs.Gathering.{gathering_start}
 use Rattle.gc_lines.proofs.InOrder.{all_none, part_before}
 
--- one more piece: its frames come behind those of the stream, and the rest goes on from the stream's
+-- with one more piece, a stream's frames are those that it had, and then those that the piece completes behind the stream's rest
 pub frames-append : (given piece : List ℕ) → frames (given ++ piece) ≡ frames given ++ frames_behind (rest_behind [] given) piece
 frames-append given piece = ap (λ ps. map frame_of ps) (pieces-append [] given piece) ∙ map-append frame_of (pieces_behind [] given) (pieces_behind (rest_behind [] given) piece)
 
--- one more piece: the rest goes on from the stream's
+-- with one more piece, a stream's rest is that of the piece behind the rest that it had
 pub rest_behind-append : (given piece : List ℕ) → rest_behind [] (given ++ piece) ≡ rest_behind (rest_behind [] given) piece
 rest_behind-append given piece = rest-append [] given piece
 
 -- a frame that a line feed made is completed
 made : (bytes : List ℕ) → completed (frame_of bytes) ≡ frame_of bytes ∷ []
 made bytes = by_tests (ends_in_return bytes) _ where
+  -- whichever frame the two tests of `frame_of` choose, it is completed
   by_tests : (a b : Bool) → completed (cond a (cond b Overlong (Line (record { items = take (length bytes - 1) bytes }))) Cleared) ≡ cond a
       (cond b Overlong (Line (record { items = take (length bytes - 1) bytes }))) Cleared ∷ []
   by_tests true true = refl
   by_tests true false = refl
   by_tests false b = refl
 
--- behind `rest` the assembler used the first `used` bytes of `left`, gave this frame, and keeps this
+-- an assembler that stood for `rest` used the first `used` bytes of `left`, gave `frame`, and now keeps `kept`: so these are the
+-- frames of `rest` and `left`
 pub record Takes (rest left : List ℕ) (used : ℕ) (frame : Frame) (kept : Kept) : Type 0 where
   pub now : List ℕ
   pub stands : StandsFor kept now
@@ -62,7 +64,9 @@ takes_some rest left at used frame kept some next is s =
       rests = rw next cut.1;
     }
 
--- what `take` ensures of a piece with a line feed and of one without gives `Takes`, for each rest that the assembler stood for
+-- An assembler that stood for `rest` was given `left`: the frames of both are the frame that it gave and those of what it left,
+-- as `Takes` has it. The premises are what its `take` ensures, of a `left` without a line feed and of one with its first at place
+-- `at`.
 pub takes : (rest left : List ℕ) (used : ℕ) (frame : Frame) (kept : Kept)
     → (position is_line_feed left ≡ None → (used ≡ length left) × (frame ≡ More) × StandsFor kept (rest ++ left))
     → ((at : ℕ) → position is_line_feed left ≡ Some at → (used ≡ at + 1) × (frame ≡ frame_of (rest ++ take at left)) × StandsFor kept [])
@@ -81,7 +85,7 @@ pub record Going {State : Type 0} (rule : AnswerRule State) (rest piece left : L
   pub rests : rest_behind rest piece ≡ rest_behind now left
   pub gathered : Gathering rule from to answered text lengths
 
--- before the first frame nothing of the piece was used, and no text waits
+-- `Going` is true before the first frame: nothing of the piece was used, and no text waits
 pub going_start : {State : Type 0} (rule : AnswerRule State) (rest piece : List ℕ) (kept : Kept) (start : Progress State) (text lengths : List ℕ) → text ≡ [] → lengths ≡ [] → StandsFor kept rest
     → Going rule rest piece piece kept start start text lengths
 going_start rule rest piece kept start text lengths empty none s = record {
@@ -97,7 +101,7 @@ going_start rule rest piece kept start text lengths empty none s = record {
 seen_more : (answered frame later all left : List Frame) → all ≡ answered ++ left → left ≡ frame ++ later → all ≡ (answered ++ frame) ++ later
 seen_more answered frame later all left e f = e ∙ ap (λ zs. answered ++ zs) f ∙ sym (append_assoc answered frame later)
 
--- one more frame was answered, and its text waits or all went out
+-- `Going` stays true when one more frame was answered, whose text waits, or went out with all that waited
 pub going_on : {State : Type 0} (rule : AnswerRule State) (rest piece left : List ℕ) (used : ℕ) (frame : Frame) (kept kept' : Kept)
     (from to next : Progress State) (text lengths text' lengths' : List ℕ)
     → (g : Going rule rest piece left kept from to text lengths) → Takes g.now left used frame kept' → Gathering rule from next (g.answered ++ completed frame) text' lengths'

@@ -49,12 +49,12 @@ id_plain (Some i) = All-from_recursion Plain (44 ∷ (48 + i) ∷ []) (above 44 
 colon_plain : (xs : List ℕ) → IsPlain xs → IsPlain (58 ∷ xs)
 colon_plain xs h = joined (58 ∷ []) xs (All-from_recursion Plain (58 ∷ []) (above 58 (omega arith), tt)) h
 
--- plain parameters are plain as a reply has them
+-- plain parameters are plain with the comma that a reply has in front of them
 params_plain : (params : List ℕ) → IsPlain params → IsPlain (params_text params)
 params_plain [] h = h
 params_plain (b ∷ bs) h = joined (44 ∷ []) (b ∷ bs) (All-from_recursion Plain (44 ∷ []) (above 44 (omega arith), tt)) h
 
--- a signature is plain
+-- a signature is plain: `%R1`, a byte `c` (Q for a request, P for a reply), and a comma
 signature_plain : (c : ℕ) → 13 < c → IsPlain (37 ∷ 82 ∷ 49 ∷ c ∷ 44 ∷ [])
 signature_plain c h = All-from_recursion Plain (37 ∷ 82 ∷ 49 ∷ c ∷ 44 ∷ []) (above 37 (omega arith), (above 82 (omega arith), (above 49 (omega arith), (above c h, (above 44 (omega arith), tt)))))
 

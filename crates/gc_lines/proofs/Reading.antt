@@ -1,4 +1,4 @@
--- A reader of one field, and what it does against the field's form.
+-- A reader of one field, and what it finds where the field has its form, or hasn't. A chain is `r >>= f`: r is its first part.
 use Rattle.std.proofs.Common.{◌≡◌, ℕ, ◌⊎◌, inl, inr, Bool, true, false, cond, List, Result, Ok, Err, IfOk, IfErr, refl, sym, ap, subst}
 use Rattle.gc_lines.specs.declared.fault.LineFault.{LineFault}
 use Rattle.gc_lines.specs.Headers.{Gives}
@@ -14,6 +14,7 @@ pub record Reads {A : Type 0} (read : List ℕ → Result A LineFault) (Has : Li
 pub refused : {A : Type 0} (read : List ℕ → Result A LineFault) (Has : List ℕ → A → Type 0) (fault : LineFault) → Reads read Has fault
     → (bytes : List ℕ) → ((a : A) → ¬ Has bytes a) → read bytes ≡ Err fault
 refused {A} read Has fault reads bytes absent = by_cases (read bytes) refl where
+  -- whatever the reader gave: as nothing has the form, it is the reader's fault
   by_cases : (r : Result A LineFault) → read bytes ≡ r → r ≡ Err fault
   by_cases (Ok a) e = absurd (absent a (reads.found bytes a e))
   by_cases (Err d) e = ap (λ (g : LineFault). Err g) (sym (reads.named bytes d e))
@@ -23,7 +24,7 @@ pub absent : {A : Type 0} (read : List ℕ → Result A LineFault) (Has : List �
     → (bytes : List ℕ) (d : LineFault) → read bytes ≡ Err d → (a : A) → ¬ Has bytes a
 absent read Has fault reads bytes d e a has = let again = reads.again bytes a has in (cc)
 
--- where a chain gives a value, its first part gave one, of which its second part made the chain's
+-- where a chain gives the value y, its first part gave a value x, and its second part made y of x
 pub bind_ok : {A B : Type 0} (r : Result A LineFault) (f : A → Result B LineFault) (y : B) → (r >>= f) ≡ Ok y → (x : A) × (r ≡ Ok x) × (f x ≡ Ok y)
 bind_ok (Ok x) f y e = (x, refl, e)
 bind_ok (Err d) f y e = (cc)
@@ -43,12 +44,12 @@ pub bind_stop : {A B : Type 0} (r : Result A LineFault) (f : A → Result B Line
 bind_stop (Ok y) f d e = (cc)
 bind_stop (Err c) f d e = let same : c ≡ d = cc in ap (λ (g : LineFault). Err g) same
 
--- where a guarded value is given, its test held
+-- where the value x, which is given only if the test b holds, was given as y, the test held, and x is y
 pub guard_ok : {A : Type 0} (b : Bool) (x y : A) (d : LineFault) → cond b (Ok x) (Err d) ≡ Ok y → (b ≡ true) × (x ≡ y)
 guard_ok true x y d e = (refl, cc)
 guard_ok false x y d e = (cc)
 
--- where a guarded value is refused, its test failed
+-- where the value x, which is given only if the test b holds, was refused, the test failed, and the fault is c
 pub guard_err : {A : Type 0} (b : Bool) (x : A) (c d : LineFault) → cond b (Ok x) (Err c) ≡ Err d → (b ≡ false) × (c ≡ d)
 guard_err true x c d e = (cc)
 guard_err false x c d e = (refl, cc)
@@ -60,8 +61,8 @@ pub record ReadsLines {F : Type 0} (read : List ℕ → Result F LineFault) (Is 
   pub fault : (line : List ℕ) (d : LineFault) → read line ≡ Err d → Bad line d
   pub bad : (line : List ℕ) (d : LineFault) → Bad line d → read line ≡ Err d
 
--- what a caller of a reader of lines learns, who sees the result by a view: a value has the grammar, a fault is the first bad field, and
--- each comes back wherever the line has it
+-- what a caller of a reader of lines learns, who sees the result by a view: a value has the grammar, a fault is the first bad
+-- field, and each of them is given wherever the line has it
 pub record Learns {F X : Type 0} (Is : List ℕ → F → Type 0) (Bad : List ℕ → LineFault → Type 0) (view : X → F) (line : List ℕ) (r : Result X LineFault) : Type 0 where
   pub found : IfOk r (λ x. Is line (view x))
   pub only : (y : F) → Is line y → Gives view r (Ok y)
@@ -72,17 +73,21 @@ pub record Learns {F X : Type 0} (Is : List ℕ → F → Type 0) (Bad : List �
 pub learns : {F X : Type 0} {read : List ℕ → Result F LineFault} {Is : List ℕ → F → Type 0} {Bad : List ℕ → LineFault → Type 0} → ReadsLines read Is Bad
     → (view : X → F) (line : List ℕ) (r : Result X LineFault) → Gives view r (read line) → Learns Is Bad view line r
 learns {F} {X} {read} {Is} {Bad} reads view line r gives = record { found = found r gives; only = only; fault = fault r gives; faulty = faulty r gives } where
+  -- a value has the grammar
   found : (r : Result X LineFault) → Gives view r (read line) → IfOk r (λ x. Is line (view x))
   found (Ok x) e = reads.found line (view x) e
   found (Err d) e = tt
 
+  -- where the line has the grammar of y, the result is y, seen by the view
   only : (y : F) → Is line y → Gives view r (Ok y)
   only y is = subst (λ (got : Result F LineFault). Gives view r got) (reads.again line y is) gives
 
+  -- a fault is the first bad field of the line
   fault : (r : Result X LineFault) → Gives view r (read line) → IfErr r (λ d. Bad line d)
   fault (Ok x) e = tt
   fault (Err d) e = reads.fault line d e
 
+  -- where d is the first bad field of the line, the result is the fault d
   faulty : (r : Result X LineFault) → Gives view r (read line) → (d : LineFault) → Bad line d → r ≡ Err d
   faulty (Ok x) e d bad = let f = reads.bad line d bad in (cc)
   faulty (Err c) e d bad = let f = reads.bad line d bad in (cc)

@@ -68,7 +68,7 @@ code_reads = record { found = code_found; again = code_again; named = code_named
 
 -- the line
 
--- the fields of a reply, of its header and of its code and parameters
+-- a reply's fields, made of those of its header, and of its code and parameters
 abbrev fields : HeaderFields → ℕ × List ℕ → ReplyFields
 fields h code = record { rc_com = h.number; id = h.id; rc = code.0; params = code.1 }
 

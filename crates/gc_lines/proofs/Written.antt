@@ -32,7 +32,7 @@ decimal_zeros n h zero = elim (cases_lt 0 n) [
   | inr none ↦ ap length (decimal_digit n (omega arith))
 ]
 
--- only the written text of a number has no leading zero
+-- a number's text without leading zeros is the one that is written
 number_written : (text : List ℕ) (n : ℕ) → IsNumber text n → NoLeadingZero text → text ≡ decimal n
 number_written text n is zeros = sym (decimal-digits_value plain text is.digits is.some zeros (omega (arith, is.value, is.bound))) ∙ ap decimal is.value
 

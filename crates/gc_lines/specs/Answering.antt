@@ -47,15 +47,17 @@ AnswersInOrder State rule before (frame ∷ later) after texts =
 abbrev pub all_of : List (List ℕ) → List ℕ
 all_of texts = flat_map (λ text. text) texts
 
--- all of these frames were answered, and the texts went out whole: with the `before` that had gone out earlier they are `count`
+-- all of the frames `seen` were answered, which took the answerer from one state to another, and all texts went out whole, so
+-- that what the sink has taken, where that is known, grew from `old` to `new`. With the `before` texts that had gone out earlier,
+-- `count` have
 pub record AnswersAll {State : Type 0} (rule : AnswerRule State) (from to : State) (seen : List Frame) (old new : Option (List ℕ)) (before count : ℕ) : Type 0 where
   pub texts : List (List ℕ)
   pub answers : AnswersInOrder State rule from seen to texts
   pub counts : count ≡ before + length texts
   pub took : Appends old new (all_of texts)
 
--- these frames were answered up to one whose text was cut: only its first `bytes` bytes went out, and no later frame was answered. With the
--- `before` texts that had gone out earlier, `count` went out whole
+-- the frames `seen` were answered up to one whose text was cut: only its first `bytes` bytes went out, and no later frame was
+-- answered. With the `before` texts that had gone out earlier, `count` went out whole; the rest is as in `AnswersAll`
 pub record AnswersPart {State : Type 0} (rule : AnswerRule State) (from to : State) (seen : List Frame) (old new : Option (List ℕ)) (before count bytes : ℕ) : Type 0 where
   pub earlier : List Frame
   pub frame : Frame
@@ -70,7 +72,7 @@ pub record AnswersPart {State : Type 0} (rule : AnswerRule State) (from to : Sta
   pub not_all : bytes < length text
   pub took : Appends old new (all_of texts ++ take bytes text)
 
--- how many of the frames that were read were answered, by the result: all, or at a failed write those up to the one whose text was cut
+-- how many of the frames `seen`, which were read, were answered, by the result: all, or at a failed write those up to the one whose text was cut
 abbrev pub AnswersFrames : {State : Type 0} → AnswerRule State → State → State → List Frame → Option (List ℕ) → Option (List ℕ) → Result Served ServeFault → Type 0
 AnswersFrames rule from to seen old new (Ok served) = AnswersAll rule from to seen old new 0 served.replies
 AnswersFrames rule from to seen old new (Err (Read count)) = AnswersAll rule from to seen old new 0 count
@@ -98,8 +100,10 @@ ports_of of_source source of_sink sink = record {
   sink_failed = of_sink.failed sink;
 }
 
--- what each result of a run of at most `most` reads says of the ports before and after it: how many reads were answered, whether the last
--- was the end, and which port has failed
+-- what each result of a run of at most `most` reads says of the ports before (`old`) and after it (`new`). Ok: a read was answered, and the
+-- last was the end. Read: one of the reads failed at the source, so fewer than `most` were answered, and none was the end. Write: the sink
+-- failed, after a read that wasn't the end. TooManyReads: all `most` reads were answered, none was the end, and no port failed. Where no
+-- read was answered, `ended` is as old as an earlier run, and nothing is said of it. A source whose read was answered hasn't failed
 abbrev pub EndsBecause : Ports → Ports → ℕ → Result Served ServeFault → Type 0
 EndsBecause old new most (Ok _) = (old.reads < new.reads) × (new.reads ≤ old.reads + most) × (new.ended ≡ true) × (new.source_failed ≡ false) × (new.sink_failed ≡ old.sink_failed)
 EndsBecause old new most (Err (Read _)) = (new.reads < old.reads + most) × (old.reads < new.reads → new.ended ≡ false) × (new.source_failed ≡ true) × (new.sink_failed ≡ old.sink_failed)

@@ -1,6 +1,6 @@
--- No part of a promise: what an assembler keeps of the bytes since the last line feed. A reader may take `StandsFor` for any
--- relation. What the assembler's contracts say of it (at the start, over a piece without a line feed, and at a line feed) gives
--- a stream's frames, whatever it means.
+-- No part of a promise: what an assembler keeps of the bytes since the last line feed. A reader need not know what `StandsFor`
+-- means: whatever relation it is, what the assembler's contracts say of it (at the start, over a piece without a line feed, and
+-- at a line feed) gives a stream's frames.
 use Rattle.std.specs.Prelude.{◌≡◌, ℕ, ◌-◌, List, Bool, length, take, nat_lt, slice_index}
 
 -- what an assembler keeps of the bytes since the last line feed: the first 513, the last one, and whether there are more than 513
@@ -9,7 +9,8 @@ pub record Kept : Type 0 where
   pub last : ℕ
   pub long : Bool
 
--- an assembler that keeps this may have got these bytes since the last line feed: one list alone up to 513 bytes, many above
+-- an assembler that keeps this may have got these bytes since the last line feed. Up to 513 bytes that is true of one list alone,
+-- above of many
 pub record StandsFor (kept : Kept) (rest : List ℕ) : Type 0 where
   pub front : kept.front ≡ take 513 rest
   pub last : kept.last ≡ slice_index rest (length rest - 1)

@@ -47,7 +47,8 @@ pub record PastColon (signature line rest : List ℕ) : Type 0 where
   pub before : PastId signature line from
   pub here : from ≡ 58 ∷ rest
 
--- the fault names the first faulty field, from the left, of a line with this signature; Body says what may stand behind the colon
+-- the fault names the first faulty field, from the left, of a line that is to have this signature. `Body` says what may stand behind the
+-- colon; `Code`: what stands there doesn't fit. No field is `TooLong`
 abbrev pub FirstBadField : List ℕ → (List ℕ → Type 0) → List ℕ → LineFault → Type 0
 FirstBadField signature Body line Signature = (rest : List ℕ) → ¬ PastSignature signature line rest
 FirstBadField signature Body line Number = (from : List ℕ) × PastSignature signature line from × ((n : ℕ) (rest : List ℕ) → ¬ HasNumber from n rest)
@@ -58,7 +59,7 @@ FirstBadField signature Body line TooLong = ⊥
 
 -- What a reader answers.
 
--- what a function returned, seen by a view, is what reading gives
+-- a function returned what `read` is: the same fault, or a value that `view` shows to be the one of `read`
 abbrev pub Gives : {X Y : Type 0} → (X → Y) → Result X LineFault → Result Y LineFault → Type 0
 Gives view (Ok x) read = read ≡ Ok (view x)
 Gives view (Err e) read = read ≡ Err e

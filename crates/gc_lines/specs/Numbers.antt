@@ -15,7 +15,7 @@ pub record IsNumber (text : List ℕ) (n : ℕ) : Type 0 where
 abbrev pub NoLeadingZero : List ℕ → Type 0
 NoLeadingZero text = slice_index text 0 ≡ 48 → length text ≡ 1
 
--- no run of digits goes on into these bytes
+-- the bytes don't begin with a digit
 abbrev pub NoDigitFirst : List ℕ → Type 0
 NoDigitFirst [] = Unit {0}
 NoDigitFirst (b ∷ bs) = is_ascii_digit b ≡ false

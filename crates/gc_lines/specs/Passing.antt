@@ -9,7 +9,7 @@ use Rattle.gc_lines.specs.declared.frame.Frame.TheVariants.{Line, Cleared, Overl
 abbrev pub frames_behind : List ℕ → List ℕ → List Frame
 frames_behind rest piece = map frame_of (pieces_behind rest piece)
 
--- a frame that a line feed has ended, and nothing where none came yet
+-- the frame, in a list of its own, where a line feed has ended it; the empty list where none came yet
 abbrev pub completed : Frame → List Frame
 completed More = []
 completed (Line line) = Line line ∷ []
@@ -26,7 +26,8 @@ pub record Progress (State : Type 0) : Type 0 where
 abbrev pub progress_at : {State : Type 0} → State → Option (List ℕ) → ℕ → Progress State
 progress_at state taken whole = record { state = state; taken = taken; whole = whole }
 
--- frames were answered; the texts of the first ones, `done`, went out, and those of the others, `held`, wait in `text`, with these lengths
+-- between the progress `from` and `to` the frames `seen` were answered; the texts of the first ones, `done`, went out, and those
+-- of the others, `held`, wait in `text`, with these lengths
 pub record Gathering {State : Type 0} (rule : AnswerRule State) (from to : Progress State) (seen : List Frame) (text lengths : List ℕ) : Type 0 where
   pub state : State
   pub done : List Frame

@@ -1,4 +1,5 @@
--- What a call of a source and of a sink does to what contracts see of them: this project's own.
+-- What a call of a source and of a sink does to what contracts see of them: this project's own. `old` and `new` are what is seen
+-- before and after the call: the bytes that a source has still to give, those that a sink took, or whether a port has failed.
 use Rattle.std.specs.Prelude.{◌≡◌, ℕ, ◌+◌, ◌<◌, ◌≤◌, ◌==◌, Bool, true, false, List, length, take, Option, Result, Ok, Err}
 use Rattle.std.specs.Io.KnownBytes.{Consumes, Appends, Keeps, IsAtEnd}
 

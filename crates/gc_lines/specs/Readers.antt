@@ -53,7 +53,8 @@ pub record HeaderFields : Type 0 where
 abbrev pub header_seen : Header → HeaderFields
 header_seen h = record { number = h.number; id = h.id; rest = h.rest.now }
 
--- reads the fields through the colon, from the left, or gives the fault of the first that hasn't its form
+-- reads the fields through the colon, from the left, or gives the fault of the first that hasn't its form. `from` is what stands behind
+-- the signature
 unfoldable pub header_at : List ℕ → List ℕ → Result HeaderFields LineFault
 header_at signature line = do
   from ← signature_at signature line

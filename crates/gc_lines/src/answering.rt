@@ -39,7 +39,7 @@ pub trait Answers {
 /// together, before the next read. It takes no memory.
 ///
 /// Bytes without a line feed at the end of the input are no frame. Without `gathers` the answerer has got all frames that were
-/// read; after a failed write it has got none behind the frame whose text was on its way. With `gathers` it may then have got
+/// read; after a failed write it has got none after the frame whose text was on its way. With `gathers` it may then have got
 /// later frames of the same read, too.
 ///
 /// It returns [`Served`] exactly where the last read was the end. Over ports that hadn't failed before, it fails with `Read` (42)

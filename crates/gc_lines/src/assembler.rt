@@ -18,8 +18,11 @@ use std::marker::Model;
 /// and no more, so its size does not grow with the stream.
 #[derive(Drop)]
 pub struct Assembler {
+    // The first 513 bytes since the last line feed.
     front: ArrayVec<u8, 513>,
+    // The last byte since then, or 0 where none came.
     last: u8,
+    // Whether more than 513 bytes came since then.
     long: bool,
 }
 
@@ -57,7 +60,7 @@ impl Assembler {
     /// Uses the piece through its first line feed. It returns how many bytes those were, and the frame that they end.
     ///
     /// Where the piece has no line feed, all of it is used and the frame is [`Lent::More`], also where it is empty. After
-    /// the other three frames the assembler is at the start of a line. A line that stands whole in the piece is lent from
+    /// any other frame the assembler is at the start of a line. A line that stands whole in the piece is lent from
     /// there; one that earlier pieces began is put together in `cut`, whatever stood there, and lent from there.
     #[inline(always)]
     pub fn next<'a>(&mut self, piece: &'a [u8], cut: &'a mut Line) -> (usize, Lent<'a>)
@@ -97,7 +100,8 @@ impl Assembler {
         (used, lent.to_frame())
     }
 
-    // Notes further bytes of the line: those of the front as far as there is room, the last one, and whether room ran out.
+    // Keeps further bytes of the line: it appends them to `front` as far as there is room, and notes the last of them, and
+    // whether room ran out.
     #[inline(never)]
     fn keep(&mut self, bytes: &[u8])
         ensures stands { (rest : List ℕ) × StandsFor self.old rest }

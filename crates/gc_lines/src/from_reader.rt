@@ -54,6 +54,7 @@ impl<R: Read> Source for FromReader<R> {
             (⟦<FromReader<R> as Source>⟧.failed self.new) result }
         ensures limit { ⟦<FromReader<R> as Source>⟧.reads self.old ≡ 2 ^ 64 - 1 → IsErr result }
     {
+        // Where 2^64 - 1 reads were answered, no further one can be counted: it fails.
         if self.broken || self.answered == u64::MAX {
             self.broken = true;
             return Err(PortFailed);

@@ -1,4 +1,4 @@
-//! The lengths of texts that wait for one another.
+//! The lengths of the texts that wait to be written.
 
 ghost use Rattle.std.specs.Prelude.{◌≡◌, ◌<◌, [], ◌∷◌, ◌++◌, length};
 

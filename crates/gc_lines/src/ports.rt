@@ -83,7 +83,7 @@ pub trait Sink {
 /// An implementor says with `is_durable` whether the bytes that were taken outlast what the sink is meant to outlast: a crash, for a
 /// file that is synced. The end of a pipe is meant to outlast nothing, so its bytes always do.
 pub trait Durable: Sink {
-    /// Whether what was taken outlasts what this sink is meant to outlast.
+    /// Whether the bytes that were taken outlast what this sink is meant to outlast, as a crash.
     ghost is_durable: { Self → Bool };
 
     /// Makes all bytes that were taken outlast what this sink is meant to outlast. It takes no bytes, and fails exactly where

@@ -87,6 +87,7 @@ pub fn push_reply<const N: usize>(to: &mut ArrayVec<u8, N>, rc_com: u16, id: u8,
     ensures items { to.new.items ≡ to.old.items ++ reply_text (record { rc_com = rc_com; id = Some id; rc = rc; params = [] }) }
     ensures len { array_vec_len to.new ≤ array_vec_len to.old + 18 }
 {
+    // The usual reply, with both codes 0, is appended as one array.
     if rc_com == 0 && rc == 0 {
         append(
             to,

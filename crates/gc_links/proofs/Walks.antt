@@ -1,4 +1,4 @@
--- A step that the walks of `src/history.rt` share. Assumes `Logic`.
+-- A step that the hand-written proofs (walks) of `src/history.rt` share. Assumes `Logic`.
 use Rattle.std.proofs.Common.{List, [], ◌∷◌, refl}
 use seplogic.Ra.Ura.{Ura}
 use mir.Val.{Val, vstruct, vnil}
@@ -8,9 +8,11 @@ use denote.RattleType.{RattleType, Valss}
 use denote.Steps.{nothing}
 use denote.Struct.Struct.{Struct, within}
 
+-- the value of a struct without fields
 abbrev pub none : Val
 none = vstruct vnil
 
+-- the type of a struct without fields
 abbrev pub fieldless : RattleType
 fieldless = Struct (record { name = []; args = []; types = []; fields = [] })
 

@@ -8,7 +8,7 @@ use Rattle.gc_links.specs.declared.link.Moment.{Moment}
 pub data Act : Type 0 where
   -- the clock was read
   Told : (moment : Moment) → Act
-  -- the clock couldn't be read, alone or behind a read
+  -- the clock couldn't be read, alone or after a read
   Untold : Act
   -- these bytes went out whole
   Put : (bytes : List ℕ) → Act
@@ -29,7 +29,8 @@ pub data Act : Type 0 where
   -- no new connection could be made
   Unopened : Act
 
--- acts that were known are known still, with these behind them
+-- where the acts of a link were known before a call, they are known after it, and are those before and then `acts`; of a link
+-- whose acts aren't known (`None`) nothing is said
 abbrev pub Tells : Option (List Act) → Option (List Act) → List Act → Type 0
 Tells None new acts = Unit {0}
 Tells (Some xs) None acts = ⊥
@@ -45,7 +46,7 @@ abbrev pub put_as : Result (Unit {0}) ℕ → List ℕ → Act
 put_as (Ok _) bytes = Put bytes
 put_as (Err n) bytes = Cut bytes n
 
--- the act of a read, by its outcome and the buffer behind it
+-- the act of a read, by its outcome and the buffer after it
 abbrev pub came_as : Came → List ℕ → Act
 came_as (Bytes n moment) buf = Gave (take n buf) moment
 came_as (Silence moment) buf = Silent moment

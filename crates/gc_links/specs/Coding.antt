@@ -1,4 +1,4 @@
--- How the logic stores acts.
+-- How the proofs' logic stores acts: as numbers and bytes, from which the acts come back.
 use Rattle.std.specs.Prelude.{◌≡◌, ℕ, List, [], cond, ◌==◌, refl}
 use Rattle.std.specs.Coded.{Coded, code_by, coded×, coded_ℕ, coded_list}
 use Rattle.gc_links.specs.declared.link.Moment.{Moment}

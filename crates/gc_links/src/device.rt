@@ -66,14 +66,14 @@ fn reason_of(kind: ErrorKind) -> Option<Unusable> {
     }
 }
 
-// Sets a device so that no read or write of it waits. The system keeps this mark with the open file, so another descriptor of the
-// file can set it.
+// Sets a device so that no read or write of it waits. `File` has no call for that. So the call is made on a second descriptor of
+// the same open file, which is taken for a socket: the system keeps the setting with the open file, for both descriptors.
 fn set_free(file: &File) -> io::Result<()> {
     let other = TcpStream::from(file.as_fd().try_clone_to_owned()?);
     other.set_nonblocking(true)
 }
 
-/// Whether an error says only that nothing came or went until now, so that a rest and another call are in place.
+/// Whether an error says only that nothing came or went until now, so that the call is to be made again after a rest.
 pub(crate) fn is_rest(kind: ErrorKind) -> bool {
     matches!(kind, ErrorKind::WouldBlock | ErrorKind::Interrupted)
 }
@@ -108,8 +108,8 @@ pub(crate) fn write_some<R: Clock>(
 }
 
 /// A serial device by its path, and the time since the link was made. No clause says what a device carried, so its acts are not
-/// known. Each of its calls ends, whatever the device does, but for an opening that waits for the carrier. A close lets the device
-/// go only where it ended or failed; else it stays locked, and the next opening takes it again.
+/// known. Each of its calls ends, whatever the device does, but for an opening that waits for the carrier. A close lets the
+/// device go only where it ended or failed; else it stays locked, and the next opening takes it again.
 #[derive(Drop)]
 pub struct DeviceLink<'a, R> {
     rt: &'a R,
@@ -135,14 +135,14 @@ impl<'a, R: Files<File = File> + Clock> DeviceLink<'a, R> {
         })
     }
 
-    /// Opens the device, and holds it for the link's first opening. `None` as the reason: it isn't there now, or it can't be opened
-    /// for a reason without a name.
+    /// Opens the device, and holds it for the link's first opening. `None` as the reason: it isn't there now, or it can't be
+    /// opened for a reason without a name.
     pub fn look(&mut self) -> Result<(), Option<Unusable>> {
         self.held = Some(open_device(self.rt, self.path)?);
         Ok(())
     }
 
-    // Takes the device that is held. `None`: none is held, or the device that was is no terminal any more, and is let go.
+    // Takes the device that is held. `None`: none is held, or the held one is no terminal any more; it is then closed.
     fn still_held(&mut self) -> Option<File> {
         let held = self.held.take()?;
         if held.is_terminal() { Some(held) } else { None }
@@ -163,7 +163,7 @@ impl<'a, R: Files<File = File> + Clock> DeviceLink<'a, R> {
     }
 
     // Reads until bytes came, the device ended or failed, or `millis` milliseconds have gone by since the moment `began`. The
-    // moment of a silence is taken before the last read. That read gave nothing, so nothing had come until then.
+    // moment of a silence is taken before the last read. That read gave nothing, so nothing had come by that moment.
     fn read_until(&mut self, buf: &mut [u8], began: u64, millis: u64) -> Came
         ensures { IsWithin result buf.new }
     {
@@ -188,6 +188,7 @@ impl<'a, R: Files<File = File> + Clock> DeviceLink<'a, R> {
             }
             self.timer.rest(REST.min(millis - gone));
         }
+        // Never in practice: 2^64 reads that gave nothing.
         Came::End
     }
 }
@@ -199,6 +200,7 @@ impl<'a, R: Files<File = File> + Clock> Link for DeviceLink<'a, R> {
         self.timer.moment().map_err(|_| PortFailed)
     }
 
+    // Reads until bytes come or `millis` milliseconds have gone by. Where no device is open, it only waits.
     fn read(&mut self, buf: &mut [u8], millis: u64) -> Came {
         if self.file.is_none() {
             return self.timer.wait(millis);
@@ -209,7 +211,7 @@ impl<'a, R: Files<File = File> + Clock> Link for DeviceLink<'a, R> {
         self.read_until(buf, moment.elapsed, millis)
     }
 
-    // All rests of one put together last no longer than `PATIENCE`.
+    // Writes all bytes, and rests where the device takes none. All rests of one put together last no longer than `PATIENCE`.
     fn put(&mut self, bytes: &[u8]) -> Result<(), usize> {
         let Some(file) = &self.file else {
             return Err(0);
@@ -228,7 +230,8 @@ impl<'a, R: Files<File = File> + Clock> Link for DeviceLink<'a, R> {
         Ok(())
     }
 
-    // A device that neither ended nor failed stays open, and so stays locked. What comes until the next opening waits in the system.
+    // Ends the connection. A device that neither ended nor failed stays open, and so stays locked. What comes until the next
+    // opening waits in the system.
     fn close(&mut self) {
         let file = self.file.take();
         if file.is_some() && !self.gone {
@@ -237,6 +240,7 @@ impl<'a, R: Files<File = File> + Clock> Link for DeviceLink<'a, R> {
         self.gone = false;
     }
 
+    // Takes the device that is held, if one is held and still there, and else opens the path anew.
     fn open(&mut self) -> Result<(), PortFailed> {
         self.close();
         self.file = match self.still_held() {

@@ -1,4 +1,5 @@
-//! The history of a link: what its calls came to, in order. It is there for proofs alone: no code reads it, and it takes no memory.
+//! The history of a link: what its calls came to, in order. It is there for proofs alone: no code reads it, and it takes no
+//! memory.
 
 ghost use Rattle.std.specs.Prelude.{◌≡◌, [], ◌∷◌, ◌++◌, List};
 ghost use base.Fml.{ftrue};
@@ -55,7 +56,7 @@ impl History {
         History {}
     }
 
-    /// The history with one more act, that of the note. The acts are ghost, so there is nothing to copy.
+    /// The history with one more act at its end, the one that the note tells. The acts are ghost, so there is nothing to copy.
     pub fn then(&self, _note: &Note<'_>) -> History
         ensures { result.acts ≡ self.now.acts ++ act_of _note.now ∷ [] }
     {

@@ -28,9 +28,9 @@ impl<'a> Display for Place<'a> {
     }
 }
 
-/// The place that a word names: a port from 1 to 65535, `HOST:PORT` with such a port, or the path of a device, which has a
-/// slash, and no `://` as the address of another protocol has. An address with colons stands in brackets, and nothing else does.
-/// `None`: it is none of the three.
+/// The place that a word names. A word with a slash is the path of a device; `://`, as in a URL, is refused. Any other word is a
+/// port from 1 to 65535, or `HOST:PORT` with such a port. A host with colons (an IPv6 address) stands in brackets, and no other
+/// does. `None`: the word is none of the three.
 pub fn place_of(word: &str) -> Option<Place<'_>>
     ensures { IfSome result (λ place. IsPlace word.now place) }
 {
@@ -74,10 +74,12 @@ fn within_brackets(host: &[u8]) -> Option<&[u8]> {
     host.strip_prefix(b"[")?.strip_suffix(b"]")
 }
 
+// Whether a colon stands in a text.
 fn has_colon(text: &[u8]) -> bool {
     memchr(b':', text).is_some()
 }
 
+// Whether `[` or `]` stands in a text.
 fn has_bracket(text: &[u8]) -> bool {
     text.iter().any(|b| matches!(*b, b'[' | b']'))
 }

@@ -11,8 +11,9 @@ use std::io::{self, ErrorKind, Read, Write};
 use std::net::{Net, TcpListener, TcpStream};
 use std::time::{Clock, Duration};
 
-// The system may end a wait this many milliseconds too late. So a read that may wait no longer than this rests a millisecond and looks
-// once, and the caller looks again: that keeps the moment that is waited for.
+// The system may end a wait this many milliseconds too late. So a read that may wait no longer than this rests for a
+// millisecond, reads once with the shortest timeout, and leaves it to the caller to read again. So the caller isn't late for
+// what it waits for.
 const SHORT: u64 = 40;
 
 // How often one put is tried again where it was interrupted.
@@ -76,8 +77,8 @@ impl<'a, R: Net<Listener = TcpListener, Stream = TcpStream> + Clock> TcpLink<'a,
         }
     }
 
-    // Reads once more behind a read that gave nothing: bytes may have come while this program was stopped. The moment is taken
-    // first. Where this read gives nothing either, nothing had come until that moment.
+    // Reads once more after a read that gave nothing: bytes may have come while this program was stopped. The moment is taken
+    // first. Where this read gives nothing either, nothing had come by that moment.
     fn read_again(&mut self, buf: &mut [u8]) -> Came
         ensures { IsWithin result buf.new }
     {
@@ -121,7 +122,8 @@ impl<'a, R: Net<Listener = TcpListener, Stream = TcpStream> + Clock> Link for Tc
         self.timer.moment().map_err(|_| PortFailed)
     }
 
-    // A read ends early rather than late. The moment of its silence says how early, and the caller reads again.
+    // Reads some bytes, or waits until about `millis` milliseconds have gone by. It ends early rather than late: the moment of
+    // its silence says how early, and the caller reads again. Where there is no connection, it only waits.
     fn read(&mut self, buf: &mut [u8], millis: u64) -> Came {
         if self.stream.is_none() {
             return self.timer.wait(millis);
@@ -137,7 +139,8 @@ impl<'a, R: Net<Listener = TcpListener, Stream = TcpStream> + Clock> Link for Tc
         }
     }
 
-    // A write that was interrupted is made again, at most `MOST_INTERRUPTIONS` times in one put.
+    // Writes all bytes, as many at once as the system takes. A write that was interrupted is made again, at most
+    // `MOST_INTERRUPTIONS` times in one put.
     fn put(&mut self, bytes: &[u8]) -> Result<(), usize> {
         let Some(stream) = &mut self.stream else {
             return Err(0);
@@ -161,6 +164,7 @@ impl<'a, R: Net<Listener = TcpListener, Stream = TcpStream> + Clock> Link for Tc
         self.stream = None;
     }
 
+    // Connects to the peer, and sets how long a write may wait. The old connection stays where that fails.
     fn open(&mut self) -> Result<(), PortFailed> {
         let patience = Duration::from_millis(self.patience);
         let Ok(stream) = connect(self.rt, self.peer, patience) else {

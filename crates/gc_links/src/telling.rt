@@ -44,6 +44,7 @@ fn noted<'a>(came: Came, buf: &'a [u8]) -> Note<'a>
     }
 }
 
+// Each call is that of the link inside, and what it came to is noted in the history.
 impl<L: Link> Link for Telling<L> {
     ghost use Rattle.std.specs.Prelude.{Some};
 

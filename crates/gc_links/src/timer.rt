@@ -42,7 +42,7 @@ impl<'a, R: Clock> Timer<'a, R> {
     }
 
     /// Waits for `millis` milliseconds in place of a read, where there is no connection. It returns `Silence` with the moment
-    /// behind the wait, or `NoMoment`.
+    /// after the wait, or `NoMoment` where the clock couldn't be read.
     pub(crate) fn wait(&self, millis: u64) -> Came
         ensures { (buf : List ℕ) → IsWithin result buf }
     {

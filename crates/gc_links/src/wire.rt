@@ -19,7 +19,7 @@ const PULLED_OUT: i32 = 5;
 pub enum Wire<'a, R> {
     /// Over TCP.
     Tcp(TcpStream),
-    /// Over a device, with what has the clock for its rests.
+    /// Over a device, with the runtime whose clock times the rests between two tries.
     Device(&'a R, File),
 }
 

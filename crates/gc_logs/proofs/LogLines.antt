@@ -1,4 +1,5 @@
--- A log's lines: those of more bytes, and what they stand for.
+-- The lines that a log has of more and more bytes, what is pending behind these, and the bytes that the lines stand for (`wire`).
+-- `Takes` says that a log's sink, where it hasn't failed, took a text.
 use Rattle.std.proofs.Common.{◌≡◌, ℕ, ◌+◌, ◌-◌, ◌<◌, ◌==◌, ◌&&◌, Bool, true, false, cond, not, List, [], ◌∷◌, ◌++◌, length, take, get_or, Option, refl, sym, ap, subst, ◌∙◌, arith, append_assoc, append-nil}
 use Rattle.std.specs.Prelude.{nat_lt}
 use Rattle.std.proofs.lemmas.Bool.{cond_both, eqb-true, ltb-true}
@@ -12,18 +13,18 @@ use Rattle.gc_logs.specs.declared.logging.Unwritten.{Unwritten}
 use Rattle.gc_logs.specs.declared.logging.Way.{Way}
 use Rattle.gc_logs.specs.declared.logging.Way.TheVariants.{Went, Came}
 
--- the lines that bytes give, and one byte more, are those of the bytes, and behind them those of that byte
+-- the lines that the bytes `bs` and then b give are those that `bs` give, and behind them those that b gives
 entries_more : (way : Way) (p : Unwritten) (bs : List ℕ) (b : ℕ) → entries way p (bs ++ b ∷ []) ≡ entries way p bs ++ entries_at way (pending_behind p bs) b
 entries_more way p [] b = append-nil (entries_at way p b)
 entries_more way p (c ∷ cs) b = ap (λ es. entries_at way p c ++ es) (entries_more way (pending_at p c) cs b)
     ∙ sym (append_assoc (entries_at way p c) (entries way (pending_at p c) cs) (entries_at way (pending_behind (pending_at p c) cs) b))
 
--- what is pending behind bytes, and one more, is what that byte makes of what is pending behind the bytes
+-- what is pending after the bytes `bs` and then b is what b makes of what is pending after `bs`
 pending_more : (p : Unwritten) (bs : List ℕ) (b : ℕ) → pending_behind p (bs ++ b ∷ []) ≡ pending_at (pending_behind p bs) b
 pending_more p [] b = refl
 pending_more p (c ∷ cs) b = pending_more (pending_at p c) cs b
 
--- the text of lines, and of others behind them, is that of the lines, and behind it that of the others
+-- the text of the lines `es ++ fs` is that of `es`, and behind it that of `fs`
 text_more : (utc : ℕ) (es fs : List Entry) → log_text_of utc (es ++ fs) ≡ log_text_of utc es ++ log_text_of utc fs
 text_more utc es fs = flat_map-append (λ (e : Entry). log_line utc e.mark e.bytes) es fs
 
@@ -34,16 +35,17 @@ takes_both a b c fa fb fc xs ys one next = record {
   stood = λ stands. one.stood (next.stood stands);
 }
 
--- a log that took a text took one that is the same
+-- in `Takes`, the text may be replaced by one that equals it
 takes_is : (a b : Option (List ℕ)) (fa fb : Bool) (xs ys : List ℕ) → xs ≡ ys → Takes a b fa fb xs → Takes a b fa fb ys
 takes_is a b fa fb xs ys e h = subst (Takes a b fa fb) e h
 
--- a loop over bytes takes one more
+-- one turn of the loop over the bytes `bs`, at byte i: `p` is pending before the loop, `q` before this byte, and `r` after it
 module _ (a b c : Option (List ℕ)) (fa fb fc : Bool) (utc : ℕ) (way : Way) (p q r : Unwritten) (bs : List ℕ) (i : ℕ) (within : i < length bs) where
+  -- the first i + 1 bytes are the first i and byte i
   more : take (i + 1) bs ≡ take i bs ++ get_or bs i 0 ∷ []
   more = take_more bs i 0 within
 
-  -- a log took the lines of some bytes, and those of one more
+  -- where a log took the lines of the first i bytes, and then those of byte i, it took the lines of the first i + 1
   pub took_more : q ≡ pending_behind p (take i bs) → Takes a b fa fb (log_text_of utc (entries way p (take i bs))) → Takes b c fb fc (log_text_of utc (entries_at way q (get_or bs i 0)))
       → Takes a c fa fc (log_text_of utc (entries way p (take (i + 1) bs)))
   took_more behind one next =
@@ -53,7 +55,7 @@ module _ (a b c : Option (List ℕ)) (fa fb fc : Bool) (utc : ℕ) (way : Way) (
       let last : Takes b c fb fc (log_text_of utc fs) = subst (λ z. Takes b c fb fc (log_text_of utc (entries_at way z (get_or bs i 0)))) behind next in
       takes_is a c fa fc _ _ (sym (text_more utc es fs) ∙ ap (log_text_of utc) whole) (takes_both a b c fa fb fc (log_text_of utc es) (log_text_of utc fs) one last)
 
-  -- what is pending behind some bytes, and behind one more
+  -- where `q` is pending after the first i bytes, and byte i makes `r` of it, `r` is pending after the first i + 1
   pub is_behind : q ≡ pending_behind p (take i bs) → r ≡ pending_at q (get_or bs i 0) → r ≡ pending_behind p (take (i + 1) bs)
   is_behind behind next = next ∙ ap (λ z. pending_at z (get_or bs i 0)) behind ∙ sym (ap (pending_behind p) more ∙ pending_more p (take i bs) (get_or bs i 0))
 
@@ -97,24 +99,27 @@ line_wire way p =
     whole_wire way front ∙ sym (append_assoc front (13 ∷ []) (10 ∷ [])) ∙ ap (λ bs. bs ++ 10 ∷ []) (sym cut))
     (λ _. part_wire way (p.bytes.items ++ 10 ∷ []))
 
--- one more byte that is no line feed is pending, or begins what is pending behind a part
+-- of a byte that is no line feed: the lines that it gives, and what is pending then, stand for what was pending and the byte,
+-- whether there was room for it (`short`), or what was pending became a part
 in_line : (way : Way) (p : Unwritten) (b : ℕ) (short : Bool) → wire (cond short [] (entry (part_mark way) p.bytes.items ∷ [])) ++
     (cond short (pending (p.bytes.items ++ b ∷ []) p.is_long) (pending (b ∷ []) true)).bytes.items ≡ p.bytes.items ++ b ∷ []
 in_line way p b true = refl
 in_line way p b false = ap (λ w. w ++ b ∷ []) (part_wire way p.bytes.items)
 
--- what any byte gives and leaves pending stands for what was pending and that byte, by whether it is a line feed
+-- of any byte, by whether it is a line feed (`feed`): the lines that it gives, and what is pending then, stand for what was
+-- pending and the byte
 at_end : (way : Way) (p : Unwritten) (b : ℕ) (feed : Bool) → (b == 10) ≡ feed
     → wire (cond feed (entry_of_line way p ∷ []) (cond (nat_lt (length p.bytes.items) 513) [] (entry (part_mark way) p.bytes.items ∷ [])))
     ++ (cond feed nothing (cond (nat_lt (length p.bytes.items) 513) (pending (p.bytes.items ++ b ∷ []) p.is_long) (pending (b ∷ []) true))).bytes.items ≡ p.bytes.items ++ b ∷ []
 at_end way p b true is = append-nil (wire (entry_of_line way p ∷ [])) ∙ line_wire way p ∙ ap (λ c. p.bytes.items ++ c ∷ []) (sym (eqb-true b 10 is))
 at_end way p b false is = in_line way p b (nat_lt (length p.bytes.items) 513)
 
--- what one more byte gives, and what is pending then, stand for what was pending and that byte
+-- the lines that one more byte gives, and what is pending then, stand for what was pending and that byte
 byte_wire : (way : Way) (p : Unwritten) (b : ℕ) → wire (entries_at way p b) ++ (pending_at p b).bytes.items ≡ p.bytes.items ++ b ∷ []
 byte_wire way p b = at_end way p b (b == 10) refl
 
--- nothing of the bytes of one way is lost, and nothing is added
+-- the lines that bytes give, and what is pending then, stand for what was pending and those bytes: nothing is lost, and nothing
+-- is added
 keeps : (way : Way) (p : Unwritten) (bytes : List ℕ) → wire (entries way p bytes) ++ (pending_behind p bytes).bytes.items ≡ p.bytes.items ++ bytes
 keeps way p [] = sym (append-nil p.bytes.items)
 keeps way p (b ∷ bs) =
@@ -134,7 +139,7 @@ pub takes_then : (a b c : Option (List ℕ)) (fa fb fc : Bool) (utc : ℕ) (es f
     → Takes b c fb fc (log_text_of utc fs) → Takes a c fa fc (log_text_of utc (es ++ fs))
 takes_then a b c fa fb fc utc es fs one next = takes_is a c fa fc _ _ (sym (text_more utc es fs)) (takes_both a b c fa fb fc (log_text_of utc es) (log_text_of utc fs) one next)
 
--- a sink takes entries one after the other, all of the same moment
+-- where a log took the lines of one list, and then those of another, written at an equal moment, it took those of both
 pub takes_last : (a b c : Option (List ℕ)) (fa fb fc : Bool) (utc now : ℕ) (es fs : List Entry) → now ≡ utc → Takes a b fa fb (log_text_of utc es)
     → Takes b c fb fc (log_text_of now fs) → Takes a c fa fc (log_text_of utc (es ++ fs))
 takes_last a b c fa fb fc utc now es fs same one next = takes_then a b c fa fb fc utc es fs one (subst (λ u. Takes b c fb fc (log_text_of u fs)) same next)

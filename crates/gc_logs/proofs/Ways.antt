@@ -1,4 +1,4 @@
--- A log marks each line by the way that its bytes went.
+-- A log marks each line by the way of its bytes: `>` where they went, `<` where they came.
 use Rattle.std.proofs.Common.{◌-◌, ◌==◌, ◌&&◌, ℕ, Bool, true, false, not, if◌then◌else◌, List, [], ◌∷◌, ◌++◌, length, take, refl}
 use Rattle.std.specs.Prelude.{nat_lt}
 use Rattle.std.specs.List.{AllByRecursion}

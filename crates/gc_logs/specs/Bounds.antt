@@ -5,11 +5,12 @@ use Rattle.gc_lines.specs.Ports.{TakesBytes, TakesFront}
 use Rattle.gc_logs.specs.declared.bounded.Bounded.{Bounded}
 use Rattle.gc_logs.specs.declared.logged.Logged.{Logged}
 
--- the line in place of the first one that has no room: that one's moment, and that the rest is left out
+-- the line that stands in place of `line`, the first that has no room: the moment of `line`, and words that say that the rest
+-- is left out
 abbrev pub full_line : List ℕ → List ℕ
 full_line line = take (min (length line) 24) line ++ codes " - full: what went or came from here on is left out\n"
 
--- a sink took all of the line in place of `line`, or failed and took a front of it
+-- a sink took all of the line that stands in place of `line`, or a front of that line
 abbrev pub TakesFull : Option (List ℕ) → Option (List ℕ) → List ℕ → Type 0
 TakesFull old new line = Appends old new (full_line line) ⊎ ((n : ℕ) × TakesFront old new n (full_line line))
 

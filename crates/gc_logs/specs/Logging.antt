@@ -1,4 +1,5 @@
--- What a log has of the bytes of one way, as they come and go: this project's own.
+-- What a log has of the bytes of one way, as they come and go: this project's own. Bytes that aren't written into a line of the
+-- log yet are pending.
 use Rattle.std.specs.Prelude.{◌≡◌, ℕ, ◌-◌, ◌==◌, ◌&&◌, Bool, true, false, not, nat_lt, List, [], ◌∷◌, ◌++◌, length, take, Option, if◌then◌else◌, codes}
 use Rattle.std.specs.Io.KnownBytes.{Appends}
 use Rattle.std.specs.List.{flat_map}
@@ -27,12 +28,12 @@ abbrev pub line_mark : Way → LogMark
 line_mark Went = mark.Went
 line_mark Came = mark.Came
 
--- the mark of bytes that aren't such a line
+-- the mark of bytes that aren't a whole line with its CR LF
 abbrev pub part_mark : Way → LogMark
 part_mark Went = mark.WentPart
 part_mark Came = mark.CamePart
 
--- what is pending where no byte is
+-- nothing is pending
 abbrev pub nothing : Unwritten
 nothing = record { bytes = record { items = [] }; is_long = false }
 
@@ -54,18 +55,18 @@ entries_at way p b =
     if b == 10 then entry_of_line way p ∷ []
     else (if nat_lt (length p.bytes.items) 513 then [] else entry (part_mark way) p.bytes.items ∷ [])
 
--- what is pending behind one more byte
+-- what is pending after one more byte
 abbrev pub pending_at : Unwritten → ℕ → Unwritten
 pending_at p b =
     if b == 10 then nothing
     else (if nat_lt (length p.bytes.items) 513 then pending (p.bytes.items ++ b ∷ []) p.is_long else pending (b ∷ []) true)
 
--- which lines these bytes give
+-- which lines of a log these bytes give, where `p` was pending before them
 abbrev pub entries : Way → Unwritten → List ℕ → List Entry
 entries way p [] = []
 entries way p (b ∷ bs) = entries_at way p b ++ entries way (pending_at p b) bs
 
--- what is pending behind these bytes
+-- what is pending after these bytes, where `p` was pending before them
 abbrev pub pending_behind : Unwritten → List ℕ → Unwritten
 pending_behind p [] = p
 pending_behind p (b ∷ bs) = pending_behind (pending_at p b) bs
@@ -124,7 +125,8 @@ utc_of utc (Gave bytes m) = m.utc
 utc_of utc (Silent m) = m.utc
 utc_of utc _ = utc
 
--- the lines that a log has of an act
+-- the lines that a log has of an act of its link, where `went` and `came` are pending before the act: what the bytes of a write
+-- or read give; a word where the connection ended, failed, was made or wasn't; and at a close also all that is pending
 abbrev pub entries_of_act : Unwritten → Unwritten → Act → List Entry
 entries_of_act went came (Put bytes) = entries Went went bytes
 entries_of_act went came (Cut bytes count) = entries Went went (take count bytes) ++ link_entry (codes "failed") ∷ []
@@ -136,14 +138,14 @@ entries_of_act went came Opened = link_entry (codes "open") ∷ []
 entries_of_act went came Unopened = link_entry (codes "not open") ∷ []
 entries_of_act went came _ = []
 
--- what is pending of what went, behind an act: nothing behind a close
+-- what is pending after an act of the bytes that went out, where `went` was pending before it: nothing after a close
 abbrev pub went_behind : Unwritten → Act → Unwritten
 went_behind went (Put bytes) = pending_behind went bytes
 went_behind went (Cut bytes count) = pending_behind went (take count bytes)
 went_behind went Closed = nothing
 went_behind went _ = went
 
--- what is pending of what came, behind an act: nothing behind a close
+-- what is pending after an act of the bytes that came in, where `came` was pending before it: nothing after a close
 abbrev pub came_behind : Unwritten → Act → Unwritten
 came_behind came (Gave bytes m) = pending_behind came bytes
 came_behind came Closed = nothing

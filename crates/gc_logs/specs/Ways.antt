@@ -7,7 +7,7 @@ use Rattle.gc_logs.specs.declared.logging.Unwritten.{Unwritten}
 use Rattle.gc_logs.specs.declared.logging.Way.{Way}
 use Rattle.gc_logs.specs.declared.logging.Way.TheVariants.{Went, Came}
 
--- what goes has `>` as its first mark, and what comes `<`
+-- the first character of a mark: `>` of what went, `<` of what came
 abbrev pub sign_of : Way → ℕ
 sign_of Went = 62
 sign_of Came = 60

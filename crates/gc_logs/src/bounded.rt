@@ -88,8 +88,8 @@ fn put_full<K: Sink>(sink: &mut K, line: &[u8]) -> Result<(), usize>
     write_whole(sink, &full_line(line))
 }
 
-// Writes the line that says that the log is full, as far as the sink takes it. A part of that line is cut off when the log is next
-// opened.
+// Writes the line that says that the log is full, as far as the sink takes it. A part of that line is cut off when the log is
+// next opened.
 fn write_full<K: Sink>(sink: &mut K, line: &[u8])
     ensures { TakesFull (K.taken sink.old) (K.taken sink.new) line.now }
 {
@@ -101,7 +101,8 @@ impl<K: Sink> Sink for Bounded<K> {
 
     ghost failed = { λ b. b.is_ended };
 
-    // Writes a line that has room. In place of one that has none it writes the line that says so, and fails from then on.
+    // Writes a line that has room. In place of the first line that has none it writes the line that says that the log is full,
+    // and it fails from then on.
     fn write(&mut self, bytes: &[u8]) -> Result<usize, PortFailed>
         requires { 0 < length bytes.now }
         ensures bytes { TakesBytes None None result bytes.now }

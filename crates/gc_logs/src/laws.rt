@@ -3,13 +3,13 @@
 ghost use Rattle.gc_logs.specs.Logging.{LogKeepsAll};
 ghost use Rattle.gc_logs.specs.Ways.{MarksTellTheWay};
 
-/// The bytes of one way that stand in the lines of a log, with those behind them that aren't written yet, are all the bytes of that
-/// way, in order.
+/// The log has all bytes of each way, of what went and of what came: those in the lines of a way, followed by its pending bytes,
+/// which aren't written yet, are all bytes that went, or all that came, in order.
 pub fn log_keeps_all()
     ensures { LogKeepsAll }
 {}
 
-/// Each line of what went is marked `>`, and each of what came `<`, whole or in part.
+/// The mark of each line of what went, whole or in part, begins with `>`, and that of each line of what came with `<`.
 pub fn marks_tell_the_way()
     ensures { MarksTellTheWay }
 {}

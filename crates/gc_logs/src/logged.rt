@@ -61,6 +61,7 @@ impl<L, K: Drop> Logged<L, K> {
 impl<L: Link, K: Sink> Link for Logged<L, K> {
     ghost acts = { λ l. L.acts l.link };
 
+    // Reads the clock of the link inside. What is logged next has its moment.
     fn now(&mut self) -> Result<Moment, PortFailed>
         ensures tells { Tells (L.acts self.old.link) (L.acts self.new.link) (told_as result ∷ []) }
         ensures logs { Logs (log_seen K.Sink self.old.log) (log_seen K.Sink self.new.log) (told_as result) }
@@ -72,6 +73,7 @@ impl<L: Link, K: Sink> Link for Logged<L, K> {
         told
     }
 
+    // Reads from the link inside, and logs the lines that end in the bytes that came, or that the connection ended or failed.
     fn read(&mut self, buf: &mut [u8], millis: u64) -> Came
         requires { 0 < length buf.old }
         ensures tells { Tells (L.acts self.old.link) (L.acts self.new.link) (came_as result buf.new ∷ []) }
@@ -92,6 +94,7 @@ impl<L: Link, K: Sink> Link for Logged<L, K> {
         came
     }
 
+    // Writes to the link inside, and logs the lines that end in the bytes that went, and that the connection failed, if it did.
     fn put(&mut self, bytes: &[u8]) -> Result<(), usize>
         requires { 0 < length bytes.now }
         ensures tells { Tells (L.acts self.old.link) (L.acts self.new.link) (put_as result bytes.now ∷ []) }
@@ -109,6 +112,7 @@ impl<L: Link, K: Sink> Link for Logged<L, K> {
         put
     }
 
+    // Closes the link inside, and logs what was pending of both ways, and the close.
     fn close(&mut self)
         ensures tells { Tells (L.acts self.old.link) (L.acts self.new.link) (Closed ∷ []) }
         ensures logs { Logs (log_seen K.Sink self.old.log) (log_seen K.Sink self.new.log) (Closed) }
@@ -118,6 +122,7 @@ impl<L: Link, K: Sink> Link for Logged<L, K> {
         self.log.says(b"closed");
     }
 
+    // Opens the link inside, and logs whether a connection was made.
     fn open(&mut self) -> Result<(), PortFailed>
         ensures tells { Tells (L.acts self.old.link) (L.acts self.new.link) (opened_as result ∷ []) }
         ensures logs { Logs (log_seen K.Sink self.old.log) (log_seen K.Sink self.new.log) (opened_as result) }

@@ -1,4 +1,5 @@
-//! A log of what is on a link: how the bytes of each way are cut into its lines.
+//! A log of what is on a link: how the bytes of each way are cut into its lines. Bytes that came or went and aren't written
+//! into the log yet are pending.
 
 ghost use Rattle.std.specs.Prelude.{◌≡◌, ◌++◌, ◌≤◌, [], ◌∷◌, length, codes};
 ghost use Rattle.gc_logs.specs.Logging.{entry, line_mark, part_mark, nothing, entry_of_line, entries_at, pending_at, entries, pending_behind, entries_of_pending, log_text_of, Takes};
@@ -18,7 +19,7 @@ enum Way {
 }
 
 impl Way {
-    // The mark of a line that has its CR LF.
+    // The mark of a whole line, which ended with CR LF.
     fn line(self) -> LogMark
         ensures { result ≡ line_mark self }
     {
@@ -28,7 +29,7 @@ impl Way {
         }
     }
 
-    // The mark of bytes that aren't such a line.
+    // The mark of a part of a line, and of a line without the CR before its line feed.
     fn part(self) -> LogMark
         ensures { result ≡ part_mark self }
     {
@@ -49,7 +50,7 @@ struct Unwritten {
 }
 
 impl Unwritten {
-    // What is pending where no byte is.
+    // Nothing is pending.
     fn nothing() -> Unwritten
         ensures { result ≡ nothing }
     {
@@ -106,7 +107,8 @@ impl<K: Sink> Log<K> {
         log_bytes(&mut self.sink, self.utc, Way::Came, &mut self.came, bytes);
     }
 
-    // Writes the pending bytes of both ways, as they are: no more of these lines comes or goes.
+    // Writes the pending bytes of both ways, each as a part of a line, at a close: no more bytes of these lines will come or
+    // go.
     pub(crate) fn cut(&mut self)
         ensures took { Takes (K.taken self.old.sink) (K.taken self.new.sink) (K.failed self.old.sink) (K.failed self.new.sink)
             (log_text_of self.old.utc (entries_of_pending Went self.old.went.bytes.items ++ entries_of_pending Came self.old.came.bytes.items)) }
@@ -130,7 +132,8 @@ impl<K: Sink> Log<K> {
     }
 }
 
-// Takes bytes, and writes each line that they end, and a line of more than 513 bytes in parts.
+// Takes bytes that went or came. Writes each line that they end, in parts where it has more than 513 bytes, and leaves the rest
+// pending.
 fn log_bytes<K: Sink>(sink: &mut K, utc: u64, way: Way, pending: &mut Unwritten, bytes: &[u8])
     ensures took { Takes (K.taken sink.old) (K.taken sink.new) (K.failed sink.old) (K.failed sink.new) (log_text_of utc (entries way pending.old bytes.now)) }
     ensures pending { pending.new ≡ pending_behind pending.old bytes.now }

@@ -1,4 +1,5 @@
-//! Rows of a port at which the case listens, and of those who call there: connections that are made before they are served, in one thread.
+//! Rows of a port at which the case listens, and of its callers. All is done in one thread: callers connect before they are
+//! served. What comes of a row is appended to `came`, and what isn't as the case expects to `wrong`.
 //!
 //!     do call %R1Q,0,0:\r\n    one more caller, and what it writes
 //!     do again 39 %R1Q,0,0:\r\n    the last caller writes this so many times more
@@ -31,6 +32,7 @@ use std::net::{Ipv6Addr, Shutdown, SocketAddr, TcpListener, TcpStream};
 pub struct Callers;
 
 impl Player for Callers {
+    // Plays a case at a free port of its own.
     fn play(&self, rt: &HostRuntime, case: &Case<'_>, wrong: &mut Told) -> io::Result<()> {
         let listener = TcpListener::bind(rt, at(0))?;
         play_at(rt, listener, case, wrong);
@@ -38,6 +40,7 @@ impl Player for Callers {
     }
 }
 
+// Plays the rows of a case at the port of this listener.
 fn play_at(rt: &HostRuntime, listener: TcpListener, case: &Case<'_>, wrong: &mut Told) {
     let mut played = Played {
         rt,
@@ -61,6 +64,7 @@ struct Played<'a> {
 }
 
 impl<'a> Rows for Played<'a> {
+    // Plays a row by its word: here where something is served, asked or heard, and else in `prepare`.
     fn play(&mut self, alloc: Global, word: &str, what: &str, bytes: &[u8], came: &mut Told) {
         match word {
             "serve" => self.serve(what, came),
@@ -81,11 +85,13 @@ fn number(digits: &str, most: u64) -> u64 {
     number_of(digits.as_bytes(), most).unwrap_or(0)
 }
 
+// The number that digits write, as `number` reads it, in 32 bits.
 fn small_number(digits: &str, most: u32) -> u32 {
     u32::try_from(number(digits, u64::from(most))).unwrap_or(0)
 }
 
-// Tells how an asking or a serving ended, without the number of replies behind which a write failed: that is the system's affair.
+// Tells how an asking or a serving ended. Of a write that failed the number of replies before is left out: how many the system
+// takes isn't known.
 fn tell_end(end: Result<(), RunFault>, came: &mut Told) {
     match end {
         Ok(()) => came.text("done"),
@@ -96,7 +102,7 @@ fn tell_end(end: Result<(), RunFault>, came: &mut Told) {
     }
 }
 
-// Tells these lines, with `+` for the number behind the first `reply`: how many replies the system took is its own affair.
+// Tells these lines, with `+` for the number behind the first `reply`: how many replies the system takes isn't known.
 fn tell_uncounted(lines: &str, came: &mut Told) {
     let Some((front, behind)) = lines.split_once(" reply ") else {
         return came.text(lines);
@@ -187,6 +193,7 @@ impl<'a> Played<'a> {
         }
     }
 
+    // Serves as many callers as `what` says, in so many reads each, and tells how that ended.
     fn serve(&mut self, what: &str, came: &mut Told) {
         let (count, reads) = cut_word(what);
         let count = small_number(count, 9).min(1000);
@@ -195,6 +202,8 @@ impl<'a> Played<'a> {
         tell_end(end, came)
     }
 
+    // Serves as many callers as `what` says at a kept port, which leaves one that is idle for a second, and tells the lines of
+    // faults.
     fn keep(&mut self, alloc: Global, what: &str, came: &mut Told) {
         let keeping = Keeping {
             connections: Some(small_number(what, 9)),
@@ -221,7 +230,7 @@ impl<'a> Played<'a> {
         }
     }
 
-    // Asks the commands behind the number of reads at the port.
+    // Asks the commands that stand in `bytes` behind the number `reads` at the port, in so many reads.
     fn ask(&mut self, alloc: Global, reads: &str, bytes: &[u8], came: &mut Told) {
         let port = port_of(&self.listener);
         if port == 0 {
@@ -247,6 +256,8 @@ impl<'a> Played<'a> {
         tell_end(ask_place(self.rt, alloc, Place::Host(name)), came)
     }
 
+    // Asks a text without commands at this port, by its number and as a place, then serves the port, and tells how each of
+    // these ended.
     fn ask_port(&mut self, alloc: Global, what: &str, came: &mut Told) {
         let port = u16::try_from(number(what, 65535)).unwrap_or(0);
         if port == 0 {
@@ -261,7 +272,7 @@ impl<'a> Played<'a> {
     }
 }
 
-// Tells nothing of an act that was done, and of another one that it can't be.
+// Tells nothing where an act was done, and else that it can't be done.
 fn tell_done(is_done: bool, came: &mut Told) {
     came.either(is_done, "", "it can't be done");
 }
@@ -303,14 +314,15 @@ fn tell_bytes(is_end: bool, bytes: &[u8], came: &mut Told) {
     came.bytes(bytes);
 }
 
-// Asks a text without commands at a place.
+// Asks a text without commands at a place, in at most nine reads.
 fn ask_place(rt: &HostRuntime, alloc: Global, place: Place<'_>) -> Result<(), RunFault> {
     let mut none = PieceSource::new(b"", &[], u64::MAX);
     let mut sink = PieceSink::new(alloc, 1000, u64::MAX);
     ask_at(rt, alloc, place, &mut none, &mut sink, 9)
 }
 
-// Tells what asking a text without commands comes to at a port: by its number, and then as a place.
+// Tells how it ends when no commands are asked at a port: first over `ask_tcp`, by the port's number, and then over `ask_at`, by a
+// place. A comma follows each, because the caller appends one more end.
 fn tell_asked(rt: &HostRuntime, alloc: Global, port: u16, came: &mut Told)
     requires { 1 ≤ port }
 {

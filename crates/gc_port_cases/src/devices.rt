@@ -26,7 +26,8 @@ pub fn tell_placed(rt: &HostRuntime, alloc: Global, word: &str, came: &mut Told)
     }
 }
 
-// A terminal that nobody reads or writes at the other end, opened to be written, and with `reads` to be read. None: this machine has none.
+// A terminal that nobody reads or writes at the other end, opened for writing, and with `reads` for reading, too. None: this
+// machine has none.
 fn terminal(rt: &HostRuntime, reads: bool) -> Option<File> {
     OpenOptions::new()
         .read(reads)
@@ -44,20 +45,24 @@ enum Outcome {
     Held,
     // A second link to the device could be had.
     Shared,
+    // It couldn't be opened, or nothing could be put.
     Shut,
+    // It could be opened and closed again, and a put went out.
     Open,
     // A read wasn't silent in its time.
     Unquiet,
     // A put wasn't cut, or not in a part of its bytes.
     Uncut,
-    // A read failed, or didn't.
+    // A read failed.
     Failure,
+    // A read that was to fail didn't.
     NoFailure,
     // All is as it should be of a device that nobody reads or writes.
     Device,
 }
 
 impl Outcome {
+    // The outcome as a case has it.
     fn text(self) -> &'static str {
         match self {
             Outcome::Nothing => "it can't be had",
@@ -82,8 +87,9 @@ fn tell_device(rt: &HostRuntime, alloc: Global, came: &mut Told) {
     }
 }
 
-// What a link over a device comes to. It should refuse the device to a second link, take its time for a read where nothing comes, and
-// cut a put once the system takes no more. A machine without such devices counts as right.
+// What a link over a device comes to, where a put of the bytes `much` is more than the system takes. It should refuse the
+// device to a second link, take its time for a read where nothing comes, and cut a put once the system takes no more. A machine
+// without such devices counts as right.
 fn device(rt: &HostRuntime, much: &[u8]) -> Outcome {
     match (terminal(rt, true), terminal(rt, true)) {
         (Some(one), Some(other)) => line_outcome(rt, [one, other].as_slice(), much),
@@ -203,6 +209,7 @@ fn named_outcome(connections: &[Option<TcpStream>]) -> Outcome {
     }
 }
 
+// A link to a name, which has two addresses in a rig.
 fn named_link<'a, 'b, 'c, 'd>(rig: &'a Rig<'b, 'c, 'd>) -> Option<TcpLink<'a, Rig<'b, 'c, 'd>>> {
     TcpLink::to_host(rig, "station:4001").ok()
 }

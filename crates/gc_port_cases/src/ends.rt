@@ -6,12 +6,13 @@ use gc_ask::{CallerFault, Callers, keep};
 use gc_cases::Told;
 use std::alloc::Global;
 
-// Callers whose connections end as `EACH` says, in this order, and those behind them well.
+// Callers whose connections end as `EACH` says, in this order, and those of all later callers well.
 #[derive(Drop)]
 struct Ends {
     at: usize,
 }
 
+// How the connections of the first seven callers end.
 const EACH: [Result<(), CallerFault>; 7] = [
     Ok(()),
     Err(CallerFault::Read),
@@ -28,6 +29,7 @@ const EACH: [Result<(), CallerFault>; 7] = [
 impl Callers for Ends {
     ghost served = { λ _. None };
 
+    // Serves nobody: the end is the next of `EACH`, and after these a good one.
     fn serve_next(&mut self) -> Result<(), CallerFault> {
         let end = EACH.get(self.at).copied().unwrap_or(Ok(()));
         self.at = self.at.saturating_add(1);
@@ -45,7 +47,8 @@ pub fn tell_ends(alloc: Global, came: &mut Told) {
     came.bytes(messages.as_slice());
 }
 
-/// Serves eight of them, with room for forty bytes of messages, and tells how many were served and whether all lines were written.
+/// Serves eight of them, with room for forty bytes of messages, and tells how many were served and whether all lines were
+/// written.
 pub fn tell_cut_ends(came: &mut Told) {
     let mut ends = Ends { at: 0 };
     let mut room = [0; 40];

@@ -1,8 +1,9 @@
-//! Rows of a link over TCP, and of its far end, which is the case's own, in one thread. The link leads to a port where the case listens,
-//! or to that under `port`. A put on the link waits for no more milliseconds than `patience` says.
+//! Rows of a link over TCP, and of its far end, which is the case's own, in one thread. The link leads to a port where the case
+//! listens, or to the one under `port`. A put on the link waits for no more milliseconds than `patience` says. What comes of a
+//! row is appended to `came`, and what isn't as the case expects to `wrong`.
 //!
 //!     do open, close           the link, which is open or shut then
-//!     do put abc               sent, or cut behind so many bytes
+//!     do put abc               sent, or cut after so many bytes
 //!     do stall                 puts more than a connection takes while nobody reads
 //!     do read                  at most two bytes, within a second
 //!     do look                  at most sixteen, within a millisecond
@@ -28,6 +29,7 @@ const YEAR_2023: u64 = 1_700_000_000_000;
 pub struct Links;
 
 impl Player for Links {
+    // Plays a case, with a free port of its own for the link to lead to.
     fn play(&self, rt: &HostRuntime, case: &Case<'_>, wrong: &mut Told) -> io::Result<()> {
         let listener = TcpListener::bind(rt, at(0))?;
         // A listener at 1024: a port below that is no other one, so nothing connects there.
@@ -37,6 +39,7 @@ impl Player for Links {
     }
 }
 
+// Plays a case whose link leads to this listener, or to the port that the case names.
 fn play_at(rt: &HostRuntime, listener: TcpListener, case: &Case<'_>, wrong: &mut Told) {
     match link_of(rt, &listener, case) {
         Ok(link) => play_over(rt, listener, link, case, wrong),
@@ -44,7 +47,7 @@ fn play_at(rt: &HostRuntime, listener: TcpListener, case: &Case<'_>, wrong: &mut
     }
 }
 
-// The link of a case.
+// The link of a case, with the port and the patience that it says; without a port it leads to the listener.
 fn link_of<'a>(
     rt: &'a HostRuntime,
     listener: &TcpListener,
@@ -55,6 +58,7 @@ fn link_of<'a>(
     TcpLink::with_patience(rt, port, case.number("patience", 10_000))
 }
 
+// Plays the rows of a case over this link.
 fn play_over<'a>(
     rt: &'a HostRuntime,
     listener: TcpListener,
@@ -84,6 +88,7 @@ struct Played<'a> {
 }
 
 impl<'a> Rows for Played<'a> {
+    // Plays a row by its word.
     fn play(&mut self, alloc: Global, word: &str, what: &str, bytes: &[u8], came: &mut Told) {
         match word {
             "open" => came.either(self.link.open().is_ok(), "open", "shut"),
@@ -104,6 +109,7 @@ impl<'a> Rows for Played<'a> {
 }
 
 impl<'a> Played<'a> {
+    // Puts bytes on the link, and tells whether all were sent, or after how many bytes the put was cut.
     fn put(&mut self, bytes: &[u8], came: &mut Told) {
         if bytes.is_empty() {
             return came.text("nothing to put");
@@ -114,6 +120,7 @@ impl<'a> Played<'a> {
         }
     }
 
+    // Puts sixteen million bytes, which is more than a connection takes while nobody reads.
     fn stall(&mut self, alloc: Global, came: &mut Told) {
         match dots(alloc, 16_000_000) {
             Ok(much) => self.put_much(much.as_slice(), came),
@@ -121,8 +128,8 @@ impl<'a> Played<'a> {
         }
     }
 
-    // Puts more than the other end takes without reading. Expected is a part that goes out in the link's time; else how many bytes went out
-    // in how long is told.
+    // Puts more than a connection takes while nobody reads. A part of it is to go out, and the put is to end within two
+    // seconds; else it is told how many bytes went out in how many milliseconds.
     fn put_much(&mut self, much: &[u8], came: &mut Told) {
         let begun = elapsed(&mut self.link);
         let sent = put_of(&mut self.link, much);
@@ -135,18 +142,21 @@ impl<'a> Played<'a> {
         came.text("a part, in its time")
     }
 
+    // Reads at most two bytes within a second, and tells what came.
     fn read(&mut self, came: &mut Told) {
         let mut buf = [0; 2];
         let ended = self.link.read(&mut buf, 1000);
         tell_came(ended, buf.as_slice(), came)
     }
 
+    // Reads at most sixteen bytes within a millisecond, and tells what came.
     fn look(&mut self, came: &mut Told) {
         let mut buf = [0; 16];
         let ended = self.link.read(&mut buf, 1);
         tell_came(ended, buf.as_slice(), came)
     }
 
+    // Waits for a silence of so many milliseconds, and tells whether it came within a second.
     fn wait(&mut self, what: &str, came: &mut Told) {
         let millis = number_of(what.as_bytes(), u64::MAX).unwrap_or(0);
         let waited = silence_of(&mut self.link, millis);
@@ -156,6 +166,7 @@ impl<'a> Played<'a> {
         came.text("silence, in its time")
     }
 
+    // Tells what the far end heard.
     fn hear(&mut self, alloc: Global, came: &mut Told) {
         match &mut self.far {
             Some(far) => tell_heard(alloc, far, self.sent, came),
@@ -182,14 +193,16 @@ fn write_all(far: &mut Option<TcpStream>, bytes: &[u8]) -> bool {
     }
 }
 
-// Tells what a far end hears until the end of its connection, or that this is still open.
+// Tells what the far end hears until its connection is shut, or `open` where it isn't shut. `sent` is how many bytes the stalled
+// put sent: so many are told as "that part".
 fn tell_heard(alloc: Global, far: &mut TcpStream, sent: usize, came: &mut Told) {
     let mut bytes = Vec::new(alloc);
     let is_end = hear(far, &mut bytes);
     tell_bytes(is_end, bytes.as_slice(), sent, came);
 }
 
-// Tells what a far end heard. Of the part of a stalled put only the size is compared.
+// Tells what a far end heard. Of a hundred bytes or more only their number is looked at: whether it is `sent`, that of
+// the stalled put.
 fn tell_bytes(is_end: bool, bytes: &[u8], sent: usize, came: &mut Told) {
     if !is_end {
         return came.text("open");
@@ -243,8 +256,8 @@ fn tell_came(ended: Came, buf: &[u8], came: &mut Told) {
     }
 }
 
-/// Reads a link until it was silent for `millis` milliseconds, and says how many these were; 0 where something came. A read that ends
-/// early is made again.
+/// Reads a link until it was silent for `millis` milliseconds, and says how many these were; 0 where something came. A read that
+/// ends early is made again.
 pub fn silence_of<L: Link>(link: &mut L, millis: u64) -> u64 {
     let begun = elapsed(link);
     let mut buf = [0; 2];

@@ -17,6 +17,7 @@ pub(crate) struct Done {
 }
 
 impl Done {
+    // Nothing was done: no rest, and no attempt to connect.
     pub(crate) fn nothing() -> Done {
         Done {
             rested: 0,
@@ -25,8 +26,8 @@ impl Done {
     }
 }
 
-// A runtime with these devices and these connections. The path of a device ends in its number. Connections are made in their order,
-// where `None` is an address that doesn't answer. Each name has two addresses.
+// A runtime with these devices and these connections. The path of a device ends in its number. Connections are made in their
+// order, where `None` is an address that doesn't answer. Each name has two addresses.
 #[derive(Drop)]
 pub(crate) struct Rig<'a, 'b, 'c> {
     pub(crate) devices: &'a [File],
@@ -45,6 +46,7 @@ fn in_use() -> io::Error {
 }
 
 impl<'a, 'b, 'c> Clock for Rig<'a, 'b, 'c> {
+    // The time that a link rested.
     fn monotonic(&self) -> io::Result<Duration> {
         let Ok(done) = self.done.try_borrow() else {
             return Err(in_use());
@@ -56,6 +58,7 @@ impl<'a, 'b, 'c> Clock for Rig<'a, 'b, 'c> {
         self.monotonic()
     }
 
+    // Counts a rest, and returns at once.
     fn sleep(&self, duration: Duration) {
         if let Ok(mut done) = self.done.try_borrow_mut() {
             let millis = u64::try_from(duration.as_millis()).unwrap_or(u64::MAX);
@@ -77,6 +80,7 @@ impl<'a, 'b, 'c> Net for Rig<'a, 'b, 'c> {
         none()
     }
 
+    // The next of the connections, in their order.
     fn connect_timeout(&self, _addr: SocketAddr, _timeout: Duration) -> io::Result<TcpStream> {
         let Ok(mut done) = self.done.try_borrow_mut() else {
             return Err(in_use());
@@ -89,6 +93,7 @@ impl<'a, 'b, 'c> Net for Rig<'a, 'b, 'c> {
         }
     }
 
+    // Finds two addresses for each name. Which they are says nothing, because connections are made in their order.
     fn lookup_host(&self, _host: &str, _port: u16, found: &mut [SocketAddr]) -> io::Result<usize> {
         Ok(found.len().min(2))
     }
@@ -99,6 +104,7 @@ impl<'a, 'b, 'c> Files for Rig<'a, 'b, 'c> {
 
     type Dir = File;
 
+    // A handle of the device in whose number the path ends.
     fn open_file(&self, _how: &OpenOptions, path: &str) -> io::Result<File> {
         let number = match path.as_bytes().last() {
             Some(b'0') => 0,

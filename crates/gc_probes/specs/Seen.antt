@@ -26,15 +26,16 @@ abbrev pub piece_size : List ℕ → ℕ → ℕ → ℕ
 piece_size [] left room = min left room
 piece_size (size ∷ later) left room = min (max size 1) (min left room)
 
--- a read as the test asked: it gives the next piece, and fails exactly where one has failed or as many were answered as the test asked for
+-- a read as the test asked: it gives the next piece, and fails exactly where an earlier read has failed, or where as many reads
+-- were answered as the test asked for
 abbrev pub ReadsAsTold : {E : Type 0} → SourceSeen → SourceSeen → ℕ → Result ℕ E → Type 0
 ReadsAsTold old new room (Ok n) =
     (old.failed ≡ false) × (old.reads < old.answers) × (n ≡ piece_size old.sizes (length old.left) room)
     × (new ≡ record old { left = drop n old.left; sizes = drop 1 old.sizes; reads = old.reads + 1; ended = (n == 0) })
 ReadsAsTold old new room (Err _) = ((old.failed ≡ true) ⊎ (old.answers ≤ old.reads)) × (new ≡ record old { failed = true })
 
--- a write as the test asked: it takes as many bytes as it should, and fails exactly where one has failed, as many were answered as the
--- test asked for, or memory ran out
+-- a write as the test asked: it takes as many bytes as it should, and fails exactly where an earlier write has failed, where as
+-- many writes were answered as the test asked for, or where memory ran out
 abbrev pub WritesAsTold : {E : Type 0} → SinkSeen → SinkSeen → List ℕ → Result ℕ E → Type 0
 WritesAsTold old new bytes (Ok n) =
     (old.failed ≡ false) × (0 < old.answers) × (n ≡ min old.most (length bytes))

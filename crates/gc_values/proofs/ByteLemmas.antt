@@ -1,14 +1,16 @@
+-- A byte parameter, which is two hexadecimal digits between single quotes: a text is one byte at most, and a byte's text reads
+-- back.
 use Rattle.std.proofs.Common.{◌≡◌, ℕ, ◌+◌, ◌*◌, ◌/◌, ◌%◌, ◌<◌, List, [], ◌∷◌, Some, refl, sym, ap, ◌∙◌, arith}
 use Rattle.std.specs.Prelude.{Option, slice_index}
 use Rattle.hex.specs.Hex.{hex_digit_value, lower_digits, encode_with, encode_lower}
 use Rattle.hex.proofs.HexLemmas.{IsDigits-lower_digits}
 use Rattle.gc_values.specs.Byte.{IsByte, byte_text}
 
--- equal digits have one value
+-- equal bytes have the same value as hexadecimal digits
 one_digit : (a b x y : ℕ) → a ≡ b → hex_digit_value a ≡ Some x → hex_digit_value b ≡ Some y → x ≡ y
 one_digit a b x y e p q = let f = ap hex_digit_value e in let s : ◌≡◌ {A = Option ℕ} (Some x) (Some y) = sym p ∙ f ∙ q in cc
 
--- a text is one byte
+-- a text is at most one byte parameter
 pub one_byte : (text : List ℕ) (m n : ℕ) → IsByte text m → IsByte text n → m ≡ n
 one_byte text m n x y =
     let same = sym x.text_is ∙ y.text_is in

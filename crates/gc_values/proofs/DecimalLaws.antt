@@ -1,3 +1,5 @@
+-- What the laws of decimals say: a text spells one decimal at most or has one fault, and decimals are equal exactly where their
+-- values, their texts or `==` say so.
 use Rattle.std.proofs.Common.{◌≡◌, ◌↔◌, ◌==◌, ◌&&◌, IsTrue, true, ℕ, List, refl, sym, ap, ◌∙◌, subst}
 use Rattle.std.specs.Cmp.{first_so, second_so, signed_Decides, unsigned_Decides}
 use Rattle.std.specs.Ordering.{int_eq}

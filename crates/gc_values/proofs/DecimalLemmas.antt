@@ -1,3 +1,4 @@
+-- Decimals of the same digits and scale are equal: the facts that a decimal carries have one proof each.
 use Rattle.std.proofs.Common.{◌≡◌, ℕ, ◌≤◌, ℤ, ap, ◌∙◌, subst}
 use Rattle.std.proofs.Props.{props}
 use Rattle.gc_values.specs.Fraction.{IsCanonical, IsInRange}

@@ -1,4 +1,5 @@
--- Each text spells a decimal, or a number out of its range, or none.
+-- Each text spells a decimal, or a number out of its range, or none. `Decided` says of something that it holds, or that it
+-- doesn't.
 use Rattle.std.proofs.Common.{◌≡◌, ℕ, ◌+◌, ◌*◌, ◌^◌, ◌<◌, ◌≤◌, Bool, true, false, List, [], ◌∷◌, ◌++◌, length, ℤ, unsigned_abs, Option, Some, None, refl, sym, ap, ◌∙◌, subst, ◌⊎◌, inl, inr, arith}
 use Rattle.std.proofs.lemmas.Bool.{cases_lt, cases_eq}
 use Rattle.std.proofs.lemmas.List.{append-nil}
@@ -45,11 +46,12 @@ short_or_not (b ∷ bs) = elim (cases_lt 3 (length (b ∷ bs))) [
   ]
 ]
 
--- the exponent, or none, that a text is
+-- the exponent whose text this is; `None` where the text is empty
 abbrev ExponentOf : List ℕ → Type 0
 ExponentOf text = (e : Option Exponent) × IsExponent e × (text ≡ exponent_text e)
 
--- behind an exponent's mark and sign stand its digits
+-- where a mark and the bytes bs are the text of an exponent, and bs is cut into a sign and a rest, the rest is the exponent's
+-- digits
 same_digits : (capital : Bool) (bs : List ℕ) (negative : Bool) (rest : List ℕ) → CutsSign bs negative rest → (e : Exponent) → IsShort e.digits
     → mark capital ∷ bs ≡ exponent_text (Some e) → rest ≡ e.digits
 same_digits capital bs negative rest cut e short is =
@@ -65,6 +67,7 @@ marked capital bs =
       | inl short ↦ inl (Some (record { capital = capital; sign = cut.2.sign; digits = cut.1 }), short, ap (λ xs. mark capital ∷ xs) cut.2.text_is)
       | inr other ↦ inr (none other)
     ] where
+      -- where the bytes behind the mark and a sign aren't one to three digits, the text is no exponent
       none : (IsShort (sign_cut bs).1 → ⊥) → ExponentOf (mark capital ∷ bs) → ⊥
       none other (None, form, is) = absurd (cc)
       none other (Some e, form, is) = let cut = sign_cut bs in other (subst IsShort (sym (same_digits capital bs cut.0 cut.1 cut.2 e form is)) form)
@@ -73,6 +76,7 @@ marked capital bs =
 no_mark : (b : ℕ) (bs : List ℕ) → (b ≡ 101 → ⊥) → (b ≡ 69 → ⊥) → ExponentOf (b ∷ bs) → ⊥
 no_mark b bs small large (None, form, is) = absurd (cc)
 no_mark b bs small large (Some e, form, is) = by_capital e.capital refl where
+  -- whichever of the two marks the exponent has, the text doesn't begin with it
   by_capital : (c : Bool) → e.capital ≡ c → ⊥
   by_capital true same = let first : b ≡ mark e.capital = cc in large (first ∙ ap mark same)
   by_capital false same = let first : b ≡ mark e.capital = cc in small (first ∙ ap mark same)
@@ -148,7 +152,7 @@ numeral_or_not text =
 abbrev RoundedOf : List ℕ → Type 0
 RoundedOf text = (m : ℤ) × (s : ℕ) × Spells text m s
 
--- each numeral's fraction is rounded
+-- for each number's text there are digits and a scale that it spells: its fraction, rounded to 24 places
 rounded_of : (text : List ℕ) → NumeralOf text → RoundedOf text
 rounded_of text n =
     let p = n.0 in

@@ -1,4 +1,5 @@
--- Each item is read as a value of a kind, or has a fault; and so has each parameter list.
+-- Each item is read as a value of a kind, or has a fault; and so is each parameter list read as values, or has a fault. `Decided`
+-- says of something that it holds, or that it doesn't.
 use Rattle.std.proofs.Common.{◌≡◌, ◌≢◌, ℕ, zero, suc, ◌+◌, ◌*◌, ◌%◌, ◌<◌, ◌≤◌, Bool, true, false, List, [], ◌∷◌, ◌++◌, length, replicate, ℤ, pos, negsuc, Option, Some, None, refl, sym, ap, ◌∙◌, subst, ◌⊎◌, inl, inr, arith}
 use Rattle.std.proofs.lemmas.Bool.{cases_lt, cases_eq}
 use Rattle.std.proofs.lemmas.Int.{ints}
@@ -32,10 +33,12 @@ ByteOf item = (n : ℕ) × IsByte item n
 -- two bytes between single quotes are a byte parameter, or aren't
 byte_or_not : (a b : ℕ) → Decided (ByteOf (39 ∷ a ∷ b ∷ 39 ∷ []))
 byte_or_not a b = by_high (hex_digit_value a) refl where
+  -- where a is a hexadecimal digit: a byte parameter or none, by whether b is a hexadecimal digit
   by_low : (high : ℕ) → hex_digit_value a ≡ Some high → (low : Option ℕ) → hex_digit_value b ≡ low → Decided (ByteOf (39 ∷ a ∷ b ∷ 39 ∷ []))
   by_low high h (Some low) l = inl (high * 16 + low, record { a = a; b = b; high = high; low = low; text_is = refl; high_is = h; low_is = l; value = refl })
   by_low high h None l = inr (λ x. let same : b ≡ x.1.b = let e = x.1.text_is in cc in let is = x.1.low_is in let none = ap hex_digit_value same in absurd (cc))
 
+  -- a byte parameter or none, by whether a is a hexadecimal digit
   by_high : (high : Option ℕ) → hex_digit_value a ≡ high → Decided (ByteOf (39 ∷ a ∷ b ∷ 39 ∷ []))
   by_high (Some high) h = by_low high h (hex_digit_value b) refl
   by_high None h = inr (λ x. let same : a ≡ x.1.a = let e = x.1.text_is in cc in let is = x.1.high_is in let none = ap hex_digit_value same in absurd (cc))
@@ -63,13 +66,13 @@ each_byte (p ∷ a ∷ b ∷ q ∷ []) = elim (cases_eq p 39) [
 abbrev EndsInQuote : List ℕ → Type 0
 EndsInQuote text = (bytes : List ℕ) × (text ≡ bytes ++ 34 ∷ [])
 
--- a byte other than a double quote doesn't end in one
+-- a text of one byte, which is no double quote, doesn't end in a double quote
 no_end : (b : ℕ) → b ≢ 34 → EndsInQuote (b ∷ []) → ⊥
 no_end b other ([], is) = other (let same : b ≡ 34 = cc in same)
 no_end b other (x ∷ [], is) = absurd (cc)
 no_end b other (x ∷ y ∷ xs, is) = absurd (cc)
 
--- what ends in a double quote does so without its first byte
+-- a text of at least two bytes that ends in a double quote still does without its first byte
 end_behind : (b c : ℕ) (rest : List ℕ) → EndsInQuote (b ∷ c ∷ rest) → EndsInQuote (c ∷ rest)
 end_behind b c rest ([], is) = absurd (cc)
 end_behind b c rest (x ∷ xs, is) = (xs, let same : c ∷ rest ≡ xs ++ 34 ∷ [] = cc in same)
@@ -77,6 +80,7 @@ end_behind b c rest (x ∷ xs, is) = (xs, let same : c ∷ rest ≡ xs ++ 34 ∷
 -- a text ends in a double quote, or doesn't
 end_or_not : (text : List ℕ) → Decided (EndsInQuote text)
 end_or_not [] = inr none where
+  -- the empty text doesn't end in a double quote
   none : EndsInQuote [] → ⊥
   none ([], is) = absurd (cc)
   none (x ∷ xs, is) = absurd (cc)
@@ -212,10 +216,12 @@ spaces_or_not (b ∷ bs) = elim (cases_eq b 32) [
     | inr none ↦ inr (rest b bs none)
   ]
 ] where
+  -- bytes that don't begin with a space aren't spaces alone
   first : (b : ℕ) (bs : List ℕ) → b ≢ 32 → AreSpaces (b ∷ bs) → ⊥
   first b bs other (zero, is) = absurd (cc)
   first b bs other (suc n, is) = other (let same : b ≡ 32 = cc in same)
 
+  -- where the bytes behind the first one aren't spaces alone, neither are all of them
   rest : (b : ℕ) (bs : List ℕ) → (AreSpaces bs → ⊥) → AreSpaces (b ∷ bs) → ⊥
   rest b bs none (zero, is) = absurd (cc)
   rest b bs none (suc n, is) = none (n, let same : bs ≡ replicate n 32 = cc in same)

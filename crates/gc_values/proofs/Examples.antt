@@ -44,14 +44,14 @@ within_nothing : is_within (decimal (pos 5) 1 refl) (decimal (pos 5) 1 refl) (de
 unfolding is_within
 within_nothing = refl
 
--- how 0.0 is written
+-- 0.0 is written `0.0`
 zero_written : written (pos 0) 0 ≡ 48 ∷ 46 ∷ 48 ∷ []
 zero_written = refl
 
--- how 125.0 is written
+-- 125.0 is written `125.0`
 whole_written : written (pos 125) 0 ≡ 49 ∷ 50 ∷ 53 ∷ 46 ∷ 48 ∷ []
 whole_written = refl
 
--- how -3.25 is written
+-- -3.25 is written `-3.25`
 below_written : written (negsuc 324) 2 ≡ 45 ∷ 51 ∷ 46 ∷ 50 ∷ 53 ∷ []
 below_written = refl

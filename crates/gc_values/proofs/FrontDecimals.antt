@@ -14,7 +14,8 @@ use Rattle.gc_values.proofs.ReadLemmas.{reads_value}
 use Rattle.gc_values.proofs.TextShape.{AreBare-append, bare_above, bare_digits, bare_param}
 use Rattle.gc_values.proofs.UnitsLemmas.{capped_short}
 
--- where i digits were counted, and a digit follows that may be counted, i + 1 digits were
+-- A step of counting digits: where i of at most `most` were counted, and the next byte is a digit, i + 1 are counted, and their
+-- number is ten times as large plus that digit.
 pub counts_more : (front : ℕ) (text : List ℕ) (most value more i : ℕ) → CountsDigits front text most value i → i < length text → i < most
     → IsDigit (get_or text i 0) → more ≡ value * 10 + (get_or text i 0 - 48) → CountsDigits front text most more (i + 1)
 counts_more front text most value more i c inside few digit e = record {
@@ -24,7 +25,7 @@ counts_more front text most value more i c inside few digit e = record {
   value_is = followed_more front value more text i inside c.value_is e;
 }
 
--- while a digit may be counted, there is room for it in 64 bits
+-- while fewer than `most` digits were counted, their number with one more digit is at most 10^18, so that 64 bits hold it
 pub counts_small : (front : ℕ) (text : List ℕ) (most value i : ℕ) → CountsDigits front text most value i → i < most → (front + 1) * 10 ^ most ≤ 10 ^ 18 → value * 10 + 10 ≤ 10 ^ 18
 counts_small front text most value i c inside room =
     let small : number (take i text) < 10 ^ length (take i text) = number-lt (take i text) c.digits in
@@ -33,7 +34,7 @@ counts_small front text most value i c inside room =
     let all : (front + 1) * 10 ^ (i + 1) ≤ (front + 1) * 10 ^ most = mul-le-mul_left {m = 10 ^ (i + 1)} {n = 10 ^ most} (front + 1) (ten_pow_le (i + 1) most (omega arith)) in
     omega (arith, c.value_is, small, ap (λ k. 10 ^ k) size, ap (λ p. (front + 1) * p) power, all, room)
 
--- i digits before the point leave room for 18 - i behind it
+-- the number of i digits that were counted leaves room for 18 - i more: with them it is at most 10^18
 pub counts_room : (text : List ℕ) (most value i : ℕ) → CountsDigits 0 text most value i → i ≤ 18 → (value + 1) * 10 ^ (18 - i) ≤ 10 ^ 18
 counts_room text most value i c few =
     let small : number (take i text) < 10 ^ length (take i text) = number-lt (take i text) c.digits in
@@ -50,11 +51,13 @@ front_cut text w f tail rest e is_w is_f stands = record {
   some = omega (arith, length-append w (46 ∷ f));
 }
   where
+    -- where the end or a comma stands behind the number, the text is the number as an item, and what follows its comma
     stood : (r : Option (List ℕ)) → Stands tail [] r → Stands text (w ++ 46 ∷ f) r
     stood None h = e ∙ ap (λ t. w ++ 46 ∷ (f ++ t)) h ∙ ap (λ t. w ++ 46 ∷ t) (append-nil f)
     stood (Some behind) h = e ∙ ap (λ t. w ++ 46 ∷ (f ++ t)) h ∙ sym (append_assoc w (46 ∷ f) (44 ∷ behind))
 
--- few digits, a point and digits spell the decimal that their number and places make
+-- digits w, a point and digits f, at most 13 before the point and 18 in all, spell the decimal made of their number with as many
+-- places as f has digits
 front_spells : (w f : List ℕ) (units : ℕ) (m : ℤ) (s : ℕ) → AreDigits w → AreDigits f → 0 < length w → length w ≤ 13 → length w + length f ≤ 18
     → units ≡ number (w ++ f) → MadeOf false units (length f) m s → Spells (w ++ 46 ∷ f) m s
 front_spells w f units m s is_w is_f some short few e made =
@@ -127,6 +130,7 @@ number_found text tail count n rest c some tail_is stands =
       names = record { sign = Absent; digits = ds; n = n; text_is = refl; number_is = record { digits = c.digits; some = omega (arith, size); value = omega (arith, c.value_is) }; value = refl };
     }
   where
+    -- where the end or a comma stands behind the number, the text is the number as an item, and what follows its comma
     stood : (r : Option (List ℕ)) → Stands tail [] r → text ≡ take count text ++ tail → Stands text (take count text) r
     stood None h e = e ∙ ap (λ t. take count text ++ t) h ∙ append-nil (take count text)
     stood (Some behind) h e = e ∙ ap (λ t. take count text ++ t) h

@@ -1,3 +1,5 @@
+-- What the laws of items say: an item is read as one value of a kind, or has one fault, and never both; and a value's text reads
+-- back.
 use Rattle.std.proofs.Common.{◌≡◌, ℕ, ◌<◌, Bool, true, false, List, length, ℤ, pos, refl, sym, ap, ◌∙◌, subst, ◌⊎◌, inl, inr, arith, Result, Ok, Err, IfErr, Some}
 use Rattle.hex.specs.Hex.{hex_digit_value}
 use Rattle.gc_values.specs.Boolean.{number_of}
@@ -34,7 +36,7 @@ written_is_read (value.Text bytes) h = record { string = record { item_is = refl
 pub written_reads : (v : Value) (item : List ℕ) → item ≡ text v → IsValue v → IsItem item v
 written_reads v item e h = subst (λ t. IsItem t v) (sym e) (written_is_read v h)
 
--- Booleans of one number are one
+-- truth values with the same number, 0 or 1, are the same
 one_boolean : (a b : Bool) → pos (number_of a) ≡ pos (number_of b) → a ≡ b
 one_boolean true true e = refl
 one_boolean false false e = refl
@@ -98,7 +100,8 @@ one_fault k item e f (inl x) (inr y) = absurd (no_form_not_beyond k item x.1 y.1
 one_fault k item e f (inr x) (inl y) = absurd (no_form_not_beyond k item y.1 x.1)
 one_fault k item e f (inr x) (inr y) = x.0 ∙ sym y.0
 
--- where a result's faults are those of a decimal's reader, each is a fault of the item for the kind `Double`
+-- where r answers `Range` only for a number out of range, and `Spelling` only for no number, as `Decimal::read` does, its fault
+-- is the item's fault for the kind `Double`
 pub double_fault : (r : Result Decimal ValueFault) (item : List ℕ) → IfErr r
     (λ e. (e ≡ fault.Range) ⊎ (e ≡ fault.Spelling)) → (r ≡ Err fault.Range → SpellsBeyond item) → (r ≡ Err fault.Spelling → SpellsNothing item)
     → IfErr r (λ e. IsItemFault kind.Double item e)

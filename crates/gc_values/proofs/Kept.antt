@@ -1,3 +1,5 @@
+-- The number that the first i digits of a text write, `kept`, with zeros for those that are missing; that number with the next
+-- digit rounded in, `kept_and_rounded`; and numbers that are cut off at a cap, which is `min cap`.
 use Rattle.std.proofs.Common.{◌≡◌, ℕ, ◌+◌, ◌-◌, ◌*◌, ◌^◌, ◌<◌, ◌≤◌, List, [], ◌∷◌, ◌++◌, length, get_or, take, drop, refl, sym, ◌∙◌, ap, subst, inl, inr, arith, add-one, length-append, drop-cons, min, zero, suc, lit<}
 use Rattle.std.proofs.Math.Nat.{mul-le-mul_right, mul-le-mul_left, one-le-pow, pow-suc, mul_comm}
 use Rattle.std.proofs.Math.Seq.{take-suc, get_or-append_right}
@@ -11,7 +13,7 @@ use Rattle.gc_values.specs.KeptDigits.{digit_or_zero, kept, carry, kept_and_roun
 use Rattle.gc_values.proofs.Powers.{ten_pow_le}
 use Rattle.gc_values.proofs.Rounding.{RoundsHalfUp, rounds_same_value, rounds_whole, rounds_down, rounds_up}
 
--- the number of digits with others behind them is the first ones' number, moved by the others' places, and the others' number added
+-- the number that the digits xs and then ys write is that of xs, times ten for each digit of ys, plus that of ys
 pub number-append : (xs ys : List ℕ) → number (xs ++ ys) ≡ number xs * 10 ^ length ys + number ys
 number-append [] ys = omega arith
 number-append (x ∷ xs) ys =
@@ -30,12 +32,12 @@ pub kept_none : (ds : List ℕ) → kept ds 0 ≡ 0
 unfolding kept
 kept_none ds = omega arith
 
--- where there are that many digits, the number is that of the first i
+-- where there are at least i digits, `kept` is the number that the first i write
 kept_within : (ds : List ℕ) (i : ℕ) → i ≤ length ds → kept ds i ≡ number (take i ds)
 unfolding kept
 kept_within ds i h = let e : i - length ds ≡ 0 = omega arith in rw e (omega arith)
 
--- where there are fewer digits, the number is that of all, with zeros behind it
+-- where there are at most i digits, `kept` is the number that all write, with a zero behind it for each that is missing
 kept_past : (ds : List ℕ) (i : ℕ) → length ds ≤ i → kept ds i ≡ number ds * 10 ^ (i - length ds)
 unfolding kept
 kept_past ds i h = rw (take_all i ds h) refl
@@ -58,7 +60,8 @@ AreDigits-drop ds zero h = h
 AreDigits-drop [] (suc k) h = h
 AreDigits-drop (d ∷ ds) (suc k) h = AreDigits-drop ds k h.1
 
--- digits, of which those from one on are cut off, are rounded by that one
+-- Digits xs, then the digit c, then digits ys. Where m is the number of xs, and 1 more if c is 5 or above, m is the number of all
+-- of them, with the point moved to before c, rounded to a whole number.
 cut_round : (xs : List ℕ) (c : ℕ) (ys : List ℕ) (m : ℕ) → AreDigits (c ∷ ys) → (c - 48 < 5 → m ≡ number xs) → (5 ≤ c - 48 → m ≡ number xs + 1) →
     RoundsHalfUp (number (xs ++ c ∷ ys) * 10 ^ length xs) (10 ^ length (xs ++ c ∷ ys)) m
 cut_round xs c ys m digits is_low is_high =
@@ -84,7 +87,8 @@ low_digit d h = grind (arith, nat_tests)
 high_digit : (d : ℕ) → 5 ≤ d → carry d ≡ 1
 high_digit d h = grind (arith, nat_tests)
 
--- the number that k digits keep, the next one rounded in, is the rounded value of the digits, moved k places
+-- for digits behind a point: their value times 10^k, rounded to a whole number, is the number of the first k digits, with the
+-- next one rounded in
 pub rounds_digits : (ds : List ℕ) (k : ℕ) → AreDigits ds → RoundsHalfUp (number ds * 10 ^ k) (10 ^ length ds) (kept_and_rounded ds k)
 rounds_digits ds k digits = elim (cases_lt k (length ds)) [
   | inl inside ↦
@@ -124,11 +128,11 @@ get_or_default [] i d e h = absurd (omega arith)
 get_or_default (x ∷ xs) zero d e h = refl
 get_or_default (x ∷ xs) (suc i) d e h = get_or_default xs i d e (omega arith)
 
--- a place of the first run is that place of both in a row
+-- the digit at a place of the first run of digits is the one at that place of both runs in a row
 pub at_first : (xs ys : List ℕ) (i : ℕ) → i < length xs → get_or xs i 0 - 48 ≡ digit_or_zero (xs ++ ys) i
 at_first xs ys i h = ap (λ b. b - 48) (get_or_default xs i 0 48 h ∙ sym (get_or-append xs ys 48 i h))
 
--- a place behind the first run is one of the second
+-- the digit of the second run at place i less the length of the first is the one at place i of both runs in a row
 pub at_second : (xs ys : List ℕ) (i : ℕ) → length xs ≤ i → i - length xs < length ys → get_or ys (i - length xs) 0 - 48 ≡ digit_or_zero (xs ++ ys) i
 at_second xs ys i h h' = ap (λ b. b - 48) (get_or_default ys (i - length xs) 0 48 h' ∙ sym (get_or-append_right xs ys i 48 h))
 
@@ -140,7 +144,7 @@ at_neither xs ys i h h' = ap (λ b. b - 48) (sym (get_or_past ys (i - length xs)
 pub is_digit : (ds : List ℕ) (i : ℕ) → AreDigits ds → i < length ds → 48 ≤ get_or ds i 0
 is_digit ds i h lt = (AreDigits-at ds i 0 h lt).0
 
--- past the last digit, zeros are written and nothing is rounded in
+-- past the last digit, `kept_and_rounded` is the number of all digits with zeros behind it: nothing is rounded in
 pub kept_behind : (ds : List ℕ) (i : ℕ) → length ds ≤ i → kept_and_rounded ds i ≡ kept ds (length ds) * 10 ^ (i - length ds)
 kept_behind ds i h =
     let none : carry (digit_or_zero ds i) ≡ 0 = low_digit (digit_or_zero ds i) (omega (arith, get_or_past ds i 48 h)) in
@@ -148,7 +152,7 @@ kept_behind ds i h =
     let past : kept ds i ≡ number ds * 10 ^ (i - length ds) = kept_past ds i h in
     omega (arith, ap (λ n. n * 10 ^ (i - length ds)) all)
 
--- where a factor is at the cap or above, cutting it at the cap leaves the product, cut at the cap, the same
+-- where n is at least `cap`, a product that is cut off at `cap` stays the same when n itself is cut off first
 min_mul_at : (cap n p : ℕ) → 0 < p → cap ≤ n → min cap (min cap n * p) ≡ min cap (n * p)
 min_mul_at cap n p some at =
     let left : cap * 1 ≤ cap * p = mul-le-mul_left {m = 1} {n = p} cap some in
@@ -156,14 +160,14 @@ min_mul_at cap n p some at =
     let factor : min cap n * p ≡ cap * p = ap (λ x. x * p) (let e : min cap n ≡ cap = omega arith in e) in
     omega arith
 
--- cutting a factor at the cap leaves the product, cut at the cap, the same
+-- a product that is cut off at `cap` stays the same when its factor n is cut off first
 pub min_mul : (cap n p : ℕ) → 0 < p → min cap (min cap n * p) ≡ min cap (n * p)
 min_mul cap n p some = elim (cases_lt n cap) [
   | inl below ↦ ap (λ x. min cap (x * p)) (let e : min cap n ≡ n = omega arith in e)
   | inr at ↦ min_mul_at cap n p some at
 ]
 
--- past a power that is at the cap itself, more zeros make no difference
+-- where 10^top is at least `cap` and z is above `top`: n * 10^z, cut off at `cap`, is the same with `top` zeros in place of z
 min_pow_many : (cap n top z : ℕ) → cap ≤ 10 ^ top → top < z → min cap (n * 10 ^ min z top) ≡ min cap (n * 10 ^ z)
 min_pow_many cap zero top z large past = omega arith
 min_pow_many cap (suc n) top z large past =
@@ -173,7 +177,7 @@ min_pow_many cap (suc n) top z large past =
     let high : 1 * 10 ^ z ≤ suc n * 10 ^ z = mul-le-mul_right {m = 1} {n = suc n} (10 ^ z) (omega arith) in
     omega (arith, ap (λ x. suc n * x) same)
 
--- where 10^top is at the cap or above, cutting the number of zeros at `top` leaves the product, cut at the cap, the same
+-- where 10^top is at least `cap`: n * 10^z, cut off at `cap`, is the same with at most `top` zeros
 pub min_pow : (cap n top z : ℕ) → cap ≤ 10 ^ top → min cap (n * 10 ^ min z top) ≡ min cap (n * 10 ^ z)
 min_pow cap n top z large = elim (cases_lt top z) [
   | inl past ↦ min_pow_many cap n top z large past
@@ -202,14 +206,14 @@ AreDigits-take ds zero h = tt
 AreDigits-take [] (suc i) h = tt
 AreDigits-take (d ∷ ds) (suc i) h = (h.0, AreDigits-take ds i h.1)
 
--- one more digit behind a front makes the number ten times as large, and adds its own value
+-- a step of reading digits behind a number `front`: one more digit makes the number ten times as large, and adds its own value
 pub followed_more : (front value more : ℕ) (ds : List ℕ) (i : ℕ) → i < length ds → value ≡ front * 10 ^ i + number (take i ds)
     → more ≡ value * 10 + (get_or ds i 0 - 48) → more ≡ front * 10 ^ (i + 1) + number (take (i + 1) ds)
 followed_more front value more ds i inside e f =
     let power : 10 ^ (i + 1) ≡ 10 ^ i * 10 = rw add-one (pow-suc 10 i) in
     omega (arith, e, f, number-take_more ds i inside, ap (λ p. front * p) power)
 
--- digits that follow a front stay below 10^18, if the front leaves room for all of them
+-- the number of `front` and the digits that were read behind it is below 10^18, if the front leaves room for all of these digits
 pub followed_small : (front value : ℕ) (ds : List ℕ) (i : ℕ) → AreDigits ds → i < length ds → value ≡ front * 10 ^ i + number (take i ds) → (front + 1) * 10 ^ length ds ≤ 10 ^ 18 → value < 10 ^ 18
 followed_small front value ds i digits inside e room =
     let small : number (take i ds) < 10 ^ length (take i ds) = number-lt (take i ds) (AreDigits-take ds i digits) in
@@ -218,7 +222,7 @@ followed_small front value ds i digits inside e room =
     let all : (front + 1) * 10 ^ i ≤ (front + 1) * 10 ^ length ds = mul-le-mul_left {m = 10 ^ i} {n = 10 ^ length ds} (front + 1) most in
     omega (arith, e, small, ap (λ k. 10 ^ k) size, all, room)
 
--- at most 18 digits in two runs leave room for the second behind the first
+-- where two runs have at most 18 digits together, the number of the first leaves room for the second behind it, within 10^18
 pub room_behind : (ws fs : List ℕ) → AreDigits ws → length ws + length fs ≤ 18 → (number ws + 1) * 10 ^ length fs ≤ 10 ^ 18
 room_behind ws fs digits few =
     let most : (number ws + 1) * 10 ^ length fs ≤ 10 ^ length ws * 10 ^ length fs =

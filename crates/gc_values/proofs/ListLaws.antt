@@ -12,7 +12,7 @@ use Rattle.gc_values.proofs.ItemLaws.{item_has_no_fault, item_is_value, one_faul
 use Rattle.gc_values.proofs.ParamLists as splitting
 use Rattle.gc_values.proofs.TextShape.{joined_splits}
 
--- items are at most one list of values of given kinds
+-- items are read as at most one list of values of given kinds
 pub one_list : (vs ws : List Value) (items : List (List ℕ)) → kinds_of vs ≡ kinds_of ws → AreItems items vs → AreItems items ws → vs ≡ ws
 one_list [] [] items e x y = refl
 one_list [] (w ∷ ws) items e x y = absurd (cc)
@@ -69,7 +69,7 @@ one_list_fault ks params e f (open_quote a o) (faulty_items items s y) = absurd 
 one_list_fault ks params e f (faulty_items items s x) (open_quote b p) = absurd (odd_even (quotes params) p (splitting.params_even params items s))
 one_list_fault ks params e f (faulty_items items s x) (faulty_items others t y) = one_items_fault ks items e f x (subst (λ i. IsItemsFault ks i f) (splitting.one_list params others items t s) y)
 
--- a list is at most one list of values of given kinds
+-- a parameter list is read as at most one list of values of given kinds
 pub one_values : (vs ws : List Value) (params : List ℕ) → kinds_of vs ≡ kinds_of ws → AreParams params vs → AreParams params ws → vs ≡ ws
 one_values vs ws params e x y = one_list vs ws x.items e x.read (subst (λ i. AreItems i ws) (splitting.one_list params y.items x.items y.split x.split) y.read)
 
@@ -78,13 +78,13 @@ pub length_kinds : (vs : List Value) → length (kinds_of vs) ≡ length vs
 length_kinds [] = refl
 length_kinds (v ∷ vs) = ap (λ n. suc n) (length_kinds vs)
 
--- items that are read as at most six values have no fault
+-- items that are read as at most six values have no fault for the kinds of these values
 no_items_fault : (vs : List Value) (items : List (List ℕ)) (e : ValueFault) → length vs ≤ 6 → AreItems items vs → IsItemsFault (kinds_of vs) items e → ⊥
 no_items_fault vs items e few x (too_many b m) = omega (arith, same_count vs items x, length_kinds vs)
 no_items_fault vs items e few x (wrong_count b m d) = d (same_count vs items x)
 no_items_fault vs items e few x (faulty_item m s y) = no_first_fault vs items e x y
 
--- a list that is read as at most six values has no fault
+-- a list that is read as at most six values has no fault for the kinds of these values
 pub no_list_fault : (vs : List Value) (params : List ℕ) (e : ValueFault) → length vs ≤ 6 → AreParams params vs → IsListFault (kinds_of vs) params e → ⊥
 no_list_fault vs params e few x (open_quote a o) = odd_even (quotes params) o (splitting.params_even params x.items x.split)
 no_list_fault vs params e few x (faulty_items items s y) = no_items_fault vs items e few (subst (λ i. AreItems i vs) (splitting.one_list params x.items items x.split s) x.read) y

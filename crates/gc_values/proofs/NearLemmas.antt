@@ -19,11 +19,11 @@ held_is x small = to_z-of_z w128 x (fits_signed_from_abs w128 x (omega arith))
 turns_small : (turns : ℤ) → unsigned_abs turns ≤ 2 → unsigned_abs (turns *ℤ turn) ≤ 10 ^ 37
 turns_small turns few = omega (arith, unsigned_abs-mul turns turn, few)
 
--- a number and turns are at most 4 * 10^37
+-- a number of at most 2 * 10^37 and one of at most 10^37, either way from 0, have a sum of at most 4 * 10^37
 sum_small : (x y : ℤ) → unsigned_abs x ≤ 2 * 10 ^ 37 → unsigned_abs y ≤ 10 ^ 37 → unsigned_abs (x +ℤ y) ≤ 4 * 10 ^ 37
 sum_small x y h k = omega (arith, ints)
 
--- 128 bits hold a number that was turned
+-- a number plus at most two turns either way, computed in 128 bits, is exact
 turned_held : (turns x : ℤ) → unsigned_abs turns ≤ 2 → unsigned_abs x ≤ 2 * 10 ^ 37 → held (held x +ℤ held (held turns *ℤ turn)) ≡ x +ℤ turns *ℤ turn
 turned_held turns x few small =
     ap (λ t. held (held x +ℤ held (t *ℤ turn))) (held_is turns (omega (arith, few)))
@@ -76,20 +76,24 @@ one_true false b e = inr e
 -- numbers that are close on the circle are close after some number of turns, at most two either way
 some_turns : (most x y : ℤ) → is_close_on_circle most x y ≡ true → (k : ℤ) × (unsigned_abs k ≤ 2) × (is_close_turned most k x y ≡ true)
 some_turns most x y e = first (one_true _ _ e) where
+  -- where x is close to y after 1 or 2 turns, it is so after k turns, for a k of at most 2 either way
   last : (is_close_turned most (pos 1) x y ≡ true) ⊎ (is_close_turned most (pos 2) x y ≡ true) → (k : ℤ) × (unsigned_abs k ≤ 2) × (is_close_turned most k x y ≡ true)
   last (inl h) = (pos 1, omega arith, h)
   last (inr h) = (pos 2, omega arith, h)
 
+  -- where x is close to y after 0, 1 or 2 turns, it is so after k turns, for a k of at most 2 either way
   third : (is_close_turned most (pos 0) x y ≡ true) ⊎ ((is_close_turned most (pos 1) x y || is_close_turned most (pos 2) x y) ≡ true)
       → (k : ℤ) × (unsigned_abs k ≤ 2) × (is_close_turned most k x y ≡ true)
   third (inl h) = (pos 0, omega arith, h)
   third (inr h) = last (one_true _ _ h)
 
+  -- where x is close to y after -1, 0, 1 or 2 turns, it is so after k turns, for a k of at most 2 either way
   second : (is_close_turned most (negsuc 0) x y ≡ true) ⊎ ((is_close_turned most (pos 0) x y || (is_close_turned most (pos 1) x y || is_close_turned most (pos 2) x y)) ≡ true)
       → (k : ℤ) × (unsigned_abs k ≤ 2) × (is_close_turned most k x y ≡ true)
   second (inl h) = (negsuc 0, omega arith, h)
   second (inr h) = third (one_true _ _ h)
 
+  -- where x is close to y after -2, -1, 0, 1 or 2 turns, it is so after k turns, for a k of at most 2 either way
   first : (is_close_turned most (negsuc 1) x y ≡ true)
       ⊎ ((is_close_turned most (negsuc 0) x y || (is_close_turned most (pos 0) x y || (is_close_turned most (pos 1) x y || is_close_turned most (pos 2) x y))) ≡ true)
       → (k : ℤ) × (unsigned_abs k ≤ 2) × (is_close_turned most k x y ≡ true)
@@ -114,7 +118,7 @@ five a b c d e (inr (inr (inl h))) = or_right a (b || (c || (d || e))) (or_right
 five a b c d e (inr (inr (inr (inl h)))) = or_right a (b || (c || (d || e))) (or_right b (c || (d || e)) (or_right c (d || e) (or_left d e h)))
 five a b c d e (inr (inr (inr (inr h)))) = or_right a (b || (c || (d || e))) (or_right b (c || (d || e)) (or_right c (d || e) (or_right d e h)))
 
--- a number of at most two turns either way is one of five
+-- an integer of magnitude at most 2 is -2, -1, 0, 1 or 2
 few_turns : (k : ℤ) → unsigned_abs k ≤ 2 → (k ≡ negsuc 1) ⊎ ((k ≡ negsuc 0) ⊎ ((k ≡ pos 0) ⊎ ((k ≡ pos 1) ⊎ (k ≡ pos 2))))
 few_turns (pos zero) few = inr (inr (inl refl))
 few_turns (pos (suc zero)) few = inr (inr (inr (inl refl)))
@@ -129,9 +133,11 @@ on_circle : (most x y k : ℤ) → unsigned_abs k ≤ 2 → is_close_turned most
 on_circle most x y k few near =
     five (is_close_turned most (negsuc 1) x y) (is_close_turned most (negsuc 0) x y) (is_close_turned most (pos 0) x y) (is_close_turned most (pos 1) x y) (is_close_turned most (pos 2) x y)
     (which (few_turns k few)) where
+      -- where k is j, x is close to y after j turns
       so : (j : ℤ) → k ≡ j → is_close_turned most j x y ≡ true
       so j e = ap (λ i. is_close_turned most i x y) (sym e) ∙ near
 
+      -- by which of the five numbers k is: x is close to y after that number of turns
       which : (k ≡ negsuc 1) ⊎ ((k ≡ negsuc 0) ⊎ ((k ≡ pos 0) ⊎ ((k ≡ pos 1) ⊎ (k ≡ pos 2))))
           → (is_close_turned most (negsuc 1) x y ≡ true) ⊎ ((is_close_turned most (negsuc 0) x y ≡ true) ⊎ ((is_close_turned most (pos 0) x y ≡ true)
           ⊎ ((is_close_turned most (pos 1) x y ≡ true) ⊎ (is_close_turned most (pos 2) x y ≡ true))))

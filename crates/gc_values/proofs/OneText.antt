@@ -1,4 +1,6 @@
--- one text has the form of a written number and names it
+-- One text has the form of a written number and names it. A whole part is the digits in front of a point, or of a whole number; a
+-- fraction part is the digits behind the point. `Holds` says of a text that it is what is written of some digits and places, as a
+-- decimal has them.
 use Rattle.std.proofs.Common.{◌≡◌, ◌≢◌, ◌↔◌, ℕ, zero, suc, ◌+◌, ◌-◌, ◌*◌, ◌/◌, ◌%◌, ◌^◌, ◌<◌, ◌≤◌, Bool, true, false, cond, get_or, ℤ, pos, negsuc, List, [], ◌∷◌, ◌++◌, length, map, refl, sym, ap, ◌∙◌, subst, inl, inr, arith, lit<, lit≤, length-append}
 use Rattle.std.proofs.Math.Nat.{pow-suc, pos_of_ne-zero, div-one, div-add-mod', mul-pos}
 use Rattle.std.proofs.lemmas.Bool.{cases_order}
@@ -42,13 +44,13 @@ digits_once (x ∷ xs) (y ∷ ys) dx dy long e =
     let first : x ≡ y = let h = both.0 in let a = dx.0 in let b = dy.0 in omega (arith, h, a, b) in
     ap (λ d. d ∷ xs) first ∙ ap (λ ds. y ∷ ds) (digits_once xs ys dx.1 dy.1 few both.1)
 
--- a number whose first digit is no 0 is at least the power of the digits behind that
+-- a number r whose first digit, the byte b, isn't 0, and which has k digits behind it, is at least 10^k
 large : (b k n r : ℕ) → 48 < b → r ≡ (b - 48) * 10 ^ k + n → 10 ^ k ≤ r
 large b k n r above e =
     let back : b - 48 ≡ (b - 49) + 1 = omega arith in
     omega (arith, e ∙ ap (λ x. x * 10 ^ k + n) back)
 
--- a whole part has one digit, or a number that is at least the power of the digits behind the first
+-- what a whole part of n digits says of its number: it is below 10^n, and where n is above 1 it is at least 10^(n - 1)
 record Sized (ds : List ℕ) : Type 0 where
   pub some : 0 < length ds
   pub small : number ds < 10 ^ length ds
@@ -90,12 +92,12 @@ whole_once xs ys x y e = elim (cases_order (length xs) (length ys)) [
   ]
 ]
 
--- digits whose first is above 0 don't begin with '0'
+-- values of digits of which the first is above 0, written as bytes, don't begin with '0'
 no_zero_first : (ds rest : List ℕ) → 0 < get_or ds 0 0 → map (λ d. 48 + d) ds ≡ 48 ∷ rest → ⊥
 no_zero_first [] rest some e = omega (arith, some)
 no_zero_first (d ∷ ds) rest some e = let h : 48 + d ≡ 48 = cc in omega (arith, some, h)
 
--- behind a lone '0' stands nothing
+-- where '0' alone is a '0' and a rest, the rest is empty
 zero_alone : (rest : List ℕ) → 48 ∷ [] ≡ 48 ∷ rest → rest ≡ []
 zero_alone [] e = refl
 zero_alone (r ∷ rest) e = absurd (let l = ap length e in omega (arith, l))
@@ -117,13 +119,13 @@ whole_part n =
 pub whole_text-number : (ds : List ℕ) → IsWholePart ds → whole_text (number ds) ≡ ds
 whole_text-number ds w = whole_once (whole_text (number ds)) ds (whole_part (number ds)) w (writes_whole (number ds)).number_is
 
--- a number with a sign is written with the minus in front, where it has one
+-- a whole number that is given as a sign and a magnitude is written as the minus, where there is one, and the magnitude
 pub signed_text-signed : (negative : Bool) (n : ℕ) → (negative ≡ true → 0 < n) → signed_text (signed negative n) ≡ minus_where negative ++ whole_text n
 signed_text-signed false n some = refl
 signed_text-signed true zero some = let h = some refl in absurd (omega (arith, h))
 signed_text-signed true (suc n) some = refl
 
--- a decimal with a sign is written with the minus in front, where it has one
+-- a decimal whose digits are given as a sign and a magnitude is written as the minus, where there is one, and the two parts
 pub written-signed : (negative : Bool) (a s : ℕ) → (negative ≡ true → 0 < a) → written (signed negative a) s ≡ minus_where negative ++ (whole_text (a / 10 ^ s) ++ (46 ∷ behind_text s (a % 10 ^ s)))
 written-signed false a s some = refl
 written-signed true zero s some = let h = some refl in absurd (omega (arith, h))
@@ -174,7 +176,7 @@ AreDigits-back : (xs ys : List ℕ) → AreDigits (xs ++ ys) → AreDigits ys
 AreDigits-back [] ys h = h
 AreDigits-back (x ∷ xs) ys h = AreDigits-back xs ys h.1
 
--- a text of the form is the written one of some digits and places
+-- the text is what is written of a decimal, with some digits m and some places s
 record Holds (text : List ℕ) : Type 0 where
   pub m : ℤ
   pub s : ℕ
@@ -182,7 +184,7 @@ record Holds (text : List ℕ) : Type 0 where
   pub places : s ≤ 24
   pub text_is : text ≡ written m s
 
--- `Holds` is so where the digits in front of the point and behind it are the text's
+-- `Holds` is true of a text of a decimal's form where a / 10^s has the text's digits in front of the point and behind it
 holds : (text : List ℕ) (f : HasDecimalForm text) (a s : ℕ) → (f.negative ≡ true → 0 < a) → (0 < s → a % 10 ≢ 0) → s ≤ 24 →
     a / 10 ^ s ≡ number f.whole → behind_text s (a % 10 ^ s) ≡ f.fraction → Holds text
 holds text f a s some canonical places front back = record {
@@ -196,13 +198,13 @@ holds text f a s some canonical places front back = record {
       ∙ sym (written-signed f.negative a s some);
 }
 
--- `Holds` is so of a text with a lone 0 behind the point
+-- `Holds` is true of a text of a decimal's form with a lone 0 behind the point
 holds_none : (text : List ℕ) (f : HasDecimalForm text) → f.fraction ≡ 48 ∷ [] → Holds text
 holds_none text f none =
     let all : number (f.whole ++ f.fraction) ≡ number f.whole * 10 = ap (λ ds. number (f.whole ++ ds)) none ∙ omega (arith, number-append f.whole (48 ∷ [])) in
     holds text f (number f.whole) 0 (λ e. let h = f.no_minus_on_zero e in omega (arith, h, all)) (λ h. absurd (omega (arith, h))) (lit≤ tt) (div-one (number f.whole)) (sym none)
 
--- digits behind a point are what is written of their number at their places
+-- s digits that write n are what is written behind the point for n at s places
 behind_again : (s n : ℕ) (ds : List ℕ) → AreDigits ds → length ds ≡ s → number ds ≡ n → 0 < s → behind_text s n ≡ ds
 behind_again s n ds digits long is some = elim (eqb_tells s 0) [
   | inl none ↦ let e = none.1 in absurd (omega (arith, e, some))
@@ -212,11 +214,11 @@ behind_again s n ds digits long is some = elim (eqb_tells s 0) [
       (number-last_digits s n (subst (λ x. x < 10 ^ s) is (subst (λ k. number ds < 10 ^ k) long (number-lt ds digits))) ∙ sym is)
 ]
 
--- a multiple and a smaller rest has that rest as its remainder
+-- where a is a multiple of p plus f, and f is below p, f is the remainder of a by p
 mod_is : (a w p f : ℕ) → f < p → a ≡ w * p + f → a % p ≡ f
 mod_is a w p f few e = let d : a / p ≡ w = ap (λ x. x / p) e ∙ div-mul-add w p f few in omega (arith, e, div-add-mod' a p, ap (λ x. x * p) d)
 
--- `Holds` is so of a text whose digits behind the point don't end in 0
+-- `Holds` is true of a text of a decimal's form whose digits behind the point don't end in 0
 holds_some : (text : List ℕ) (f : HasDecimalForm text) → number f.fraction % 10 ≢ 0 → Holds text
 holds_some text f other =
     let p : ℕ = 10 ^ length f.fraction in
@@ -227,11 +229,12 @@ holds_some text f other =
     (ap (λ x. x / p) all ∙ div-mul-add (number f.whole) p (number f.fraction) few)
     (behind_again (length f.fraction) (number (f.whole ++ f.fraction) % p) f.fraction f.fraction_is.are_digits refl
     (sym (mod_is (number (f.whole ++ f.fraction)) (number f.whole) p (number f.fraction) few all)) f.fraction_is.some) where
+      -- the last digit of two runs of digits in a row is that of the second run
       last_of_all : (ws fs : List ℕ) → 0 < length fs → number (ws ++ fs) % 10 ≡ number fs % 10
       last_of_all ws [] some = absurd (omega (arith, some))
       last_of_all ws (d ∷ ds) some = omega (arith, number-append ws (d ∷ ds), pow-suc 10 (length ds), ap (λ x. number ws * x) (pow-suc 10 (length ds)))
 
--- `Holds` is so of every text of the form
+-- `Holds` is true of every text of a decimal's form
 every_form : (text : List ℕ) → HasDecimalForm text → Holds text
 every_form text f = elim (eqb_tells (number f.fraction % 10) 0) [
   | inl divides ↦
@@ -243,7 +246,7 @@ every_form text f = elim (eqb_tells (number f.fraction % 10) 0) [
   | inr other ↦ holds_some text f other.1
 ]
 
--- in front of a lone '0' stands nothing
+-- where '0' alone is a front and a '0', the front is empty
 alone : (front : List ℕ) → 48 ∷ [] ≡ front ++ 48 ∷ [] → front ≡ []
 alone [] e = refl
 alone (x ∷ front) e = absurd (let l = ap length e in omega (arith, l, length-append front (48 ∷ [])))
@@ -273,7 +276,7 @@ fraction_part a s few canonical = elim (eqb_tells s 0) [
       subst IsFractionPart (ap (λ b. cond b (48 ∷ []) (last_digits s (a % 10 ^ s))) (sym more.0)) (last_part a s few some (canonical some))
 ]
 
--- a positive product has positive factors
+-- where x * b is the product of two numbers above 0, x is above 0
 positive : (a p x b : ℕ) → 0 < a → 0 < p → a * p ≡ x * b → 0 < x
 positive a p zero b h k e = let both : 0 < a * p = mul-pos h k in absurd (omega (arith, e, both))
 positive a p (suc x) b h k e = omega arith
@@ -290,6 +293,7 @@ decimal_form_of negative a s few canonical some = record {
   fraction_is = fraction_part a s few canonical;
   no_minus_on_zero = λ e. above_zero (some e);
 } where
+  -- where a is above 0, so is the number that the digits before and behind the point write
   above_zero : 0 < a → 0 < number (whole_text (a / 10 ^ s) ++ behind_text s (a % 10 ^ s))
   above_zero h =
       let b = behind a s in

@@ -1,3 +1,4 @@
+-- Decimals are in the order of their values. Signed numbers are given here as a sign, where `true` is a minus, and a magnitude.
 use Rattle.std.proofs.Common.{◌≡◌, ℕ, ◌+◌, ◌-◌, ◌*◌, ◌^◌, ◌<◌, Bool, true, false, ℤ, pos, ◌*ℤ◌, ◌<ℤ◌, sym, ap, subst, arith}
 use Rattle.std.proofs.Math.Nat.{mul-lt-mul_of_pos_left, lt_of_mul-lt-mul_left}
 use Rattle.std.proofs.lemmas.Int.{ints}
@@ -14,7 +15,7 @@ use Rattle.gc_values.proofs.Rounded.{sign_of}
 use Rattle.gc_values.proofs.Signs.{signed-mul}
 use Rattle.gc_values.proofs.WithinLemmas.{whole_place}
 
--- a number with a sign is below another one
+-- the number of sign b and magnitude x is below the one of sign c and magnitude y, where `true` is a minus
 abbrev less : Bool → ℕ → Bool → ℕ → Type 0
 less false x false y = x < y
 less false x true y = ⊥
@@ -35,7 +36,7 @@ less_to false x true y h = absurd h
 less_to true x false y h = omega (arith, ints)
 less_to true x true y h = omega (arith, ints)
 
--- numbers keep their order when both are multiplied
+-- numbers keep their order when both are multiplied by p, which is above 0
 times : (x y p : ℕ) → 0 < p → x < y → x * p < y * p
 times x y p some h = omega (arith, mul-lt-mul_of_pos_left {m = x} {n = y} {k = p} h some)
 
@@ -43,7 +44,7 @@ times x y p some h = omega (arith, mul-lt-mul_of_pos_left {m = x} {n = y} {k = p
 over : (x y p : ℕ) → x * p < y * p → x < y
 over x y p h = lt_of_mul-lt-mul_left p (omega arith)
 
--- signed numbers keep their order when both are multiplied
+-- signed numbers keep their order when both are multiplied by p, which is above 0
 less_times : (b : Bool) (x : ℕ) (c : Bool) (y p : ℕ) → 0 < p → less b x c y → less b (x * p) c (y * p)
 less_times false x false y p some h = times x y p some h
 less_times false x true y p some h = h
@@ -57,21 +58,22 @@ less_over false x true y p h = h
 less_over true x false y p h = over 0 (x + y) p (omega arith)
 less_over true x true y p h = over y x p h
 
--- numbers in units of the last place, where p is 10^24, keep their order when they are multiplied out
+-- Two values m / a and n / d with signs, where a and d are powers of ten: in units of 10^-24 they are m * a' and n * d'. Where
+-- these are in order, m * d and n * a are, too. p is 10^24.
 moved : (b : Bool) (m : ℕ) (c : Bool) (n a a' d d' p : ℕ) → 0 < p → a * a' ≡ p → d * d' ≡ p → less b (m * a') c (n * d') → less b (m * d) c (n * a)
 moved b m c n a a' d d' p some e f h =
     let left : m * a' * p ≡ m * d * (a' * d') = omega (arith, ap (λ x. m * a' * x) f) in
     let right : n * d' * p ≡ n * a * (a' * d') = omega (arith, ap (λ x. n * d' * x) e) in
     less_over b (m * d) c (n * a) (a' * d') (subst (λ x. less b x c (n * a * (a' * d'))) left (subst (λ y. less b (m * a' * p) c y) right (less_times b (m * a') c (n * d') p some h)))
 
--- numbers with a sign, in units of the last place, keep their order when they are multiplied out
+-- the same as `moved`, of integers that are made of a sign and a magnitude: where m * a' is below n * d', m * d is below n * a
 moved_signed : (b : Bool) (m : ℕ) (c : Bool) (n a a' d d' p : ℕ) → 0 < p → a * a' ≡ p → d * d' ≡ p → (signed b m *ℤ pos a') <ℤ (signed c n *ℤ pos d') → (signed b m *ℤ pos d) <ℤ (signed c n *ℤ pos a)
 moved_signed b m c n a a' d d' p some e f h =
     let there = less_from b (m * a') c (n * d') (subst (λ x. x <ℤ signed c (n * d')) (signed-mul b m a') (subst (λ y. (signed b m *ℤ pos a') <ℤ y) (signed-mul c n d') h)) in
     subst (λ x. x <ℤ (signed c n *ℤ pos a)) (sym (signed-mul b m d)) (subst (λ y. signed b (m * d) <ℤ y) (sym (signed-mul c n a))
     (less_to b (m * d) c (n * a) (moved b m c n a a' d d' p some e f there)))
 
--- whole numbers, in units of the last place, keep their order when they are multiplied out
+-- the same as `moved`, of integers: where z * a' is below w * d', z * d is below w * a
 moved_whole : (z w : ℤ) (a a' d d' p : ℕ) → 0 < p → a * a' ≡ p → d * d' ≡ p → (z *ℤ pos a') <ℤ (w *ℤ pos d') → (z *ℤ pos d) <ℤ (w *ℤ pos a)
 moved_whole z w a a' d d' p some e f =
     let x = sign_of z in
@@ -85,7 +87,7 @@ below_from_units a b =
     moved_whole a.digits b.digits (10 ^ a.scale) (10 ^ (24 - a.scale)) (10 ^ b.scale) (10 ^ (24 - b.scale)) (10 ^ 24) (omega arith)
     (whole_place a.scale a.has_few_places) (whole_place b.scale b.has_few_places)
 
--- an ordering says what follows from each of its three cases
+-- where an ordering says P, Q or R by its three cases, and P', Q' and R' follow from them, it says P', Q' or R'
 ranked_as : (o : Ordering) (P Q R P' Q' R' : Type 0) → MatchOrdering o P Q R → (P → P') → (Q → Q') → (R → R') → MatchOrdering o P' Q' R'
 ranked_as Less P Q R P' Q' R' h f g k = f h
 ranked_as Equal P Q R P' Q' R' h f g k = g h

@@ -1,3 +1,6 @@
+-- A parameter list is split at its commas in one way. A piece is what stands between two commas, and an item is a piece without
+-- the spaces at its ends. `HasPieces` says of a text that it is pieces joined by commas, each of them a parameter with any spaces
+-- round it.
 use Rattle.std.proofs.Common.{◌≡◌, ℕ, zero, suc, ◌+◌, ◌%◌, ◌<◌, List, [], ◌∷◌, ◌++◌, length, replicate, Some, None, refl, sym, ap, ◌∙◌, subst, inl, inr, arith, length-append, append_assoc}
 use Rattle.std.proofs.lemmas.List.{append-nil}
 use Rattle.std.proofs.lemmas.Bool.{cases_eq}
@@ -41,7 +44,7 @@ joined-append [] q qs = refl
 joined-append (p ∷ []) q qs = refl
 joined-append (p ∷ r ∷ rs) q qs = ap (λ xs. p ++ 44 ∷ xs) (joined-append (r ∷ rs) q qs)
 
--- pieces and one more in front of a rest are the pieces in front of that one, a comma and the rest
+-- `led` of the pieces ps and then p, and a rest, is `led` of ps, and then p, a comma and the rest
 pub led-push : (ps : List (List ℕ)) (p rest : List ℕ) → led (ps ++ p ∷ []) rest ≡ led ps (p ++ 44 ∷ rest)
 led-push [] p rest = refl
 led-push (q ∷ qs) p rest = ap (λ xs. q ++ 44 ∷ xs) (led-push qs p rest)
@@ -76,7 +79,7 @@ same_pieces p q (r ∷ rs) (s ∷ ss) hp hq e =
     let rest = same_pieces r s rs ss hp.1 hq.1 cut.1 in
     cc
 
--- pieces are of one list of parameters
+-- two lists of parameters with the same pieces are equal
 same_items : (ps is js : List (List ℕ)) → ArePieces ps is → ArePieces ps js → is ≡ js
 same_items [] [] [] h k = refl
 same_items [] [] (j ∷ js) h k = absurd k
@@ -88,7 +91,7 @@ same_items (p ∷ ps) (i ∷ is) (j ∷ js) h k =
     let rest = same_items ps is js h.2 k.2 in
     cc
 
--- joined pieces are of one list of parameters
+-- two lists of parameters whose pieces join to the same text are equal
 one_joined : (ps is qs js : List (List ℕ)) (i j : List ℕ) → ArePieces ps (i ∷ is) → ArePieces qs (j ∷ js) → joined ps ≡ joined qs → i ∷ is ≡ j ∷ js
 one_joined [] is qs js i j h k e = absurd h
 one_joined (p ∷ ps) is [] js i j h k e = absurd k
@@ -96,14 +99,14 @@ one_joined (p ∷ ps) is (q ∷ qs) js i j h k e =
     let same = same_pieces p q ps qs (pieces_of (p ∷ ps) (i ∷ is) h) (pieces_of (q ∷ qs) (j ∷ js) k) e in
     same_items (p ∷ ps) (i ∷ is) (j ∷ js) h (subst (λ rs. ArePieces rs (j ∷ js)) (sym same) k)
 
--- a text is at most one list of parameters
+-- a text splits into at most one list of parameters
 pub one_list : (bytes : List ℕ) (xs ys : List (List ℕ)) → IsParams bytes xs → IsParams bytes ys → xs ≡ ys
 one_list bytes [] [] h k = refl
 one_list bytes [] (y ∷ ys) h k = absurd (k.some h)
 one_list bytes (x ∷ xs) [] h k = absurd (h.some k)
 one_list bytes (x ∷ xs) (y ∷ ys) h k = one_joined h.pieces xs k.pieces ys x y h.pieces_are k.pieces_are (sym h.bytes_are ∙ k.bytes_are)
 
--- a text is one piece, and others behind commas
+-- the text is one piece, and others behind commas, and each piece is a parameter with any spaces round it
 pub record HasPieces (text : List ℕ) : Type 0 where
   pub first : List ℕ
   pub others : List (List ℕ)
@@ -112,13 +115,13 @@ pub record HasPieces (text : List ℕ) : Type 0 where
   pub text_is : text ≡ joined (first ∷ others)
   pub are : ArePieces (first ∷ others) (item ∷ items)
 
--- a piece alone is a text with pieces
+-- `HasPieces` is true of a piece alone
 one_piece : (piece : List ℕ) → KeepsCommas piece → quotes piece % 2 ≡ 0 → HasPieces piece
 one_piece piece keeps even =
     let t = trimmed_exists piece in
     record { first = piece; others = []; item = back_off (front_off piece); items = []; text_is = sym (append-nil piece); are = (t.padded, trimmed_is_param piece _ t keeps even, tt) }
 
--- a piece and a comma in front of a text with pieces are one
+-- `HasPieces` is true of a piece, a comma and a text of which it is true
 more_pieces : (piece rest : List ℕ) → KeepsCommas piece → quotes piece % 2 ≡ 0 → HasPieces rest → HasPieces (piece ++ 44 ∷ rest)
 more_pieces piece rest keeps even r =
     let t = trimmed_exists piece in
@@ -132,7 +135,7 @@ more_pieces piece rest keeps even r =
       are = (t.padded, trimmed_is_param piece _ t keeps even, r.are);
     }
 
--- behind a piece with its quotes in pairs, and a comma, quotes are in pairs where all are
+-- where a text's quotes are in pairs, and those before one of its commas are, those behind that comma are, too
 even_behind : (xs ys : List ℕ) → quotes xs % 2 ≡ 0 → quotes (xs ++ 44 ∷ ys) % 2 ≡ 0 → quotes ys % 2 ≡ 0
 even_behind xs ys first both = let sum = quotes-comma xs ys in omega (arith, first, both, sum)
 
@@ -140,7 +143,7 @@ even_behind xs ys first both = let sum = quotes-comma xs ys in omega (arith, fir
 pub odd_or : (n : ℕ) → (n % 2 ≡ 0 → ⊥) → n % 2 ≡ 1
 odd_or n h = omega (arith, h)
 
--- a text with its quotes in pairs has pieces, from wherever its first piece is read
+-- a text with its quotes in pairs has pieces; `front` is the part of its first piece that was read so far
 has_pieces_from : (front bytes : List ℕ) → KeepsCommas front → quotes (front ++ bytes) % 2 ≡ 0 → HasPieces (front ++ bytes)
 has_pieces_from front [] keeps even = subst HasPieces (sym (append-nil front)) (one_piece front keeps (ap (λ xs. quotes xs % 2) (sym (append-nil front)) ∙ even))
 has_pieces_from front (b ∷ bs) keeps even =
@@ -168,7 +171,7 @@ pub record SplitSoFar (text : List ℕ) (items : List (List ℕ)) (rest : List �
   pub are : ArePieces pieces items
   pub even : quotes rest % 2 ≡ 0
 
--- cutting one more piece off, and trimming it, makes one item more
+-- where a text is split so far into items and a rest, one more piece that is cut off the rest, and trimmed, is one item more
 pub split_more : (text rest piece next item : List ℕ) (items : List (List ℕ)) → SplitSoFar text items rest → CutsPiece rest piece (Some next)
     → IsTrimmed piece item → SplitSoFar text (items ++ item ∷ []) next
 split_more text rest piece next item items s cut t = record {
@@ -195,7 +198,7 @@ split_last text rest piece item items s cut t some =
       some = some;
     })
 
--- where some text is left behind the items, a longer list stands for the whole
+-- where a rest is left behind the items that were cut off, the whole text is a list of more items than these
 pub split_longer : (text rest : List ℕ) (items : List (List ℕ)) → SplitSoFar text items rest → (AreSpaces text → ⊥) → (all : List (List ℕ)) × IsParams text all × (length items < length all)
 split_longer text rest items s some =
     let r = has_pieces rest s.even in

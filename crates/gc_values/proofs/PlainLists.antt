@@ -1,4 +1,4 @@
--- Parameters in the common spelling.
+-- Parameters in the common spelling, whose bytes are bare: no space, double quote, comma, CR or LF.
 use Rattle.std.specs.Prelude.{◌≡◌, ◌+◌, ◌<◌, ◌≤◌, ℕ, List, [], ◌∷◌, ◌++◌, length, take, drop, Option, Some, None, refl}
 use Rattle.std.proofs.Common.{arith, sym, ap, ◌∙◌, subst, get_or, append-nil}
 use Rattle.std.proofs.lemmas.List.{take_all, take-append-drop, drop_more, length-take-le}

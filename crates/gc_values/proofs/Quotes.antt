@@ -1,3 +1,5 @@
+-- Double quotes in a text are counted, and commas are kept within quotes: each comma has an odd number of double quotes before it
+-- (`KeepsCommas`).
 use Rattle.std.proofs.Common.{◌≡◌, ℕ, zero, suc, ◌+◌, ◌%◌, ◌<◌, ◌⊎◌, false, cond, eqb, List, [], ◌∷◌, ◌++◌, length, get_or, take, replicate, refl, sym, ap, ◌∙◌, subst, inl, inr, arith, zero-add}
 use Rattle.std.proofs.lemmas.List.Sums.{sum_by-append, sum_by-cons, sum_by_more}
 use Rattle.gc_values.specs.Params.{quotes}
@@ -11,11 +13,11 @@ counted b = cond (eqb b 34) 1 0
 pub quotes-append : (xs ys : List ℕ) → quotes (xs ++ ys) ≡ quotes xs + quotes ys
 quotes-append xs ys = sum_by-append counted xs ys
 
--- a first byte adds its quote
+-- a byte in front adds 1 to the number of double quotes if it is one, else 0
 pub quotes-cons : (b : ℕ) (bs : List ℕ) → quotes (b ∷ bs) ≡ cond (eqb b 34) 1 0 + quotes bs
 quotes-cons b bs = sum_by-cons counted b bs
 
--- one more byte adds its quote
+-- the next byte adds 1 to the number of double quotes in the first i bytes if it is one, else 0
 pub quotes_more : (xs : List ℕ) (i : ℕ) → i < length xs → quotes (take (i + 1) xs) ≡ quotes (take i xs) + cond (eqb (get_or xs i 0) 34) 1 0
 quotes_more xs i h = sum_by_more counted xs i 0 h
 
@@ -57,7 +59,7 @@ KeepsCommas-push xs b keeps comma front rest e = elim (push_cut xs front rest b 
   | inr h ↦ keeps front h.0 h.1
 ]
 
--- of two cuts of one text at a comma, they are one, or one comma stands before the other
+-- two cuts of one text at a comma are the same, or the comma of one stands before that of the other
 pub cuts_compare : (xs ys us vs : List ℕ) → xs ++ 44 ∷ us ≡ ys ++ 44 ∷ vs → ((xs ≡ ys) × (us ≡ vs)) ⊎ (((r : List ℕ) × (xs ≡ ys ++ 44 ∷ r)) ⊎ ((r : List ℕ) × (ys ≡ xs ++ 44 ∷ r)))
 cuts_compare [] [] us vs e = let h : us ≡ vs = cc in inl (refl, h)
 cuts_compare [] (y ∷ ys) us vs e = let h : y ∷ ys ≡ 44 ∷ ys = cc in inr (inr (ys, h))
@@ -75,7 +77,8 @@ cuts_compare (x ∷ xs) (y ∷ ys) us vs e =
 pub not_inside : (xs ys vs : List ℕ) → KeepsCommas xs → quotes ys % 2 ≡ 0 → xs ≡ ys ++ 44 ∷ vs → ⊥
 not_inside xs ys vs keeps even e = let odd = keeps ys vs e in omega (arith, odd, even)
 
--- a text has one first comma outside quotes
+-- two cuts of one text at a comma are the same, where before each of the two commas quotes are in pairs and commas are within
+-- quotes
 pub one_cut : (xs ys us vs : List ℕ) → KeepsCommas xs → quotes xs % 2 ≡ 0 → KeepsCommas ys → quotes ys % 2 ≡ 0 → xs ++ 44 ∷ us ≡ ys ++ 44 ∷ vs → (xs ≡ ys) × (us ≡ vs)
 one_cut xs ys us vs kx ex ky ey e = elim (cuts_compare xs ys us vs e) [
   | inl h ↦ h

@@ -1,3 +1,5 @@
+-- What a text spells that reads as the parts of a number: whether there is a minus, the digits before the point (`whole`) and
+-- behind it (`fraction`), and how often the exponent multiplies (`up`) and divides (`down`) by ten.
 use Rattle.std.proofs.Common.{◌≡◌, ℕ, ◌+◌, ◌-◌, ◌*◌, ◌^◌, ◌<◌, ◌≤◌, Bool, List, ◌++◌, length, ℤ, unsigned_abs, sym, ap, ◌∙◌, subst, arith}
 use Rattle.std.proofs.Math.Nat.{mul-lt-mul_of_pos_left, lt_of_mul-lt-mul_left}
 use Rattle.std.proofs.lemmas.Nat.{pow-add}
@@ -12,11 +14,12 @@ use Rattle.gc_values.proofs.Rounded.{zeros_off, rounded_from, rounds_to_one}
 use Rattle.gc_values.proofs.Signs.{unsigned_abs-signed}
 use Rattle.gc_values.proofs.Unique.{names_once}
 
--- the fraction of the parts that the code holds
+-- the fraction that a number's parts stand for, as `cut_numeral` has them: whether there is a minus, the digits before and behind
+-- the point, and how often the exponent multiplies and divides by ten
 abbrev pub fraction_of : Bool → List ℕ → List ℕ → ℕ → ℕ → Fraction
 fraction_of negative whole fraction up down = record { n = signed negative (number (whole ++ fraction) * 10 ^ up); k = length fraction + down }
 
--- where a text reads as these parts, `fraction_of` them is the value of the numeral's parts
+-- where a text reads as these parts, what `fraction_of` makes of them is the value of the numeral
 same_fraction : (text : List ℕ) (negative : Bool) (whole fraction : List ℕ) (up down : ℕ) (r : ReadsNumeral text negative whole fraction up down)
     → fraction_of negative whole fraction up down ≡ value r.parts
 same_fraction text negative whole fraction up down r =
@@ -26,7 +29,7 @@ same_fraction text negative whole fraction up down r =
     ∙ ap (λ u. fraction_of (is_minus r.parts.sign) r.parts.whole (fraction_digits r.parts.fraction) u down) r.up_is
     ∙ ap (λ d. fraction_of (is_minus r.parts.sign) r.parts.whole (fraction_digits r.parts.fraction) (ups r.parts.exponent) d) r.down_is
 
--- a text that reads as these parts names `fraction_of` them
+-- a text that reads as these parts names the fraction that `fraction_of` makes of them
 pub reads_names : (text : List ℕ) (negative : Bool) (whole fraction : List ℕ) (up down : ℕ) → ReadsNumeral text negative whole fraction up down
     → Names text (fraction_of negative whole fraction up down)
 reads_names text negative whole fraction up down r = (r.parts, r.form, r.text_is, same_fraction text negative whole fraction up down r)
@@ -42,7 +45,8 @@ zeros_at_last m p n s places w =
       canonical = w.canonical;
     }
 
--- where the units are in range they are the rounded value
+-- Where a text reads as these parts, their value is `units` over 10^p and in range, and m / 10^s is made of that, the text spells
+-- m / 10^s.
 pub reads_value : (text : List ℕ) (negative : Bool) (whole fraction : List ℕ) (up down units p : ℕ) (m : ℤ) (s : ℕ) → ReadsNumeral text negative whole fraction up down →
     IsCapped (number (whole ++ fraction) * 10 ^ up) (length fraction + down) (10 ^ 37 + 1) units p → units ≤ 10 ^ 13 * 10 ^ p → MadeOf negative units p m s → Spells text m s
 reads_value text negative whole fraction up down units p m s r c within made =
@@ -61,7 +65,8 @@ beyond m p n s large w =
     let same = w.same in
     lt_of_mul-lt-mul_left (10 ^ p) (omega (arith, same, mul-lt-mul_of_pos_left {m = 10 ^ 13 * 10 ^ p} {n = m} {k = 10 ^ s} large (ten_pow_pos s)))
 
--- a number whose units are capped above the bound is out of range
+-- where a text reads as these parts, and their value, `units` over 10^p, is above the bound, the text spells a number out of
+-- range
 pub reads_beyond : (text : List ℕ) (negative : Bool) (whole fraction : List ℕ) (up down units p : ℕ) → ReadsNumeral text negative whole fraction up down →
     IsCapped (number (whole ++ fraction) * 10 ^ up) (length fraction + down) (10 ^ 37 + 1) units p → 10 ^ 13 * 10 ^ p < units → SpellsBeyond text
 reads_beyond text negative whole fraction up down units p r c above =

@@ -1,3 +1,4 @@
+-- What `Decimal::read` answers for a text, as `IsReading` has it.
 use Rattle.std.proofs.Common.{◌≡◌, ◌↔◌, ◌⊎◌, inl, ℕ, ◌+◌, ◌*◌, ◌^◌, ◌<◌, ◌≤◌, Bool, List, ◌++◌, length, Result, Ok, Err, IfOk, IfErr, MatchResult, refl, ap}
 use Rattle.gc_values.specs.Cut.{ReadsNumeral}
 use Rattle.gc_values.specs.Digits.{number}
@@ -9,7 +10,7 @@ use Rattle.gc_values.specs.declared.fault.ValueFault.TheVariants.{Spelling, Rang
 use Rattle.gc_values.proofs.DecimalLaws.{spells_unique, spells-no_range}
 use Rattle.gc_values.proofs.ReadLemmas.{reads_value, reads_beyond}
 
--- what reading a text answers: what it spells, and nothing else
+-- the contract of `Decimal::read`: r is the decimal that the text spells, or the fault of a text that spells none
 pub record IsReading (text : List ℕ) (r : Result Decimal ValueFault) : Type 0 where
   pub value : IfOk r (λ d. Spells text d.digits d.scale)
   pub only : (d : Decimal) → Spells text d.digits d.scale → r ≡ Ok d
@@ -25,7 +26,7 @@ not_ok d e r h k = absurd (cc)
 range_is_other : (r : Result Decimal ValueFault) → r ≡ Err Range → r ≡ Err Spelling → ⊥
 range_is_other r h k = absurd (cc)
 
--- answering the decimal that a text spells is reading it
+-- `IsReading` is true of a text that spells a decimal, and that decimal
 pub reads_ok : (text : List ℕ) (d : Decimal) → Spells text d.digits d.scale → IsReading text (Ok d)
 reads_ok text d spelled = record {
   value = spelled;
@@ -35,7 +36,7 @@ reads_ok text d spelled = record {
   faults = tt;
 }
 
--- answering `Range` of a number beyond the range is reading it
+-- `IsReading` is true of a text that spells a number out of range, and the fault `Range`
 pub reads_range : (text : List ℕ) (e : ValueFault) → e ≡ Range → SpellsBeyond text → IsReading text (Err e)
 reads_range text e is beyond = record {
   value = tt;
@@ -45,7 +46,8 @@ reads_range text e is beyond = record {
   faults = inl is;
 }
 
--- answering the decimal made of a numeral's units, or `Range` where they pass the bound, is reading it
+-- `IsReading` is true where the text reads as these parts, their value is `units` over 10^p, and r is the decimal made of that,
+-- or `Range` where it passes the bound
 pub reads_parts : (text : List ℕ) (negative : Bool) (whole fraction : List ℕ) (up down units p : ℕ) (r : Result Decimal ValueFault) → ReadsNumeral text negative whole fraction up down →
     IsCapped (number (whole ++ fraction) * 10 ^ up) (length fraction + down) (10 ^ 37 + 1) units p →
     IfOk r (λ d. MadeOf negative units p d.digits d.scale) →

@@ -1,3 +1,5 @@
+-- A fraction has one rounding to p places, and how it is found: by the nearest whole number of 10^-p, without the zeros at its
+-- end.
 use Rattle.std.proofs.Common.{◌≡◌, ℕ, zero, suc, ◌+◌, ◌-◌, ◌*◌, ◌%◌, ◌^◌, ◌<◌, ◌≤◌, Bool, true, false, ℤ, pos, negsuc, neg_ℤ, ◌*ℤ◌, ◌-ℤ◌, unsigned_abs, refl, sym, ap, ◌∙◌, subst, arith}
 use Rattle.std.proofs.Math.Nat.{mul-le-mul_right, le_of_mul-le-mul_right, lt_of_mul-lt-mul_left, eq_of_mul-eq-mul_left, mul-lt-mul_of_pos_left}
 use Rattle.std.proofs.lemmas.Nat.{pow-add}
@@ -25,7 +27,7 @@ distance_signed neg n s a k =
     ∙ ap (λ x. unsigned_abs (signed neg (n * 10 ^ k) -ℤ x)) (signed-mul neg a (10 ^ s))
     ∙ gap_signed neg (n * 10 ^ k) (a * 10 ^ s)
 
--- the distance of two numbers over 10^s is that over 10^p, where one has zeros more
+-- where n / 10^s and m / 10^p are one value, the distance of a / 10^k from the one is its distance from the other, multiplied out
 moved : (a k p m n s : ℕ) → m * 10 ^ s ≡ n * 10 ^ p → gap (n * 10 ^ k) (a * 10 ^ s) * 10 ^ p ≡ gap (a * 10 ^ p) (m * 10 ^ k) * 10 ^ s
 moved a k p m n s same =
     let left : n * 10 ^ k * 10 ^ p ≡ m * 10 ^ k * 10 ^ s = omega (arith, ap (λ x. x * 10 ^ k) same) in
@@ -33,7 +35,8 @@ moved a k p m n s same =
     sym (gap-mul (n * 10 ^ k) (a * 10 ^ s) (10 ^ p)) ∙ ap (λ x. gap x (a * 10 ^ s * 10 ^ p)) left ∙ ap (gap (m * 10 ^ k * 10 ^ s)) right
     ∙ gap_comm (m * 10 ^ k * 10 ^ s) (a * 10 ^ p * 10 ^ s) ∙ gap-mul (a * 10 ^ p) (m * 10 ^ k) (10 ^ s)
 
--- where m is the nearest number of 10^-p, m without its zeros is the rounding
+-- where m is the whole number of 10^-p that is nearest to a / 10^k, m / 10^p without the zeros at its end is a / 10^k rounded to
+-- p places
 pub rounded_from : (neg : Bool) (a k p m n s : ℕ) → RoundsHalfUp (a * 10 ^ p) (10 ^ k) m → WithoutZeros m p n s → IsRounded (record { n = signed neg a; k = k }) p (signed neg n) s
 rounded_from neg a k p m n s r w =
     let far = distance_signed neg n s a k in
@@ -57,11 +60,11 @@ far_apart x k p a s places near =
     let pos : 0 < 10 ^ p * 10 ^ k = omega (arith, pow-add 10 p k, ten_pow_pos (p + k)) in
     omega arith
 
--- a positive and a negative number are as far apart as their sum
+-- a positive and a negative number are as far apart as the sum of their magnitudes
 pub abs_pos_neg : (x y : ℕ) → unsigned_abs (pos x -ℤ neg_ℤ (pos y)) ≡ x + y
 abs_pos_neg x y = omega (arith, ints)
 
--- a negative and a positive number are as far apart as their sum
+-- a negative and a positive number are as far apart as the sum of their magnitudes
 pub abs_neg_pos : (x y : ℕ) → unsigned_abs (neg_ℤ (pos x) -ℤ pos y) ≡ x + y
 abs_neg_pos x y = omega (arith, ints)
 
@@ -87,7 +90,8 @@ keeps_sign true a k p (negsuc x) s r = (suc x, refl)
 keeps_sign true a k p (pos zero) s r = (0, refl)
 keeps_sign true a k p (pos (suc x)) s r = absurd (far_apart x k p a s r.places (subst (λ d. 2 * d * 10 ^ p ≤ 10 ^ s * 10 ^ k) (opposite_true x s a k) r.near))
 
--- a rounding is the nearest whole number of 10^-p, without its zeros
+-- u is the whole number of 10^-p that is nearest to a / 10^k, and m / 10^s is u / 10^p with the sign, without the zeros at its
+-- end
 pub record Units (neg : Bool) (a k p : ℕ) (m : ℤ) (s : ℕ) : Type 0 where
   pub n : ℕ
   pub u : ℕ
@@ -95,7 +99,7 @@ pub record Units (neg : Bool) (a k p : ℕ) (m : ℤ) (s : ℕ) : Type 0 where
   pub zeros : WithoutZeros u p n s
   pub rounds : RoundsHalfUp (a * 10 ^ p) (10 ^ k) u
 
--- `Units` holds of each rounding of the same sign
+-- each rounding to p places that has the sign of its fraction is the nearest whole number of 10^-p, as `Units` has it
 with_sign_known : (neg : Bool) (a k p n s : ℕ) → IsRounded (record { n = signed neg a; k = k }) p (signed neg n) s → Units neg a k p (signed neg n) s
 with_sign_known neg a k p n s r =
     let u : ℕ = n * 10 ^ (p - s) in
@@ -120,7 +124,7 @@ with_sign_known neg a k p n s r =
       };
     }
 
--- `Units` holds of each rounding
+-- each rounding to p places is the nearest whole number of 10^-p, with the sign of its fraction, as `Units` has it
 pub rounded_to : (neg : Bool) (a k p : ℕ) (m : ℤ) (s : ℕ) → IsRounded (record { n = signed neg a; k = k }) p m s → Units neg a k p m s
 rounded_to neg a k p m s r =
     let sign = keeps_sign neg a k p m s r in
@@ -157,7 +161,7 @@ same_place x = omega (arith, ints)
 nothing : (x : ℕ) → 2 * 0 * x ≡ 0
 nothing x = omega arith
 
--- a decimal with enough places has its value as its rounding
+-- where m / 10^s has the value of q, needs all its places and has at most p, it is q rounded to p places
 pub exact_rounds : (q : Fraction) (p : ℕ) (m : ℤ) (s : ℕ) → IsCanonical m s → s ≤ p → m *ℤ pos (10 ^ q.k) ≡ q.n *ℤ pos (10 ^ s) → IsRounded q p m s
 exact_rounds q p m s canonical places same =
     let near : distance m s q.n q.k ≡ 0 = ap (λ x. unsigned_abs (x -ℤ q.n *ℤ pos (10 ^ s))) same ∙ same_place (q.n *ℤ pos (10 ^ s)) in
@@ -170,7 +174,7 @@ exact_rounds q p m s canonical places same =
       tie = λ h. let e : 0 ≡ 10 ^ s * 10 ^ q.k = sym none ∙ h in absurd (omega (arith, e, some));
     }
 
--- rounding digits to p of their s places is rounding the value at p places
+-- a / 10^s in units of 10^-p is a over 10^(s - p), or a * 10^p over 10^s: both round to the same whole number
 pub rounds_places : (a s p m : ℕ) → p ≤ s → RoundsHalfUp a (10 ^ (s - p)) m → RoundsHalfUp (a * 10 ^ p) (10 ^ s) m
 rounds_places a s p m places r =
     let back : s - p + p ≡ s = omega arith in

@@ -1,3 +1,4 @@
+-- `rounded` and `rounded_to` give the rounding of a decimal.
 use Rattle.std.proofs.Common.{◌≡◌, ℕ, ◌-◌, ◌*◌, ◌^◌, ◌<◌, ◌≤◌, Bool, min, ℤ, pos, negsuc, unsigned_abs, refl, sym, ap, ◌∙◌, subst, inl, inr, arith}
 use Rattle.std.proofs.lemmas.Bool.{cases_lt}
 use Rattle.gc_values.specs.Decimals.{fraction, rounded}
@@ -14,7 +15,7 @@ use Rattle.gc_values.proofs.Signs.{signed-mul}
 half_up-one : (m : ℕ) → half_up m 1 ≡ m
 half_up-one m = omega arith
 
--- rounded at its own places or more, a number stays
+-- at s places or more, what `rounded_to` gives is m / 10^s rounded, which is the number itself
 stays : (b : Bool) (m s p : ℕ) → s ≤ p → IsRounded (record { n = signed b m; k = s }) p (signed b (rounded_to m s p).digits) (rounded_to m s p).places
 stays b m s p h =
     let r = rounded_to m s p in
@@ -26,7 +27,7 @@ stays b m s p h =
     exact_rounds (record { n = signed b m; k = s }) p (signed b r.digits) r.places (rounded_canonical b m s p) (let f = zeros.fewer in omega (arith, f))
     (signed-mul b r.digits (10 ^ s) ∙ ap (signed b) same ∙ sym (signed-mul b m (10 ^ r.places)))
 
--- rounded at fewer places, a number goes to the nearest
+-- at fewer than s places, what `rounded_to` gives is m / 10^s rounded
 nears : (b : Bool) (m s p : ℕ) → p < s → IsRounded (record { n = signed b m; k = s }) p (signed b (rounded_to m s p).digits) (rounded_to m s p).places
 nears b m s p h =
     let r = rounded_to m s p in
@@ -51,7 +52,7 @@ rounded_rounds d p =
     subst (λ z. IsRounded (record { n = z; k = d.scale }) p (rounded d p).digits (rounded d p).scale) (signed-unsigned_abs d.digits)
     (rounded_to_rounds (is_negative d.digits) (unsigned_abs d.digits) d.scale p)
 
--- only the rounded decimal is a rounding of a decimal
+-- a decimal that is d rounded to p places is `rounded d p`
 pub rounded_only : (d e : Decimal) (p : ℕ) → IsRounded (fraction d) p e.digits e.scale → e ≡ rounded d p
 rounded_only d e p r =
     let same = rounds_to_one (fraction d) p e.digits e.scale (rounded d p).digits (rounded d p).scale r (rounded_rounds d p) in

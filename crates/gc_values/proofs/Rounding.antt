@@ -1,3 +1,5 @@
+-- A quotient a / b has one nearest whole number, of two that are equally near the greater one (`RoundsHalfUp`). A gap is how far
+-- two numbers are apart.
 use Rattle.std.proofs.Common.{◌≡◌, ℕ, ◌+◌, ◌-◌, ◌*◌, ◌<◌, ◌≤◌, sym, ◌∙◌, ap, subst, inl, inr, arith}
 pub use Rattle.gc_values.specs.Nearest.{gap, RoundsHalfUp}
 use Rattle.std.proofs.Math.Nat.{mul-le-mul_right, le_of_mul-le-mul_right, lt_of_mul-lt-mul_left, eq_of_mul-eq-mul_left, mul-lt-mul_of_pos_left}
@@ -31,7 +33,7 @@ rounds_same_value a b c d m b_pos d_pos same r =
           lt_of_mul-lt-mul_left b (omega (arith, shuffled, same, mul-lt-mul_of_pos_left {m = a} {n = m * b} {k = d} (r.tie there) d_pos));
     }
 
--- no greater number is the nearest one too
+-- where m is the whole number nearest to a / b, and of two the greater one, no greater number n is
 no_greater : (a b m n : ℕ) → 0 < b → m < n → RoundsHalfUp a b m → RoundsHalfUp a b n → ⊥
 no_greater a b m n pos lt r s =
     let apart : b + m * b ≤ n * b = omega (arith, mul-le-mul_right {m = m + 1} {n = n} b (omega arith)) in
@@ -64,7 +66,7 @@ rounds_down m d u r small rest =
     let part : d * u + u ≤ 5 * u = omega (arith, mul-le-mul_right {m = d + 1} {n = 5} u (omega arith)) in
     record { near = omega arith; tie = λ h. absurd (omega arith) }
 
--- a first digit from 5 on rounds up
+-- a first digit from 5 on behind the place rounds up, where u is that digit's weight and r what comes after it
 pub rounds_up : (m d u r : ℕ) → 5 ≤ d → d < 10 → r < u → RoundsHalfUp (m * (10 * u) + (d * u + r)) (10 * u) (m + 1)
 rounds_up m d u r large digit rest =
     let part : 5 * u ≤ d * u = mul-le-mul_right {m = 5} {n = d} u large in

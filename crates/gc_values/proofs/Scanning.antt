@@ -1,15 +1,17 @@
+-- A piece of a parameter list is scanned byte by byte up to its comma. `Scanned` says that the first i bytes of a text hold no
+-- comma outside quotes, and whether they end inside quotes.
 use Rattle.std.proofs.Common.{◌≡◌, ℕ, ◌+◌, ◌%◌, ◌<◌, ◌≤◌, Bool, true, false, not, cond, eqb, List, ◌∷◌, ◌++◌, length, get_or, take, drop, Some, refl, sym, ap, ◌∙◌, subst, arith}
 use Rattle.std.proofs.lemmas.List.{take_more, take_all, take-append-drop, drop_more}
 use Rattle.gc_values.specs.Params.{quotes}
 use Rattle.gc_values.specs.Pieces.{KeepsCommas, CutsPiece}
 use Rattle.gc_values.proofs.Quotes.{quotes_more, KeepsCommas-nil, KeepsCommas-push}
 
--- the first i bytes hold no comma outside quotes, and end inside quotes or not
+-- the first i bytes hold no comma outside quotes, and `quoted` says whether they end inside quotes
 pub record Scanned (text : List ℕ) (i : ℕ) (quoted : Bool) : Type 0 where
   pub keeps : KeepsCommas (take i text)
   pub parity : quotes (take i text) % 2 ≡ cond quoted 1 0
 
--- whether the bytes end inside quotes, behind one more byte
+-- whether bytes end inside quotes once one more byte, the first argument, came; the second one says whether they did before it
 abbrev pub turned : ℕ → Bool → Bool
 turned b quoted = cond (eqb b 34) (not quoted) quoted
 
@@ -17,7 +19,8 @@ turned b quoted = cond (eqb b 34) (not quoted) quoted
 pub scanned_none : (text : List ℕ) → Scanned text 0 false
 scanned_none text = record { keeps = KeepsCommas-nil; parity = refl }
 
--- one more quote turns odd and even
+-- where `quoted` says whether the number n of quotes is odd, it is odd after one more byte as `turned` has it; `same` says
+-- whether that byte is a double quote
 parity_step : (n : ℕ) (quoted same : Bool) → n % 2 ≡ cond quoted 1 0 → (n + cond same 1 0) % 2 ≡ cond (cond same (not quoted) quoted) 1 0
 parity_step n true true h = omega arith
 parity_step n true false h = omega arith
@@ -28,7 +31,7 @@ parity_step n false false h = omega arith
 odd_inside : (n : ℕ) (quoted : Bool) → quoted ≡ true → n % 2 ≡ cond quoted 1 0 → n % 2 ≡ 1
 odd_inside n quoted e h = h ∙ ap (λ b. cond b 1 0) e
 
--- one byte more, which is no comma outside quotes, was scanned
+-- `Scanned` is true of one byte more, which is no comma outside quotes
 pub scanned_more : (text : List ℕ) (i : ℕ) (quoted now : Bool) → Scanned text i quoted → i < length text → (get_or text i 0 ≡ 44 → quoted ≡ true)
     → now ≡ turned (get_or text i 0) quoted → Scanned text (i + 1) now
 scanned_more text i quoted now s within comma step =

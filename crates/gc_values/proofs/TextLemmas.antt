@@ -1,3 +1,4 @@
+-- Strings between double quotes, and the bytes that a text keeps of one: 64 in all, the unused ones zero.
 use Rattle.std.proofs.Common.{◌≡◌, ℕ, zero, suc, ◌-◌, ◌<◌, ◌≤◌, List, [], ◌∷◌, ◌++◌, length, get_or, take, drop, replicate, refl, sym, ap, ◌∙◌, subst, arith, length-append}
 use Rattle.std.proofs.lemmas.List.{length-replicate}
 use Rattle.std.proofs.Math.Seq.{take-append_seam, drop-append_seam}
@@ -5,7 +6,7 @@ use Rattle.gc_values.specs.Padding.{IsKept}
 use Rattle.gc_values.specs.declared.text.Text.TheInside.{Inside}
 use Rattle.gc_values.specs.Text.{IsStringByte, AreStringBytes, quoted, IsString}
 
--- bytes that may stand in a string, behind others that may, all may
+-- two lists of bytes that may stand in a string may stand in it one behind the other
 pub AreStringBytes-append : (xs ys : List ℕ) → AreStringBytes xs → AreStringBytes ys → AreStringBytes (xs ++ ys)
 AreStringBytes-append [] ys h k = k
 AreStringBytes-append (x ∷ xs) ys h k = (h.0, AreStringBytes-append xs ys h.1 k)
@@ -16,7 +17,7 @@ string_byte_at [] i within h = absurd (omega arith)
 string_byte_at (b ∷ bs) zero within h = h.0
 string_byte_at (b ∷ bs) (suc i) within h = string_byte_at bs i (omega arith) h.1
 
--- texts that are one with a quote behind them are one
+-- two texts that are equal with a double quote behind each are equal
 end_same : (xs ys : List ℕ) → xs ++ 34 ∷ [] ≡ ys ++ 34 ∷ [] → xs ≡ ys
 end_same [] [] e = refl
 end_same [] (y ∷ []) e = cc
@@ -25,7 +26,7 @@ end_same (x ∷ []) [] e = cc
 end_same (x ∷ z ∷ xs) [] e = cc
 end_same (x ∷ xs) (y ∷ ys) e = let t : xs ++ 34 ∷ [] ≡ ys ++ 34 ∷ [] = cc in let same = end_same xs ys t in cc
 
--- quotes stand round one list of bytes
+-- two lists of bytes that are equal between double quotes are equal
 pub one_quoted : (xs ys : List ℕ) → quoted xs ≡ quoted ys → xs ≡ ys
 one_quoted xs ys e = let t : xs ++ 34 ∷ [] ≡ ys ++ 34 ∷ [] = cc in end_same xs ys t
 

@@ -1,3 +1,4 @@
+-- The written texts of values are parameters, short and without CR and LF. Bare bytes are those of numbers and byte parameters.
 use Rattle.std.proofs.Common.{◌≡◌, ◌≢◌, ℕ, zero, suc, ◌+◌, ◌/◌, ◌%◌, ◌<◌, ◌≤◌, ◌^◌, Bool, true, false, ltb, ℤ, pos, negsuc, unsigned_abs, List, [], ◌∷◌, ◌++◌, length, map, refl, sym, ap, ◌∙◌, inl, inr, arith, lit<, lit≤, length-append}
 use Rattle.std.proofs.lemmas.Bool.{ne_eqb, ltb-true, agree_below_at}
 use Rattle.std.proofs.lemmas.Nat.{div_below}
@@ -204,7 +205,7 @@ ends_no_line (value.Byte n) h = bare_plain (byte_text n) (bare_byte n h)
 ends_no_line (value.Bool b) h = bare_plain _ (bare_boolean b)
 ends_no_line (value.Text bytes) h = ((λ e. omega (arith, e), λ e. omega (arith, e)), string_plain bytes h.plain)
 
--- both ways to say something of all elements are one
+-- what is true of all elements by recursion over the list is true of the element at each place
 all_from : (P : ℕ → Type 0) (xs : List ℕ) → AllByRecursion P xs → All P xs
 all_from P [] h k d within = absurd (omega arith)
 all_from P (x ∷ xs) h zero d within = h.0

@@ -1,3 +1,4 @@
+-- A piece of a parameter list without the spaces at its ends, which is its item.
 use Rattle.std.proofs.Common.{◌≡◌, ℕ, zero, suc, ◌+◌, ◌-◌, ◌<◌, ◌≤◌, ◌%◌, ◌⊎◌, length, get_or, take, drop, cond, eqb, List, [], ◌∷◌, ◌++◌, replicate, refl, sym, ap, ◌∙◌, subst, inl, inr, arith, append_assoc}
 use Rattle.std.proofs.lemmas.List.{append-nil, take-append-drop, take_all, take_more, drop_more, length-drop}
 use Rattle.std.proofs.lemmas.Bool.{cases_eq, eq-eqb, ne_eqb}
@@ -43,7 +44,7 @@ padded_keeps piece item p h = subst KeepsCommas (sym p.piece_is) (front_spaces p
 regroup : (a b c d e : List ℕ) → a ++ ((b ++ 44 ∷ c) ++ d) ≡ (a ++ b) ++ 44 ∷ (c ++ d)
 regroup a b c d e = simp append_assoc
 
--- an item without spaces at its ends, of a piece that is cut off right, is a parameter
+-- a piece with its quotes in pairs and its commas within quotes, without the spaces at its ends, is a parameter
 pub trimmed_is_param : (piece item : List ℕ) → IsTrimmed piece item → KeepsCommas piece → quotes piece % 2 ≡ 0 → IsParam item
 trimmed_is_param piece item t keeps even =
     let p = t.padded in
@@ -79,7 +80,7 @@ front_off-spaces : (n : ℕ) (xs : List ℕ) → front_off (replicate n 32 ++ xs
 front_off-spaces zero xs = refl
 front_off-spaces (suc n) xs = front_off-spaces n xs
 
--- a text without spaces in front stays
+-- `front_off` leaves a text without a space in front as it is
 front_off_same : (xs : List ℕ) → StartsNoSpace xs → front_off xs ≡ xs
 front_off_same [] h = refl
 front_off_same (b ∷ bs) h = ap (λ c. cond c (front_off bs) (b ∷ bs)) (ne_eqb b 32 (λ e. h bs (ap (λ x. x ∷ bs) e)))
@@ -94,7 +95,7 @@ kept_front_same : (b : ℕ) (bs : List ℕ) → EndsNoSpace (b ∷ bs) → kept_
 kept_front_same b [] h = ap (λ c. cond c [] (b ∷ [])) (ne_eqb b 32 (λ e. h [] (ap (λ x. x ∷ []) e)))
 kept_front_same b (x ∷ xs) h = refl
 
--- a text without spaces at its end has none without its first byte
+-- a text without spaces at its end still has none there when its first byte is taken off
 tail_ends : (b : ℕ) (bs : List ℕ) → EndsNoSpace (b ∷ bs) → EndsNoSpace bs
 tail_ends b bs h front e = h (b ∷ front) (ap (λ xs. b ∷ xs) e)
 
@@ -103,12 +104,12 @@ back_off_same : (xs : List ℕ) (n : ℕ) → EndsNoSpace xs → back_off (xs ++
 back_off_same [] n h = back_off-spaces n
 back_off_same (b ∷ bs) n h = ap (kept_front b) (back_off_same bs n (tail_ends b bs h)) ∙ kept_front_same b bs h
 
--- a text without spaces in front is empty, or has none with spaces behind it
+-- a text without a space in front is empty, or has none in front when spaces are put behind it
 empty_or_first : (xs : List ℕ) (n : ℕ) → StartsNoSpace xs → (xs ≡ []) ⊎ (StartsNoSpace (xs ++ replicate n 32))
 empty_or_first [] n h = inl refl
 empty_or_first (b ∷ bs) n h = inr (λ rest e. h bs (let head : b ≡ 32 = cc in ap (λ x. x ∷ bs) head))
 
--- trimming a text without spaces at its ends, and spaces behind it, gives the text
+-- a text without spaces at its ends, with spaces put behind it, is trimmed back to that text
 trims_once : (n : ℕ) (xs : List ℕ) → StartsNoSpace xs → EndsNoSpace xs → back_off (front_off (xs ++ replicate n 32)) ≡ xs
 trims_once n xs f l = elim (empty_or_first xs n f) [
   | inl h ↦ ap (λ ys. back_off (front_off (ys ++ replicate n 32))) h ∙ ap back_off
@@ -116,7 +117,7 @@ trims_once n xs f l = elim (empty_or_first xs n f) [
   | inr h ↦ ap back_off (front_off_same (xs ++ replicate n 32) h) ∙ back_off_same xs n l
 ]
 
--- a trimmed item is what both functions leave of the piece
+-- a piece without the spaces at its ends is what `front_off` and then `back_off` leave of it
 pub trimmed_is : (piece item : List ℕ) → IsTrimmed piece item → item ≡ back_off (front_off piece)
 trimmed_is piece item t =
     let p = t.padded in
@@ -192,7 +193,7 @@ both_ends text middle item f b = record {
   last = b.last;
 }
 
--- both functions trim every text
+-- `front_off` and then `back_off` trim every text at both ends
 pub trimmed_exists : (text : List ℕ) → IsTrimmed text (back_off (front_off text))
 trimmed_exists text = both_ends text (front_off text) _ (trims_front text) (trims_back (front_off text))
 
@@ -200,7 +201,7 @@ trimmed_exists text = both_ends text (front_off text) _ (trims_front text) (trim
 pub rest_of : (text : List ℕ) (i : ℕ) → take (length text - i) (drop i text) ≡ drop i text
 rest_of text i = take_all (length text - i) (drop i text) (omega (arith, length-drop i text))
 
--- a loop from the front stops at a byte that is no space
+-- where a loop from the front passed i spaces and stops at another byte, the text from there on is trimmed at its front
 pub front_at : (text : List ℕ) (i : ℕ) → i < length text → take i text ≡ replicate i 32 → (get_or text i 0 ≡ 32 → ⊥) → TrimsFront text (drop i text)
 front_at text i within spaces other = record {
   count = i;
@@ -216,7 +217,7 @@ front_all text i all spaces = record {
   first = λ rest e. cc;
 }
 
--- a loop from the end passes one space more
+-- where the text from `end` on is spaces, and a space stands before that, the text from `end - 1` on is spaces, too
 pub back_more : (text : List ℕ) (end : ℕ) → 0 < end → end ≤ length text → drop end text ≡ replicate (length text - end) 32 → get_or text (end - 1) 0 ≡ 32
     → drop (end - 1) text ≡ replicate (length text - (end - 1)) 32
 back_more text end some within spaces here =
@@ -224,14 +225,15 @@ back_more text end some within spaces here =
     let size : suc (length text - end) ≡ length text - (end - 1) = omega arith in
     drop_more text (end - 1) 0 (omega arith) ∙ ap (λ b. b ∷ drop (end - 1 + 1) text) here ∙ ap (λ i. 32 ∷ drop i text) back ∙ ap (λ xs. 32 ∷ xs) spaces ∙ ap (λ n. replicate n 32) size
 
--- a list ends in one element
+-- two elements that end the same list are equal
 pub last_of : (xs ys : List ℕ) (a b : ℕ) → xs ++ a ∷ [] ≡ ys ++ b ∷ [] → a ≡ b
 last_of [] [] a b e = cc
 last_of [] (y ∷ ys) a b e = let t : [] ≡ ys ++ b ∷ [] = cc in absurd (no_end ys b t)
 last_of (x ∷ xs) [] a b e = let t : [] ≡ xs ++ a ∷ [] = cc in absurd (no_end xs a t)
 last_of (x ∷ xs) (y ∷ ys) a b e = let t : xs ++ a ∷ [] ≡ ys ++ b ∷ [] = cc in last_of xs ys a b t
 
--- trimming the end stops at the front of the text, or behind a byte that is no space
+-- where a loop from the end passed spaces, and stops at the front of the text or behind another byte, the text up to there is
+-- trimmed at its end
 pub back_at : (text : List ℕ) (end : ℕ) → end ≤ length text → drop end text ≡ replicate (length text - end) 32
     → (end ≡ 0) ⊎ ((0 < end) × (get_or text (end - 1) 0 ≡ 32 → ⊥)) → TrimsBack text (take end text)
 back_at text end within spaces stop = record {

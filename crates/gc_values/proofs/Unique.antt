@@ -1,3 +1,4 @@
+-- A number's text is cut into its sign, digits, fraction and exponent in one way, and so names one fraction.
 use Rattle.std.proofs.Common.{◌≡◌, ◌≢◌, ℕ, ◌+◌, ◌<◌, Bool, true, false, cond, List, [], ◌∷◌, ◌++◌, length, Option, None, Some, refl, sym, ap, ◌∙◌, subst, arith}
 use Rattle.std.proofs.Common.{ℤ, ◌*◌, ◌^◌}
 use Rattle.std.proofs.lemmas.List.{append-nil}
@@ -17,7 +18,7 @@ run_once (x ∷ xs) (y ∷ ys) us vs dx dy nu nv e =
     let r : (xs ≡ ys) × (us ≡ vs) = run_once xs ys us vs dx.1 dy.1 nu nv rest in
     (let h = r.0 in cc, r.1)
 
--- a text has one sign in front, or none
+-- two ways to cut a text into a sign, or none, and a rest agree on whether there is a minus, and on the rest
 pub sign_once : (s t : Sign) (us vs : List ℕ) → (s ≡ Absent → StartsNoSign us) → StartsNoSign vs → sign_text s ++ us ≡ sign_text t ++ vs → (is_minus s ≡ is_minus t) × (us ≡ vs)
 sign_once Absent Absent us vs nu nv e = (refl, e)
 sign_once Absent Plus us vs nu nv e = absurd ((subst StartsNoSign e (nu refl)).0 refl)
@@ -60,7 +61,7 @@ number_no_sign [] None rest digits some = absurd (omega arith)
 number_no_sign [] (Some ds) rest digits some = (λ h. omega (arith, h), λ h. omega (arith, h))
 number_no_sign (b ∷ bs) f rest digits some = (λ h. let d = digits.0 in omega (arith, h, d.0), λ h. let d = digits.0 in omega (arith, h, d.0))
 
--- a text has one fraction in front, or none
+-- two ways to cut a text into a fraction, or none, and a rest agree on the digits and on the rest
 pub fraction_once : (f g : Option (List ℕ)) (us vs : List ℕ) → AreDigits (fraction_digits f) → AreDigits (fraction_digits g) → (f ≡ None → StartsNoPoint us)
     → StartsNoPoint vs → StartsNoDigit us → StartsNoDigit vs →
     fraction_text f ++ us ≡ fraction_text g ++ vs → (fraction_digits f ≡ fraction_digits g) × (us ≡ vs)
@@ -92,7 +93,7 @@ pub digits_no_sign : (ds us : List ℕ) → AreDigits ds → 0 < length ds → S
 digits_no_sign [] us h some = absurd (omega arith)
 digits_no_sign (b ∷ bs) us h some = (λ e. let d = h.0 in omega (arith, e, d.0), λ e. let d = h.0 in omega (arith, e, d.0))
 
--- a text is one exponent
+-- a text is at most one exponent: two with the same text multiply and divide by ten equally often
 pub exponent_once : (e f : Option Exponent) → IsExponent e → IsExponent f → exponent_text e ≡ exponent_text f → (ups e ≡ ups f) × (downs e ≡ downs f)
 exponent_once None None he hf same = (refl, refl)
 exponent_once None (Some f) he hf same = absurd (cc)

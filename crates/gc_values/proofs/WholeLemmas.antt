@@ -1,3 +1,5 @@
+-- Whole numbers that are read digit by digit. The number that is counted is cut off at a cap: it is `min cap` of the number
+-- itself.
 use Rattle.std.proofs.Common.{◌≡◌, ℕ, ◌+◌, ◌-◌, ◌*◌, ◌<◌, ◌≤◌, min, Bool, true, false, cond, ℤ, List, [], ◌∷◌, length, get_or, take, refl, sym, ap, ◌∙◌, subst, inl, inr, arith}
 use Rattle.std.proofs.lemmas.Int.{ints}
 use Rattle.gc_values.specs.Cut.{StartsNoSign, CutsSign}
@@ -18,7 +20,7 @@ pub record CountedSoFar (text : List ℕ) (i cap value : ℕ) : Type 0 where
 capped_step : (n d cap value more whole : ℕ) → value ≡ min cap n → whole ≡ n * 10 + d → more ≡ min (value * 10 + d) cap → more ≡ min cap whole
 capped_step n d cap value more whole e f g = omega arith
 
--- one digit more was counted
+-- `CountedSoFar` is true of one digit more, once it was appended and the value cut at the cap
 pub counted_more : (text : List ℕ) (i cap value more : ℕ) → CountedSoFar text i cap value → i < length text → IsDigit (get_or text i 0)
     → more ≡ min (value * 10 + (get_or text i 0 - 48)) cap → CountedSoFar text (i + 1) cap more
 counted_more text i cap value more c within here e = record {
@@ -26,7 +28,7 @@ counted_more text i cap value more c within here e = record {
   value_is = capped_step (number (take i text)) (get_or text i 0 - 48) cap value more (number (take (i + 1) text)) c.value_is (number-take_more text i within) e;
 }
 
--- the value is the number that a text of digits writes, or the cap where that is above it
+-- the value is the number that a text of digits writes, or the cap, where the number is above the cap
 pub record Counted (text : List ℕ) (cap value : ℕ) : Type 0 where
   pub names : NamesNumber text (number text)
   pub value_is : value ≡ min cap (number text)
@@ -44,7 +46,7 @@ digits_no_sign : (ds : List ℕ) → AreDigits ds → 0 < length ds → StartsNo
 digits_no_sign [] h some = absurd (omega arith)
 digits_no_sign (b ∷ bs) h some = (λ e. let d = h.0 in omega (arith, e, d.0), λ e. let d = h.0 in omega (arith, e, d.0))
 
--- a sign cut off, and the number behind it, are the whole number that the text writes
+-- where a text is cut into a sign and a rest, and the rest writes the number n, the text writes n with that sign
 pub cut_names : (text rest : List ℕ) (negative : Bool) (n : ℕ) → CutsSign text negative rest → NamesNumber rest n → NamesWhole text (signed negative n)
 cut_names text rest negative n cut names = record {
   sign = cut.sign;
@@ -55,7 +57,7 @@ cut_names text rest negative n cut names = record {
   value = ap (λ b. signed b n) cut.negative_is;
 }
 
--- behind the sign that was cut off stands the number of the whole number that the text writes
+-- where a text writes the whole number z and is cut into a sign and a rest, the rest writes the magnitude of z
 pub names_cut : (text rest : List ℕ) (negative : Bool) (z : ℤ) → CutsSign text negative rest → NamesWhole text z → (n : ℕ) × NamesNumber rest n × (z ≡ signed negative n)
 names_cut text rest negative z cut w =
     let same = sign_once cut.sign w.sign rest w.digits cut.first (digits_no_sign w.digits w.number_is.digits w.number_is.some) (sym cut.text_is ∙ w.text_is) in
@@ -80,7 +82,7 @@ size_from true n below above h = let l = h.0 in omega (arith, ints, l)
 beyond_size : (negative : Bool) (n most below above : ℕ) → most ≡ cond negative below above → most < n → IsBetween below above (signed negative n) → ⊥
 beyond_size negative n most below above e far between = let few = size_from negative n below above between in omega (arith, e, few)
 
--- the fault of the number behind a sign is that of the whole
+-- the fault of the digits behind a sign, as a number of at most what the sign allows, is the fault of the whole number
 pub whole_fault : (text rest : List ℕ) (negative : Bool) (most below above : ℕ) (e : ValueFault) → CutsSign text negative rest
     → most ≡ cond negative below above → IsNumberFault most rest e → IsWholeFault below above text e
 whole_fault text rest negative most below above e cut size (inl none) = inl (none.0, λ z w. let r = names_cut text rest negative z cut w in none.1 r.0 r.1)

@@ -1,3 +1,4 @@
+-- The written texts of whole numbers and Booleans: how long they are, and that they read back.
 use Rattle.std.proofs.Common.{ℕ, suc, ◌+◌, ◌<◌, ◌≤◌, ◌^◌, Bool, true, false, eqb, ℤ, pos, negsuc, unsigned_abs, [], ◌∷◌, length, refl, sym, arith, lit<, length-append}
 use Rattle.std.proofs.lemmas.Bool.{cond_both}
 use Rattle.std.proofs.lemmas.Int.{ints}
@@ -21,7 +22,7 @@ length-minus_text (negsuc n) = omega arith
 pub length-signed_text : (z : ℤ) (k : ℕ) → 0 < k → unsigned_abs z < 10 ^ k → length (signed_text z) ≤ k + 1
 length-signed_text z k some small = omega (arith, length-append (minus_text z) (whole_text (unsigned_abs z)), length-minus_text z, length-whole_text (unsigned_abs z) k some small)
 
--- a number in range has a magnitude below what both bounds are below
+-- a number from -below to above has a magnitude below n where both bounds are below n
 abs_below : (z : ℤ) (below above n : ℕ) → IsBetween below above z → below < n → above < n → unsigned_abs z < n
 abs_below (pos m) below above n h b a = let u = h.1 in omega (arith, ints, u)
 abs_below (negsuc m) below above n h b a = let l = h.0 in omega (arith, ints, l)

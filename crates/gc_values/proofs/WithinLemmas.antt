@@ -1,3 +1,6 @@
+-- Whether two values are at most an area apart, in two forms that say the same. In units of 1 / p, where p is 10^24, as the code
+-- compares them: a distance of x units and an area of n * c' units. And multiplied out, as the definition has it: a distance of y
+-- over ab and an area of n over c, where ab and c are powers of ten.
 use Rattle.std.proofs.Common.{◌≡◌, ℕ, ◌+◌, ◌-◌, ◌*◌, ◌^◌, ◌<◌, ◌≤◌, ◌↔◌, IsTrue, T, Bool, true, false, ℤ, pos, negsuc, neg_ℤ, ◌*ℤ◌, ◌-ℤ◌, ◌≤ℤ◌, suc, int_le, unsigned_abs, refl, sym, ap, ◌∙◌, subst, arith}
 use Rattle.std.proofs.Math.IntN.{pos-*ℤ-pos, negsuc-*ℤ-pos}
 use Rattle.std.proofs.Math.Nat.{mul-le-mul_right, le_of_mul-le-mul_right}
@@ -12,14 +15,14 @@ use Rattle.gc_values.proofs.Rounded.{sign_of, abs_pos_neg, abs_neg_pos}
 use Rattle.gc_values.proofs.Rounding.{gap, gap-mul}
 use Rattle.gc_values.proofs.Signs.{signed-mul, gap_signed}
 
--- how far two numbers with signs are apart
+-- how far two numbers are apart, each given by its sign, where `true` is a minus, and its magnitude
 abbrev spread : Bool → ℕ → Bool → ℕ → ℕ
 spread false m false n = gap m n
 spread false m true n = m + n
 spread true m false n = m + n
 spread true m true n = gap m n
 
--- multiples are as many times as far apart
+-- two numbers that are both multiplied by k are k times as far apart
 spread-mul : (b : Bool) (m : ℕ) (c : Bool) (n k : ℕ) → spread b (m * k) c (n * k) ≡ spread b m c n * k
 spread-mul false m false n k = gap-mul m n k
 spread-mul false m true n k = omega arith
@@ -33,7 +36,7 @@ abs_spread false m true n = abs_pos_neg m n
 abs_spread true m false n = abs_neg_pos m n
 abs_spread true m true n = gap_signed true m n
 
--- how far two multiples are apart
+-- how far z * k and w * l are apart
 abbrev apart : ℤ → ℕ → ℤ → ℕ → ℕ
 apart z k w l = unsigned_abs (z *ℤ pos k -ℤ w *ℤ pos l)
 
@@ -44,7 +47,8 @@ apart_signed b m k c n l =
     ∙ ap (λ x. unsigned_abs (signed b (m * k) -ℤ x)) (signed-mul c n l)
     ∙ abs_spread b (m * k) c (n * l)
 
--- numbers with signs are as many times as far apart when both are multiplied
+-- where k and l are both multiplied by p, the two products are p times as far apart; the numbers are given as signs and
+-- magnitudes
 apart-mul_signed : (b : Bool) (m k : ℕ) (c : Bool) (n l p : ℕ) → apart (signed b m) k (signed c n) l * p ≡ apart (signed b m) (k * p) (signed c n) (l * p)
 apart-mul_signed b m k c n l p =
     let left : m * k * p ≡ m * (k * p) = omega arith in
@@ -52,7 +56,7 @@ apart-mul_signed b m k c n l p =
     ap (λ x. x * p) (apart_signed b m k c n l) ∙ sym (spread-mul b (m * k) c (n * l) p)
     ∙ ap (λ x. spread b x c (n * l * p)) left ∙ ap (spread b (m * (k * p)) c) right ∙ sym (apart_signed b m (k * p) c n (l * p))
 
--- whole numbers are as many times as far apart when both are multiplied
+-- where k and l are both multiplied by p, z * k and w * l are p times as far apart
 apart-mul : (z : ℤ) (k : ℕ) (w : ℤ) (l p : ℕ) → apart z k w l * p ≡ apart z (k * p) w (l * p)
 apart-mul z k w l p =
     let x = sign_of z in
@@ -60,20 +64,20 @@ apart-mul z k w l p =
     subst (λ z. apart z k w l * p ≡ apart z (k * p) w (l * p)) (sym x.2)
     (subst (λ w. apart (signed x.0 x.1) k w l * p ≡ apart (signed x.0 x.1) (k * p) w (l * p)) (sym y.2) (apart-mul_signed x.0 x.1 k y.0 y.1 l p))
 
--- the distance in units of the last place, where p is 10^24, is the one multiplied out
+-- the distance of z / a and w / b in units of 1 / p, which are z * a' and w * b', is the distance that is multiplied out
 in_units : (z : ℤ) (a a' : ℕ) (w : ℤ) (b b' p : ℕ) → a * a' ≡ p → b * b' ≡ p → apart z a' w b' * (a * b) ≡ apart z b w a * p
 in_units z a a' w b b' p e f =
     let left : a' * (a * b) ≡ b * p = omega (arith, ap (λ x. x * b) e) in
     let right : b' * (a * b) ≡ a * p = omega (arith, ap (λ x. x * a) f) in
     apart-mul z a' w b' (a * b) ∙ ap (λ x. apart z x w (b' * (a * b))) left ∙ ap (λ x. apart z (b * p) w x) right ∙ sym (apart-mul z b w a p)
 
--- where a distance of x units is at most the area's units, it is so multiplied out: y is that distance, ab and c are the powers below
+-- where the distance is at most the area, both in units, it is at most the area multiplied out, too
 within_to : (x y ab n c c' p : ℕ) → 0 < p → x * ab ≡ y * p → c * c' ≡ p → x ≤ n * c' → y * c ≤ n * ab
 within_to x y ab n c c' p some e f h =
     le_of_mul-le-mul_right {m = y * c} {n = n * ab} {k = p}
     (omega (arith, ap (λ u. u * c) e, ap (λ u. u * (n * ab)) f, mul-le-mul_right {m = x} {n = n * c'} (ab * c) h)) some
 
--- where the distance y multiplied out is at most the area, x units are at most the area's units
+-- where the distance is at most the area, both multiplied out, it is at most the area in units, too
 within_from : (x y ab n c c' p : ℕ) → 0 < ab * c → x * ab ≡ y * p → c * c' ≡ p → y * c ≤ n * ab → x ≤ n * c'
 within_from x y ab n c c' p some e f h =
     le_of_mul-le-mul_right {m = x} {n = n * c'} {k = ab * c}
@@ -85,15 +89,15 @@ below_zero x n k some h =
     let there : pos x ≤ℤ neg_ℤ (pos (suc n * k)) = subst (λ z. pos x ≤ℤ z) (negsuc-*ℤ-pos n k) h in
     omega (arith, ints, there)
 
--- numbers in order are so as whole numbers
+-- natural numbers in order are in order as integers
 pos_le : (x y : ℕ) → x ≤ y → pos x ≤ℤ pos y
 pos_le x y h = omega (arith, ints)
 
--- whole numbers from 0 on in order are so as numbers
+-- integers from 0 on in order are in order as natural numbers
 le_pos : (x y : ℕ) → pos x ≤ℤ pos y → x ≤ y
 le_pos x y h = omega (arith, ints, h)
 
--- a distance is at most the area in units exactly where it is so multiplied out
+-- a distance is at most an area in units exactly where it is multiplied out, also for an area below zero
 both : (x y ab : ℕ) (z : ℤ) (c c' p : ℕ) → 0 < p → 0 < c' → 0 < ab * c → 0 < ab → x * ab ≡ y * p → c * c' ≡ p → (pos x ≤ℤ (z *ℤ pos c')) ↔ (pos (y * c) ≤ℤ (z *ℤ pos ab))
 both x y ab (pos n) c c' p p_pos c'_pos abc_pos ab_pos e f = (
   λ h. subst (λ w. pos (y * c) ≤ℤ w) (sym (pos-*ℤ-pos n ab)) (pos_le (y * c) (n * ab) (within_to x y ab n c c' p p_pos e f (le_pos x (n * c') (subst (λ w. pos x ≤ℤ w) (pos-*ℤ-pos n c') h)))),
@@ -101,7 +105,7 @@ both x y ab (pos n) c c' p p_pos c'_pos abc_pos ab_pos e f = (
 )
 both x y ab (negsuc n) c c' p p_pos c'_pos abc_pos ab_pos e f = (λ h. absurd (below_zero x n c' c'_pos h), λ h. absurd (below_zero (y * c) n ab ab_pos h))
 
--- 10^s and what it lacks make 10^24
+-- 10^s times the power of ten that it lacks is 10^24
 pub whole_place : (s : ℕ) → s ≤ 24 → 10 ^ s * 10 ^ (24 - s) ≡ 10 ^ 24
 whole_place s h = let back : s + (24 - s) ≡ 24 = omega arith in sym (pow-add 10 s (24 - s)) ∙ ap (λ e. 10 ^ e) back
 
@@ -113,7 +117,7 @@ product_pos s t = omega (arith, pow-add 10 s t, ten_pow_pos (s + t))
 triple_pos : (s t u : ℕ) → 0 < 10 ^ s * 10 ^ t * 10 ^ u
 triple_pos s t u = omega (arith, ap (λ x. x * 10 ^ u) (pow-add 10 s t), pow-add 10 (s + t) u, ten_pow_pos (s + t + u))
 
--- in units of the last place the comparison is that of the fractions
+-- two values are at most the area apart in units of 10^-24 exactly where their fractions are
 pub within_units : (a b area : Decimal) → (pos (unsigned_abs (units a -ℤ units b)) ≤ℤ units area) ↔ IsWithin (fraction a) (fraction b) (fraction area)
 within_units a b area =
     both (apart a.digits (10 ^ (24 - a.scale)) b.digits (10 ^ (24 - b.scale))) (distance a.digits a.scale b.digits b.scale)

@@ -1,3 +1,4 @@
+-- How the digits of a number are written, from the first on or from the last on.
 use Rattle.std.proofs.Common.{◌≡◌, ℕ, zero, suc, ◌+◌, ◌-◌, ◌*◌, ◌/◌, ◌%◌, ◌^◌, ◌<◌, ◌≤◌, List, [], ◌∷◌, ◌++◌, length, map, refl, sym, ap, ◌∙◌, arith, lit<, lit≤, cond, eqb, length-append, append_assoc}
 use Rattle.std.proofs.Math.Nat.{pow-suc, div-div-eq-div-mul, div-one, mul_comm, mod-eq-sub-div-mul}
 use Rattle.std.proofs.Math.Arith.{mod-mul}
@@ -14,7 +15,7 @@ next_place n p some =
     let back : suc (p - 1) ≡ p = omega arith in
     div-div-eq-div-mul n (10 ^ (p - 1)) 10 ∙ ap (λ x. n / x) (sym (pow-suc 10 (p - 1)) ∙ ap (λ e. 10 ^ e) back)
 
--- a number's digits are those of the number without its last digit, and that
+-- a number's digits are those of the number without its last digit, and then its last digit
 pub digits_text_step : (x : ℕ) → 0 < x → digits_text x ≡ digits_text (x / 10) ++ (48 + x % 10) ∷ []
 digits_text_step x some = ap (map (λ d. 48 + d)) (digits_of_step 10 x (lit≤ tt) some) ∙ map-append (λ d. 48 + d) (digits_of 10 (x / 10)) (x % 10 ∷ [])
 
@@ -22,19 +23,21 @@ digits_text_step x some = ap (map (λ d. 48 + d)) (digits_of_step 10 x (lit≤ t
 pub length-digits_text : (x k : ℕ) → x < 10 ^ k → length (digits_text x) ≤ k
 length-digits_text x k h = omega (arith, length-map (digits_of 10 x) (λ d. 48 + d), length-digits_of-le 10 k x (lit≤ tt) h)
 
--- the last k digits are k
+-- `last_digits k n` has k digits
 pub length-last_digits : (k n : ℕ) → length (last_digits k n) ≡ k
 length-last_digits zero n = refl
 length-last_digits (suc k) n = omega (arith, length-append (last_digits k (n / 10)) ((48 + n % 10) ∷ []), length-last_digits k (n / 10))
 
--- one more digit of the number is written behind those before it
+-- A step of writing the number n from its first digit on: where all digits but the last p stand behind `old`, the next one joins
+-- them.
 pub digits_more : (old out new : List ℕ) (n p : ℕ) → 0 < p → 0 < n / 10 ^ (p - 1) → out ≡ old ++ digits_text (n / 10 ^ p)
     → new ≡ out ++ (48 + n / 10 ^ (p - 1) % 10) ∷ [] → new ≡ old ++ digits_text (n / 10 ^ (p - 1))
 digits_more old out new n p some rest e f =
     f ∙ ap (λ xs. xs ++ (48 + n / 10 ^ (p - 1) % 10) ∷ []) e ∙ append_assoc old (digits_text (n / 10 ^ p)) ((48 + n / 10 ^ (p - 1) % 10) ∷ []) ∙ ap (λ xs. old ++ xs)
     (ap (λ x. digits_text x ++ (48 + n / 10 ^ (p - 1) % 10) ∷ []) (sym (next_place n p some)) ∙ sym (digits_text_step (n / 10 ^ (p - 1)) rest))
 
--- one more of the last k digits is written behind those before it
+-- A step of writing the last k digits of n from the first of them on: where all but the last p stand behind `old`, the next one
+-- joins them.
 pub last_more : (old out new : List ℕ) (n k p : ℕ) → 0 < p → p ≤ k → out ≡ old ++ last_digits (k - p) (n / 10 ^ p)
     → new ≡ out ++ (48 + n / 10 ^ (p - 1) % 10) ∷ [] → new ≡ old ++ last_digits (k - (p - 1)) (n / 10 ^ (p - 1))
 last_more old out new n k p some within e f =
@@ -50,7 +53,7 @@ mod_over n k = ap (λ p. n % p) (pow-suc 10 k) ∙ mod-mul n {m = 10 ^ k} {c = 1
 pub last_over : (n k : ℕ) → n % 10 ^ suc k % 10 ≡ n % 10
 last_over n k = omega (arith, mod_over n k)
 
--- the others of the last k + 1 digits are the last k of the number without its last
+-- the last k + 1 digits without the last of them are the last k digits of the number without its last
 others_over : (n k : ℕ) → n % 10 ^ suc k / 10 ≡ n / 10 % 10 ^ k
 others_over n k = omega (arith, mod_over n k)
 
@@ -84,11 +87,11 @@ two_runs old back out n count k within e f =
     ∙ ap (λ m. (last_digits (count - k) (n / 10 ^ k) ++ last_digits k m) ++ old) rest
     ∙ ap (λ ds. ds ++ old) (sym (last_digits-split (count - k) k n)) ∙ ap (λ c. last_digits c n ++ old) back_is
 
--- the digits in front of the last ones don't count
+-- the last k digits of a number are those of its remainder by 10^k
 pub last_digits-below : (k n : ℕ) → last_digits k (n % 10 ^ k) ≡ last_digits k n
 last_digits-below k n = let none : 0 + k ≡ k = omega arith in sym (last_digits-split 0 k n) ∙ ap (λ c. last_digits c n) none
 
--- the last k + 1 digits are the one at that place, and the last k
+-- the last k + 1 digits are the digit before the last k, and the last k
 pub last_digits-front : (k n : ℕ) → last_digits (k + 1) n ≡ (48 + n / 10 ^ k % 10) ∷ last_digits k n
 last_digits-front k n =
     let more : k + 1 ≡ 1 + k = omega arith in
@@ -100,12 +103,12 @@ div_more n k =
     let power : 10 ^ (k + 1) ≡ 10 ^ k * 10 = ap (λ e. 10 ^ e) (let e : k + 1 ≡ suc k = omega arith in e) ∙ pow-suc 10 k in
     div-div-eq-div-mul n (10 ^ k) 10 ∙ ap (λ x. n / x) (sym power)
 
--- one more digit is put in front of the last k
+-- a step of putting the last digits of n in front of `old`: where the last k stand there, the one before them is put in front
 pub put_more : (old self new : List ℕ) (n k rest : ℕ) → self ≡ last_digits k n ++ old → rest ≡ n / 10 ^ k → new ≡ (48 + rest % 10) ∷ self → new ≡ last_digits (k + 1) n ++ old
 put_more old self new n k rest e r f =
     f ∙ ap (λ x. (48 + x % 10) ∷ self) r ∙ ap (λ xs. (48 + n / 10 ^ k % 10) ∷ xs) e ∙ ap (λ ds. ds ++ old) (sym (last_digits-front k n))
 
--- one more digit of a whole number is put in front
+-- a step of putting a number's digits in front, from the last on: the digits that are left, and then what was put, are `all`
 pub whole_more : (all self new : List ℕ) (rest : ℕ) → 0 < rest → digits_text rest ++ self ≡ all → new ≡ (48 + rest % 10) ∷ self → digits_text (rest / 10) ++ new ≡ all
 whole_more all self new rest some e f =
     ap (λ xs. digits_text (rest / 10) ++ xs) f ∙ sym (append_assoc (digits_text (rest / 10)) ((48 + rest % 10) ∷ []) self) ∙ ap (λ ds. ds ++ self) (sym (digits_text_step rest some)) ∙ e
@@ -124,7 +127,7 @@ whole_room old self n rest e small some room =
       length-append (digits_text (rest / 10)) ((48 + rest % 10) ∷ []),
     )
 
--- the last s digits are what stands behind the point
+-- for s above 0, the last s digits of m are what is written behind the point for m at s places
 pub behind_short : (s m n : ℕ) (xs : List ℕ) → 0 < s → n ≡ m → xs ≡ last_digits s n ++ [] → xs ≡ behind_text s (m % 10 ^ s)
 behind_short s m n xs some e f =
     f ∙ append-nil (last_digits s n) ∙ ap (last_digits s) e ∙ sym (last_digits-below s m)
@@ -134,6 +137,6 @@ behind_short s m n xs some e f =
 pub length-behind_text : (s n : ℕ) → s ≤ 24 → length (behind_text s n) ≤ 24
 length-behind_text s n few = cond_both (eqb s 0) (48 ∷ []) (last_digits s n) (λ ds. length ds ≤ 24) (λ _. lit≤ tt) (λ _. omega (arith, length-last_digits s n))
 
--- k digits put in front of nothing are k
+-- k digits put in front of an empty text make a text of k bytes
 pub length-put : (k n : ℕ) (old new : List ℕ) → new ≡ last_digits k n ++ old → old ≡ [] → length new ≡ k
 length-put k n old new e none = omega (arith, ap length e, length-append (last_digits k n) old, length-last_digits k n, ap length none)

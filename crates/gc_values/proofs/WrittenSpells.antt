@@ -1,3 +1,4 @@
+-- A decimal's written text spells the decimal.
 use Rattle.std.proofs.Common.{◌≡◌, ℕ, zero, suc, ◌+◌, ◌-◌, ◌*◌, ◌/◌, ◌%◌, ◌^◌, ◌<◌, ◌≤◌, cond, List, [], ◌∷◌, ◌++◌, length, map, None, Some, ℤ, pos, negsuc, ◌*ℤ◌, refl, sym, ap, ◌∙◌, subst, inl, inr, arith, lit<, lit≤, length-append}
 use Rattle.std.proofs.Math.Nat.{pow-suc, mod-lt, div-add-mod', div-one, pos_of_ne-zero}
 use Rattle.std.proofs.lemmas.List.{length-map, append-nil}
@@ -32,11 +33,12 @@ number-last_digits (suc k) n h =
     let front = number-last_digits k (n / 10) small in
     omega (arith, number-append (last_digits k (n / 10)) ((48 + n % 10) ∷ []), front)
 
--- where a number had the digit d appended, the digit counts with the power of ten of its place, and the number with the next one
+-- the arithmetic of a step of `digits_after`, in which the digit d is appended to the number n: d counts p-fold, and n ten times
+-- that
 digits_step : (n d p q v w x : ℕ) → v ≡ (n * 10 + d) * p + w → q ≡ p * 10 → x ≡ p → v ≡ n * q + (d * x + w)
 digits_step n d p q v w x e f g = omega (arith, e, ap (λ y. n * y) f, ap (λ y. d * y) g)
 
--- digits read behind a number are that number moved by their places, and theirs
+-- digits that are read behind a number n give n times ten to the count of the digits, plus the number that the digits write
 digits_after : (n : ℕ) (ds : List ℕ) → number_from_digits_after 10 n ds ≡ n * 10 ^ length ds + number (map (λ d. 48 + d) ds)
 digits_after n [] = omega arith
 digits_after n (d ∷ ds) =
@@ -59,7 +61,7 @@ map_digits (d ∷ ds) h = (a_digit d h.0, map_digits ds h.1)
 AreDigits-digits_text : (n : ℕ) → AreDigits (digits_text n)
 AreDigits-digits_text n = map_digits (digits_of 10 n) (all_below_base_digits_of 10 n (lit≤ tt))
 
--- a whole number is one digit or more, and they write it
+-- the text is one or more digits, which write n
 pub record Writes (n : ℕ) (text : List ℕ) : Type 0 where
   pub digits : AreDigits text
   pub some : 0 < length text
@@ -80,7 +82,8 @@ writes_whole n = elim (eqb_tells n 0) [
 writes_behind : (s n : ℕ) → n < 10 ^ s → 0 < s → Writes n (last_digits s n)
 writes_behind s n h some = record { digits = AreDigits-last_digits s n; some = omega (arith, length-last_digits s n); number_is = number-last_digits s n h }
 
--- what stands behind the point: digits, which with the whole number in front write the value
+-- the text is digits that may stand behind the point of a / 10^s: with the whole number in front of the point they write its
+-- value
 pub record Behind (a s : ℕ) (text : List ℕ) : Type 0 where
   pub digits : AreDigits text
   pub same : a * 10 ^ length text ≡ (a / 10 ^ s * 10 ^ length text + number text) * 10 ^ s
@@ -101,7 +104,7 @@ behind_some a s some =
           ∙ ap (λ k. (a / 10 ^ s * 10 ^ k + number (last_digits s (a % 10 ^ s))) * 10 ^ s) (sym size);
     }
 
--- `Behind` holds of what is written behind the point
+-- what is written behind the point of a / 10^s may stand there, as `Behind` has it
 pub behind : (a s : ℕ) → Behind a s (behind_text s (a % 10 ^ s))
 behind a s = elim (eqb_tells s 0) [
   | inl none ↦ subst (λ xs. Behind a s xs) (ap (λ b. cond b (48 ∷ []) (last_digits s (a % 10 ^ s))) (sym none.0)) (subst (λ t. Behind a t (48 ∷ [])) (sym none.1) (behind_none a))

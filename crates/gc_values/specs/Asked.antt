@@ -22,12 +22,14 @@ pub data IsFaultFrom (items : List (List ℕ)) (place : ℕ) (fault : Option Val
   wrong_count : e ≡ Count → length ks + place ≢ length items → IsFaultFrom items place fault ks e
   first_fault : length ks + place ≡ length items → IsFirst fault ks (drop place items) e → IsFaultFrom items place fault ks e
 
--- `AreLeft`, where the list wasn't refused as a whole: a refused one reads as no values
+-- where the list was split into items, those from this place on read as the values, as `AreLeft` has it; a list that was refused
+-- as a whole isn't read as any values
 abbrev pub ReadsFrom : Result (List (List ℕ)) ValueFault → ℕ → Option ValueFault → List Value → Type 0
 ReadsFrom (Ok items) place fault vs = AreLeft items place fault vs
 ReadsFrom (Err refusal) place fault vs = ⊥
 
--- `IsFaultFrom`, where the list wasn't refused as a whole; else the fault is that refusal
+-- where the list was split into items, the fault of those from this place on, as `IsFaultFrom` has it; of a list that was refused
+-- as a whole, that refusal
 abbrev pub FailsFrom : Result (List (List ℕ)) ValueFault → ℕ → Option ValueFault → List Kind → ValueFault → Type 0
 FailsFrom (Ok items) place fault ks e = IsFaultFrom items place fault ks e
 FailsFrom (Err refusal) place fault ks e = e ≡ refusal

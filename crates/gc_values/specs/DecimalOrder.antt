@@ -15,7 +15,7 @@ use Rattle.gc_values.specs.RoundedFacts.{ten_pow_pos}
 use Rattle.gc_values.specs.Zeros.{WithoutZeros}
 use Rattle.gc_values.specs.declared.decimal.Decimal.{Decimal}
 
--- the zeros at the end can't be taken off in two ways that leave different numbers of places
+-- n / 10^s and k / 10^t can't both be m / 10^p without the zeros at its end, where s is below t
 fewer_zeros : (m p n s k t : ℕ) → WithoutZeros m p n s → WithoutZeros m p k t → s < t → ⊥
 fewer_zeros m p n s k t v w lt =
     let back : s + suc (t - suc s) ≡ t = omega arith in
@@ -25,7 +25,7 @@ fewer_zeros m p n s k t v w lt =
     (omega (arith, ap (λ x. x * (10 ^ (t - suc s) * 10 * 10 ^ s)) v.same, ap (λ x. x * 10 ^ s) w.same, ap (λ x. m * 10 ^ s * x) power)) in
     w.canonical (omega arith) (ap (λ x. x % 10) (sym more) ∙ mul-mod_left (n * 10 ^ (t - suc s)) 10)
 
--- the zeros at the end are taken off in one way
+-- m / 10^p has one form without the zeros at its end: where n / 10^s and k / 10^t both are that form, they are the same
 pub zeros_once : (m p n s k t : ℕ) → WithoutZeros m p n s → WithoutZeros m p k t → (n ≡ k) × (s ≡ t)
 zeros_once m p n s k t v w = elim (cases_order s t) [
   | inl same ↦ (eq_of_mul-eq-mul_left (10 ^ p) (ten_pow_pos p) n k (omega (arith, v.same, w.same, ap (λ e. m * 10 ^ e) same)), same)
@@ -35,14 +35,14 @@ zeros_once m p n s k t v w = elim (cases_order s t) [
   ]
 ]
 
--- m / 10^s that needs all its places is its units of 10^-24 without the zeros at their end
+-- where m / 10^s has at most 24 places and needs them all, m is its number of units of 10^-24 without the zeros at the end
 units_without_zeros : (m s : ℕ) → s ≤ 24 → (0 < s → m % 10 ≡ 0 → ⊥) → WithoutZeros (m * 10 ^ (24 - s)) 24 m s
 units_without_zeros m s places canonical =
     let back : 24 - s + s ≡ 24 = omega arith in
     let power : 10 ^ (24 - s) * 10 ^ s ≡ 10 ^ 24 = sym (pow-add 10 (24 - s) s) ∙ ap (λ e. 10 ^ e) back in
     record { same = omega (arith, ap (λ x. m * x) power); fewer = places; canonical = canonical }
 
--- numbers of one size are equal where they are after a multiplication
+-- integers z and w of one magnitude are equal where z * p and w * p are, for p above 0
 cancel : (z w : ℤ) (p : ℕ) → 0 < p → unsigned_abs z ≡ unsigned_abs w → z *ℤ pos p ≡ w *ℤ pos p → z ≡ w
 cancel (pos a) (pos b) p some size e = ap pos size
 cancel (negsuc a) (negsuc b) p some size e = let same : a ≡ b = omega arith in ap negsuc same

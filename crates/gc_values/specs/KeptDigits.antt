@@ -6,7 +6,7 @@ use Rattle.gc_values.specs.Digits.{number}
 abbrev pub digit_or_zero : List ℕ → ℕ → ℕ
 digit_or_zero ds i = slice_index_or ds i 48 - 48
 
--- the number that the first i digits write, with zeros in place of those behind the last one
+-- the number that the first i digits write, with a zero for each digit that is missing
 unfoldable pub kept : List ℕ → ℕ → ℕ
 kept ds i = number (take i ds) * 10 ^ (i - length ds)
 

@@ -12,7 +12,7 @@ pub record IsKept (t : Inside) : Type 0 where
   pub long : length t.bytes ≡ 64
   pub plain : AreStringBytes (take t.len t.bytes)
 
--- the used bytes alone give the text back
+-- the used bytes, with zeros behind them up to 64 bytes, are the text again
 pub padded_back : (t : Inside) → IsKept t → (let back : Inside = record { bytes = take t.len t.bytes ++ replicate (64 - length (take t.len t.bytes)) 0; len = length (take t.len t.bytes) } in back ≡ t)
 padded_back t kept =
     let few = kept.few in

@@ -1,4 +1,5 @@
--- No part of a promise: parameters in the common spelling, without spaces round them, cut from the left.
+-- No part of a promise: parameters in the common spelling, cut from the left: each has at least one byte, and no spaces stand
+-- round it.
 use Rattle.std.specs.Prelude.{◌≡◌, ◌+◌, ◌*◌, ◌^◌, ◌<◌, ◌≤◌, ℕ, Bool, true, List, [], ◌∷◌, ◌++◌, length, take, Option, Some, None, pos}
 use Rattle.std.specs.List.{AllByRecursion}
 use Rattle.gc_values.specs.Digits.{AreDigits, number}
@@ -20,20 +21,21 @@ pub record CutsPlain (text item : List ℕ) (rest : Option (List ℕ)) : Type 0 
   pub param : IsParam item
   pub some : 0 < length item
 
--- the first `count` bytes are digits, at most `most`, and the value is the number that the digits of `front` and these write
+-- the first `count` bytes of the text are digits, `count` is at most `most`, and `value` is the number that the digits of the
+-- number `front` and then these digits write
 pub record CountsDigits (front : ℕ) (text : List ℕ) (most value count : ℕ) : Type 0 where
   pub within : count ≤ length text
   pub few : count ≤ most
   pub digits : AreDigits (take count text)
   pub value_is : value ≡ front * 10 ^ count + number (take count text)
 
--- the text begins with a decimal in plain spelling, and the rest is what follows its comma, if there is one
+-- the text begins with an item that spells the decimal d, and the rest is what follows the item's comma, if there is one
 pub record CutsDecimal (text : List ℕ) (d : Decimal) (rest : Option (List ℕ)) : Type 0 where
   pub item : List ℕ
   pub cut : CutsPlain text item rest
   pub spelled : Spells item d.digits d.scale
 
--- the text begins with a whole number in plain spelling, and the rest is what follows its comma, if there is one
+-- the text begins with an item that writes the whole number n, and the rest is what follows the item's comma, if there is one
 pub record CutsNumber (text : List ℕ) (n : ℕ) (rest : Option (List ℕ)) : Type 0 where
   pub item : List ℕ
   pub cut : CutsPlain text item rest

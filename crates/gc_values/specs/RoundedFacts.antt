@@ -9,13 +9,13 @@ use Rattle.gc_values.specs.Fraction.{signed, is_decimal, IsCanonical, IsInRange}
 use Rattle.gc_values.specs.Nearest.{gap, RoundsHalfUp, half_up, rounded_to}
 use Rattle.gc_values.specs.Zeros.{WithoutZeros, Placed, stripped}
 
--- where m ends in a zero, and m / 10 over 10^s is n / 10^t, m over 10^(s+1) is n / 10^t, too
+-- for m that ends in a zero: where (m / 10) / 10^s is the value n / 10^t, m / 10^(s+1) is that value, too
 zero_back : (m s n t : ℕ) → m % 10 ≡ 0 → (m / 10) * 10 ^ t ≡ n * 10 ^ s → m * 10 ^ t ≡ n * 10 ^ suc s
 zero_back m s n t whole same =
     let ten : m ≡ 10 * (m / 10) = omega arith in
     omega (arith, same, pow-suc 10 s, ap (λ x. n * x) (pow-suc 10 s), ap (λ x. x * 10 ^ t) ten)
 
--- where m ends in a zero, and n / 10^t is m / 10 over 10^s without its zeros, it is m / 10^(s+1) without its zeros, too
+-- for m that ends in a zero: where n / 10^t is (m / 10) / 10^s without the zeros at its end, it is m / 10^(s+1) without them, too
 one_more : (m s n t : ℕ) → m % 10 ≡ 0 → WithoutZeros (m / 10) s n t → WithoutZeros m (suc s) n t
 one_more m s n t whole w = record { same = zero_back m s n t whole w.same; fewer = let f = w.fewer in omega (arith, f); canonical = w.canonical }
 
@@ -70,7 +70,7 @@ pub zeros_in_range : (m s n t : ℕ) → WithoutZeros m s n t → m ≤ 10 ^ 13 
 zeros_in_range m s n t w h =
     le_of_mul-le-mul_right {m = n} {n = 10 ^ 13 * 10 ^ t} {k = 10 ^ s} (omega (arith, w.same, mul-le-mul_right {m = m} {n = 10 ^ 13 * 10 ^ s} (10 ^ t) h)) (ten_pow_pos s)
 
--- a number in range stays so where its last places are cut off
+-- where a / 10^s is in range, a is at most 10^13 * 10^p * 10^(s - p): the bound, with 10^s cut in two at p
 pub places_in_range : (a s p : ℕ) → p ≤ s → a ≤ 10 ^ 13 * 10 ^ s → a ≤ 10 ^ 13 * 10 ^ p * 10 ^ (s - p)
 places_in_range a s p places h =
     let back : p + (s - p) ≡ s = omega arith in

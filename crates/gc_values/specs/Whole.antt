@@ -43,7 +43,7 @@ FitsShort z = IsBetween 32768 32767 z
 abbrev pub NamesNoWhole : List ℕ → Type 0
 NamesNoWhole text = (z : ℤ) → NamesWhole text z → ⊥
 
--- the text writes a whole number that isn't between the two
+-- the text writes a whole number that isn't from -below to above
 abbrev pub NamesWholeBeyond : ℕ → ℕ → List ℕ → Type 0
 NamesWholeBeyond below above text = (z : ℤ) × NamesWhole text z × (IsBetween below above z → ⊥)
 

@@ -252,7 +252,7 @@ impl Decimal {
         }
     }
 
-    /// Whether two values are at most `area` apart. No two values are within an area below zero.
+    /// Whether two values are at most the distance `area` apart. No two values are within a distance below zero.
     pub fn within(&self, other: &Decimal, area: &Decimal) -> bool
         ensures fact { IsTrue result
             ↔ IsWithin (fraction self.now) (fraction other.now) (fraction area.now) }
@@ -303,6 +303,7 @@ impl fmt::Display for Decimal {
 
     fn fmt<W: fmt::Write>(&self, f: &mut fmt::Formatter<W>) -> fmt::Result {
         let text = self.write();
+        // The written form is ASCII, so this never fails.
         let Ok(text) = str::from_utf8(text.as_slice()) else {
             unreachable!();
         };

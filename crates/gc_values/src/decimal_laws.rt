@@ -78,7 +78,7 @@ pub fn order_is_that_of_the_values()
         (IsBelow (fraction a) (fraction b)) (a ≡ b) (IsBelow (fraction b) (fraction a)) }
 {}
 
-/// The test of an area says whether two values are at most that far apart.
+/// `is_within` says exactly whether two values are at most `area` apart.
 pub fn area_test_is_the_distance()
     ensures { (a b area : Decimal)
         → IsTrue (is_within a b area) ↔ IsWithin (fraction a) (fraction b) (fraction area) }
@@ -89,8 +89,8 @@ pub fn equality_is_that_of_decimals()
     ensures { (a b : Decimal) → IsTrue (decimal_eq a b) ↔ (a ≡ b) }
 {}
 
-/// The test of directions says whether one is near the other: its vertical angle as face I has it is at most the tolerance away, and so is
-/// its horizontal direction once that was turned by at most two turns.
+/// `is_near` says exactly whether a direction is near a place: its vertical angle, as face I has it, is at most the tolerance
+/// away from the place's, and so is its horizontal direction after at most two whole turns either way.
 pub fn near_is_within_the_tolerance()
     ensures { NearIsWithinTheTolerance }
 {}

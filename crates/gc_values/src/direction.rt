@@ -1,4 +1,5 @@
-//! Directions of a telescope, and whether one is near another: all arithmetic on directions is here, in whole numbers.
+//! Directions of a telescope, and whether one is near another: all arithmetic on directions is here, in whole numbers of 10^-24
+//! radians.
 
 ghost use Rattle.std.specs.Prelude.{◌≡◌, ◌≤◌, ◌*◌, ◌^◌, unsigned_abs};
 ghost use Rattle.gc_values.specs.Directions.{v_of, hz_of, is_close, is_close_turned, is_close_on_circle, is_near, is_up_to, is_place, is_tolerance};

@@ -13,8 +13,8 @@ const WHOLE: usize = 13;
 /// Any number of this many digits fits in 64 bits.
 const SHORT: usize = 18;
 
-/// Reads at most `most` digits at the front as digits behind those of `front`. It returns the number that all of
-/// them write, and how many digits it read.
+/// Reads at most `most` digits at the front of `text`. It returns the number that is written by the digits of `front`, followed
+/// by the digits read, and how many digits it read.
 #[inline]
 fn counted(front: u64, text: &[u8], most: usize) -> (u64, usize)
     requires { (front + 1) * 10 ^ most ≤ 10 ^ 18 }
@@ -30,8 +30,8 @@ fn counted(front: u64, text: &[u8], most: usize) -> (u64, usize)
     (value, text.len())
 }
 
-/// What follows an item, where `text` is all of the list behind that item: `Some(None)` at the end of the list, and else the bytes
-/// behind a comma. `None`: neither the end nor a comma follows the item.
+/// What follows an item, where `text` is all of the list behind that item: `Some(None)` at the end of the list, and else the
+/// bytes behind a comma. `None`: neither the end nor a comma follows the item.
 #[inline]
 fn behind_item(text: &[u8]) -> Option<Option<&[u8]>>
     ensures { IfSome result (λ rest. Stands text.now [] (option_copied rest)) }

@@ -46,7 +46,7 @@ impl<'a> Items<'a> {
     }
 }
 
-/// Whether a double quote has no partner: their number is odd.
+/// Whether the number of double quotes is odd, so that one of them has no partner.
 fn has_open_quote(text: &[u8]) -> bool
     ensures { IsTrue result ↔ (quotes text.now % 2 ≡ 1) }
 {

@@ -42,7 +42,7 @@ pub fn item_has_no_fault()
         → IsItem item v → IsItemFault (kind_of v) item e → ⊥ }
 {}
 
-/// A text is at most one parameter list.
+/// A text splits into at most one list of items.
 pub fn one_list()
     ensures { (bytes : List ℕ) (xs ys : List (List ℕ))
         → IsParams bytes xs → IsParams bytes ys → xs ≡ ys }

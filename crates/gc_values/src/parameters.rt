@@ -19,6 +19,9 @@ use crate::value::{Kind, Value};
 
 /// Parameters that are asked for one after the other, from the left. Where one is missing or doesn't read, a zero of
 /// its kind is given (false, or an empty string), and the next one can be asked for all the same.
+///
+/// The clauses of each call go from the state after it to the state before: what is then left is read as `vs` only where what was
+/// left before is read as the call's result followed by `vs`; and so for the faults, by the kind that was asked for.
 pub trait Parameters {
     /// The parameters that are left are read as these values, and all went well so far.
     ghost reads: { Self → List Value → Type 0 };
@@ -131,6 +134,7 @@ impl<'a> Listed<'a> {
     }
 }
 
+// Each call takes the next item as a value of its kind, or gives a zero where there is none or it doesn't read.
 impl<'a> Parameters for Listed<'a> {
     ghost reads = { λ c vs. ReadsFrom c.items c.place c.fault vs };
 

@@ -1,5 +1,6 @@
 //! Parameters in the common spelling, read in one pass and without a list of items: no spaces, no strings, no
-//! plus. Anything else is left to `Listed`.
+//! plus. Anything else is left to `Listed`. A list is called good while each parameter that was asked for was there in the common
+//! spelling.
 
 ghost use Rattle.std.specs.Prelude.{◌≡◌, ◌∷◌, [], ℕ, pos, List, IfSome, IfNone, IsTrue, true};
 ghost use Rattle.std.specs.Option.{option_copied};
@@ -21,7 +22,7 @@ use crate::whole::{read_bool, read_long, read_short};
 /// [`Listed`](crate::Listed) reads it again.
 #[derive(Drop)]
 pub struct Quick<'a> {
-    // What is left behind a comma, or nothing behind the end.
+    // The text that is left to read, behind a comma. `None`: the end of the list was reached.
     rest: Option<&'a [u8]>,
     // Whether all that was asked for so far was there and was read.
     good: bool,
@@ -146,6 +147,8 @@ impl<'a> Quick<'a> {
     }
 }
 
+// Each call first tries the shortest form of its kind. Where the next parameter isn't what was asked for, the call gives a zero,
+// and the list isn't good any more.
 impl<'a> Parameters for Quick<'a> {
     ghost reads = { λ c vs. ReadsPlainly c.good (option_copied c.rest) vs };
 
@@ -237,6 +240,7 @@ fn cut_plain(text: &[u8]) -> Option<(&[u8], Option<&[u8]>)>
             let (item, rest) = text.split_at(i);
             return Some((item, Some(&rest[1..])));
         }
+        // Spaces, double quotes and pluses are below `-`. So are the single quotes of a byte parameter, which may stand here.
         if *byte < b'-' && *byte != b'\'' {
             return None;
         }

@@ -9,7 +9,7 @@ use std::marker::Model;
 /// The most bytes that a written number has: a minus, 14 digits, a point and 24 digits.
 const ROOM: usize = 40;
 
-/// The end of a text of at most 40 bytes.
+/// The end of a text of at most 40 bytes: it stands at the end of `bytes`, from `start` on.
 #[derive(Drop)]
 pub struct Tail {
     bytes: [u8; ROOM],
@@ -83,13 +83,14 @@ impl Tail {
         }
     }
 
-    /// Puts the last `count` digits of a number that may have more than 64 bits in front.
+    /// Puts the last `count` digits of a number in front. The number may have more than 64 bits.
     pub fn put_fraction(&mut self, n: u128, count: u8)
         requires room { length self.old + count ≤ 40 }
         requires few { count ≤ 24 }
         requires small { n < 10 ^ count }
         ensures { self.new ≡ last_digits count n ++ self.old }
     {
+        // 10^12: 24 digits are two times twelve, and 64 bits hold twelve.
         const HALF: u128 = 1_000_000_000_000;
         if count <= 12 {
             self.put_last(n as u64, count);

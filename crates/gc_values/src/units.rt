@@ -1,5 +1,5 @@
-//! The digits of a number's text as a whole number of units of the last place: rounded there, and capped where
-//! no decimal is as large.
+//! The digits of a number's text as a whole number of units of the last place: rounded there, and capped where no decimal is as
+//! large. `whole` and `fraction` are the two runs of digits, before and behind the point; "in a row" they are read as one run.
 
 ghost use Rattle.std.specs.Prelude.{◌≡◌, ℕ, ◌+◌, ◌*◌, ◌^◌, ◌<◌, ◌≤◌, ◌++◌, length, min};
 ghost use Rattle.gc_values.specs.Digits.{AreDigits, number};
@@ -31,7 +31,8 @@ fn digit_at(whole: &[u8], fraction: &[u8], place: usize) -> u8
     }
 }
 
-/// The number that the first `count` digits of both runs in a row write, with zeros for those behind the last one; at most the cap.
+/// The number that the first `count` digits of both runs in a row write, with a zero for each digit that is missing; at most the
+/// cap.
 fn kept_digits(whole: &[u8], fraction: &[u8], count: usize) -> u128
     requires whole { AreDigits whole.now }
     requires fraction { AreDigits fraction.now }
@@ -45,7 +46,8 @@ fn kept_digits(whole: &[u8], fraction: &[u8], count: usize) -> u128
     kept
 }
 
-/// What `kept_digits` gives, with the digit behind those rounded in: 1 more where that digit is 5 or above. At most the cap.
+/// The number of the first `count` digits, as `kept_digits` gives it, rounded by the digit behind them: 1 more where that is 5 or
+/// above. At most the cap.
 fn rounded(whole: &[u8], fraction: &[u8], count: usize) -> u128
     requires whole { AreDigits whole.now }
     requires fraction { AreDigits fraction.now }
@@ -67,7 +69,7 @@ fn with_zeros(kept: u128, zeros: usize) -> u128
     kept.saturating_mul(power).min(CAP)
 }
 
-/// The number that the digits of `front` and these behind them write, in 64 bits.
+/// The number that is written by the digits of `front` and then `digits`. It is computed in 64 bits.
 fn followed_by(front: u64, digits: &[u8]) -> u64
     requires digits { AreDigits digits.now }
     requires small { (front + 1) * 10 ^ length digits.now ≤ 10 ^ 18 }
@@ -90,9 +92,10 @@ fn short_number(whole: &[u8], fraction: &[u8]) -> u64
     followed_by(followed_by(0, whole), fraction)
 }
 
-/// The value of the digits with a point between both runs, times 10^`up` and over 10^`down`, rounded to 24 places: as a whole
-/// number, at most the cap, and how many of its digits are places. No zero is appended that the value doesn't need, so this
-/// takes as many steps as there are digits, whatever the exponent is. At most 18 digits without an exponent are read in 64 bits.
+/// The value of a number's text, rounded to 24 places: `(n, p)` stands for `n / 10^p`, where `n` is at most the cap. The value is
+/// that of the digits with a point between both runs, times 10^`up`, divided by 10^`down`.
+///
+/// No zero is appended that the value doesn't need, so this takes as many steps as there are digits, whatever the exponent is.
 pub fn units(whole: &[u8], fraction: &[u8], up: u16, down: u16) -> (u128, u8)
     requires whole { AreDigits whole.now }
     requires fraction { AreDigits fraction.now }
@@ -100,19 +103,24 @@ pub fn units(whole: &[u8], fraction: &[u8], up: u16, down: u16) -> (u128, u8)
         (length fraction.now + down) CAP result.0 result.1 }
 {
     let length = whole.len() + fraction.len();
+    // Few digits, and no exponent: their number is read as it is, in 64 bits.
     if up == 0 && down == 0 && length <= SHORT {
         return (
             u128::from(short_number(whole, fraction)),
             fraction.len() as u8,
         );
     }
+    // How many digits there are up to the last of 24 places, with zeros for those that are missing.
     let last = whole.len() + usize::from(up) + usize::from(PLACES);
+    // The exponent moves every digit behind these places.
     let Some(count) = last.checked_sub(usize::from(down)) else {
         return (0, PLACES);
     };
+    // Digits are left over: the number is rounded there.
     if count < length {
         return (rounded(whole, fraction, count), PLACES);
     }
+    // All digits count. Only zeros that stand before the point are appended.
     let kept = kept_digits(whole, fraction, length);
     let zeros = count - length;
     if zeros <= usize::from(PLACES) {

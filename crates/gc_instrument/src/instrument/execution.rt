@@ -138,7 +138,7 @@ impl Instrument {
         0
     }
 
-    // Answers the station.
+    // Answers the station's coordinates and the height of the instrument over it.
     #[inline(never)]
     fn tell_station(&self, answer: &mut Answer) -> u16
         ensures { Gives (done self.now (Place self.now.station)) self.now result answer.new }
@@ -147,7 +147,7 @@ impl Instrument {
         0
     }
 
-    // Sets the station.
+    // Sets the station's coordinates and the height of the instrument over it.
     #[tactic(auto, unfolding(crate::specs::Execution::exec))]
     #[inline(never)]
     fn set_station(&mut self, station: &Station) -> u16

@@ -33,7 +33,7 @@ impl Instrument {
     ///
     /// The id and the reply of the last request that carried an id and was carried out are kept. A
     /// request that names a call and carries that id is a repeat of it: it gets the kept line, and
-    /// nothing is carried out. A request without an id is never a repeat, and leaves what is kept.
+    /// nothing is carried out. A request without an id is never a repeat, and what is kept stays.
     #[tactic(auto, using(crate::proofs::Answering::replied_alone, crate::proofs::Answering::exchanged_alone))]
     pub fn on_line(&mut self, line: &Line) -> Option<Line>
         ensures replied { IsReplied self.old line.now.items self.new (option_map (λ r. r.items) result) }
@@ -69,7 +69,8 @@ impl Instrument {
         }
     }
 
-    // Appends the reply to a request: with the communication code 3081 or 3080 where it names no call, and else that of `answer_call`.
+    // Appends the reply to a request: with the communication code 3081 or 3080 where it names no call, and else that of
+    // `answer_call`.
     #[inline]
     fn reply_to<const N: usize>(&mut self, request: &Request<'_>, out: &mut ArrayVec<u8, N>)
         requires id { ForSome request.now.id (λ id. id < 8) }

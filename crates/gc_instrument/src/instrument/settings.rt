@@ -5,7 +5,8 @@ use crate::pointing::Pointing;
 use gc_catalogue::{DateTime, Station};
 use gc_values::Decimal;
 
-/// The part of an instrument that calls change.
+/// The part of an instrument that calls change. Lengths are in metres. `height` is that of the reflector, and `distance` the
+/// slope distance that was measured last, if there is one.
 #[derive(Clone, Copy, Debug)]
 pub struct Settings {
     pub precision: u8,

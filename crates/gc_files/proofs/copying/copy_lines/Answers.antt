@@ -19,4 +19,5 @@ loop-at-preserved g c =
 
 pub returns-in-Ok-sync-clause-copied : goal.returns-in-Ok-sync-clause-copied
 returns-in-Ok-sync-clause-copied g c known is =
-    puts_all _ _ _ (content known) c.loop-at.at (omega (arith, c.in_ok-len.ensures known is, c.loop-at-test.false, c.loop-at.invariant.within)) (c.loop-at.invariant.puts known is) c.in-Ok-sync.ensures.step
+    puts_all _ _ _ (content known) c.loop-at.at (omega (arith, c.in_ok-len.ensures known is, c.loop-at-test.false, c.loop-at.invariant.within))
+    (c.loop-at.invariant.puts known is) c.in-Ok-sync.ensures.step
