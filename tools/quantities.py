@@ -1,11 +1,12 @@
 """What the values of a row are, by the table of procedures in `docs/PROTOCOL.md`: the names of its quantities, with their units.
 
-They are there where a row was answered with both codes 0 and its values read, and nowhere else.
+They are there where a row's answer is `ok` or a `warning` and its values read, and nowhere else. Rows of earlier versions say no quality:
+there they are where both codes are 0.
 """
 
 import re
 
-from records import COLUMNS
+from records import COLUMNS, GOOD
 
 # How a number is spelt, for python and for PostgreSQL. What isn't spelt so is no quantity.
 NUMBER = r"^[-+]?(?:[0-9]+\.?[0-9]*|\.[0-9]+)(?:[eE][-+]?[0-9]{1,3})?$"
@@ -26,6 +27,8 @@ NAMES = list(dict.fromkeys(name for names in QUANTITIES.values() for name in nam
 
 def has_values(fields):
     """Whether a row was answered well, so that its values read."""
+    if fields.get("quality"):
+        return fields["quality"] in GOOD
     return fields["outcome"] == "answered" and fields["rc_com"] == "0" and fields["rc"] == "0"
 
 
@@ -34,6 +37,11 @@ def quantities(fields):
     names = QUANTITIES.get(int(fields["procedure"]), []) if has_values(fields) else []
     items = [item.strip(" ") for item in fields["values"].split(",")]
     return {name: item for name, item in zip(names, items) if re.match(NUMBER, item)}
+
+
+# The same in SQL.
+HAS_VALUES = f"""(quality IN ({', '.join(f"'{word}'" for word in GOOD)})
+    OR quality IS NULL AND outcome = 'answered' AND rc_com = 0 AND rc = 0)"""
 
 
 def view(item, cast):

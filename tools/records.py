@@ -7,8 +7,10 @@ import datetime
 import json
 import re
 
-# The columns of a station's rows. Further ones are handed on under their names.
-COLUMNS = ["run", "sent", "time", "cycle", "place", "target", "name", "procedure", "outcome", "fault", "rc_com", "rc", "values"]
+# The columns of a station's rows, of which the last one stands last in every table. Further ones are handed on under their names.
+COLUMNS = [
+    "run", "sent", "time", "cycle", "place", "target", "name", "procedure", "outcome", "fault", "rc_com", "rc", "values", "quality",
+]
 HEAD = ",".join(COLUMNS).encode() + b"\n"
 # What `--columns` and `--json` add: the items of an answer.
 ANSWER_COLUMNS = [
@@ -16,15 +18,17 @@ ANSWER_COLUMNS = [
     "prism_type", "temperature_c", "places", "release", "version", "subversion", "serial", "instrument", "year", "month", "day", "hour",
     "minute", "second",
 ]
-COLUMNS_HEAD = ",".join([*COLUMNS, *ANSWER_COLUMNS]).encode() + b"\n"
+COLUMNS_HEAD = ",".join([*COLUMNS[:-1], *ANSWER_COLUMNS, COLUMNS[-1]]).encode() + b"\n"
 # In the order of the counts; those of a reply that came in time, and those of a command that wasn't sent.
 OUTCOMES = ["answered", "late", "lost", "skipped", "unreadable", "missed", "elsewhere"]
 REPLIED = ["answered", "unreadable", "elsewhere"]
 UNSENT = ["skipped", "missed"]
+# The qualities of an answer whose values read.
+GOOD = ["ok", "warning"]
 MOMENTS = ["run", "sent", "time"]
 NUMBERS = ["cycle", "place", "target", "procedure", "fault", "rc_com", "rc"]
 # The columns that a table of an earlier version may not have, and what every reader needs: the others.
-LATER = ["run", "sent"]
+LATER = ["run", "sent", "quality"]
 NEEDED = [column for column in COLUMNS if column not in LATER]
 # What no row has empty.
 FILLED = ["run", "time", "cycle", "place", "target", "procedure", "outcome"]

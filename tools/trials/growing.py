@@ -10,7 +10,7 @@ import os
 import random
 import threading
 
-from records import ANSWER_COLUMNS, COLUMNS, HEAD, NUMBERS, UNSENT, moment_text
+from records import ANSWER_COLUMNS, COLUMNS, GOOD, HEAD, NUMBERS, UNSENT, moment_text
 
 TARGETS = [(7, b"pier 4", 2.25, 1.625, 110.0625), (8, b"", 0.5, 1.5, 25.125), (9, b"a/b+c #1", 4.0, 1.5, 48.5)]
 COMMANDS = [b"9027", b"2008", b"2108", b"2107", b"5004"]
@@ -30,13 +30,15 @@ def row(chance, number):
     place = number % (len(COMMANDS) * len(TARGETS))
     procedure = COMMANDS[number % len(COMMANDS)]
     outcome = chance.choices([b"answered", b"late", b"lost", b"skipped", b"unreadable", b"missed", b"elsewhere"], [80, 3, 3, 6, 1, 2, 1])[0]
-    fault = codes = values = b""
+    fault = codes = values = quality = b""
     if outcome == b"answered":
-        codes = b"0,0"
+        codes, quality = b"0,0", b"ok"
         sway = chance.gauss(0, 1)
         if procedure == b"2108" and chance.random() < 0.05:
-            codes = b"0,1285"
+            codes, quality = b"0,1285", b"refused"
         elif procedure == b"2108":
+            if chance.random() < 0.05:
+                codes, quality = b"0,1283", b"warning"
             values = b'"%.9f,%.9f,%.5f"' % (hz + sway * 4e-6, v + chance.gauss(0, 3e-6), distance + chance.gauss(0, 8e-4))
         elif procedure == b"2107":
             values = b'"%.9f,%.9f"' % (hz + sway * 4e-6, v + chance.gauss(0, 3e-6))
@@ -49,15 +51,14 @@ def row(chance, number):
     sent = b"" if outcome.decode() in UNSENT else stamp(moment - datetime.timedelta(milliseconds=1_234))
     cycle = number // (len(COMMANDS) * len(TARGETS)) + 1
     numbers = b"%d,%d,%d" % (cycle, place, target)
-    return b",".join([RUN, sent, stamp(moment), numbers, name, procedure, outcome, fault, codes or b",", values]) + b"\n"
+    return b",".join([RUN, sent, stamp(moment), numbers, name, procedure, outcome, fault, codes or b",", values, quality]) + b"\n"
 
 
 def parted(line):
     """The fields of a row by the names of their columns, and the items of its answer by those of their quantities."""
     fields = dict(zip(COLUMNS, next(csv.reader([line.decode("latin-1")[:-1]]))))
     names = {"2107": ANSWER_COLUMNS[:2], "2108": ANSWER_COLUMNS[:3], "5004": ["instrument"]}.get(fields["procedure"], [])
-    is_well = (fields["outcome"], fields["rc"]) == ("answered", "0")
-    return fields, dict(zip(names, fields["values"].split(","))) if is_well else {}
+    return fields, dict(zip(names, fields["values"].split(","))) if fields["quality"] in GOOD else {}
 
 
 def plain(name, item):
@@ -69,15 +70,18 @@ def row_of_columns(chance, number):
     """The same row as `row` makes, as `--columns` writes it."""
     line = row(chance, number)
     items = parted(line)[1]
-    return line[:-1] + "".join("," + plain(name, items[name]) if name in items else "," for name in ANSWER_COLUMNS).encode() + b"\n"
+    front, quality = line.rsplit(b",", 1)
+    return front + "".join("," + plain(name, items[name]) if name in items else "," for name in ANSWER_COLUMNS).encode() + b"," + quality
 
 
 def row_of_json(chance, number):
     """The same row as `row` makes, as `--json` writes it."""
     fields, items = parted(row(chance, number))
+    quality = fields.pop("quality")
     written = [(name, field) for name, field in fields.items() if field or name == "values" and fields["rc_com"]]
     for name, item in items.items():
         written += [(name, plain(name, item))] + [(f"{name}_text", item)] * (name != "instrument")
+    written += [("quality", quality)] * bool(quality)
     return (b"{" + b",".join(
         b'"%s":%s' % (name.encode(), (field if name in NUMBERS or name in ANSWER_COLUMNS[:3] else json.dumps(field)).encode())
         for name, field in written) + b"}\n")

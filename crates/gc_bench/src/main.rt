@@ -10,7 +10,8 @@ use gc_client::{Ring, Slots};
 use std::process::ExitCode;
 use std::{env, io};
 
-// The words: what to do, how often, and for rows in which file. The sum that is printed keeps all that was done.
+// Does what the words ask: what, how often, and for rows in which file. The sum is printed so that no work can be left out of
+// the program as useless. The status is 2 for other words.
 fn main(rt: HostRuntime) -> io::Result<ExitCode> {
     let words: Vec<String> = env::args(&rt)?.collect(rt.alloc())?;
     match sum_of(&rt, words.as_slice()) {

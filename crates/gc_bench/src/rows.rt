@@ -3,14 +3,16 @@
 use gc_files::{RowsFile, SystemFile, end_at, open_at};
 use gc_lines::{Durable, write_whole};
 
+// The header of a file of rows.
 const HEAD: &[u8] =
-    b"run,sent,time,cycle,place,target,name,procedure,outcome,fault,rc_com,rc,values\n";
+    b"run,sent,time,cycle,place,target,name,procedure,outcome,fault,rc_com,rc,values,quality\n";
 
+// The row that is appended.
 const ROW: &[u8] =
-    b"2026-11-22T23:08:00.000Z,2026-11-22T23:08:27.103Z,2026-11-22T23:08:27.123Z,1,0,7,,5003,answered,,0,0,123456\n";
+    b"2026-11-22T23:08:00.000Z,2026-11-22T23:08:27.103Z,2026-11-22T23:08:27.123Z,1,0,7,,5003,answered,,0,0,123456,ok\n";
 
-/// Appends `count` rows to the file of this path, with a sync behind each where `sync` is true, and returns for how many both went
-/// well: 0 where the file can't be opened.
+/// Appends `count` rows to the file of this path, with a sync after each where `sync` is true, and returns how many were
+/// appended and synced well: 0 where the file can't be opened.
 pub fn append(rt: &HostRuntime, path: &str, count: u32, sync: bool) -> u64 {
     match open_at(rt, rt.alloc(), path, HEAD, HEAD, sync) {
         Ok((mut rows, _)) => {
@@ -22,7 +24,7 @@ pub fn append(rt: &HostRuntime, path: &str, count: u32, sync: bool) -> u64 {
     }
 }
 
-// Appends `count` rows to an open file, each synced where the file was opened with `sync`, and returns for how many both went well.
+// Appends `count` rows to an open file, each synced where the file was opened with `sync`, and returns how many went well.
 fn append_to(rows: &mut RowsFile<SystemFile>, count: u32) -> u64 {
     let mut sum = 0u64;
     for _ in 0..count {
@@ -33,7 +35,7 @@ fn append_to(rows: &mut RowsFile<SystemFile>, count: u32) -> u64 {
     sum
 }
 
-// Syncs the file where it was opened with `sync`, and returns whether no call of the file failed.
+// Syncs the file where it was opened with `sync`, and returns whether no call of the file has failed so far.
 fn is_durable(rows: &mut RowsFile<SystemFile>) -> bool {
     rows.sync().is_ok()
 }

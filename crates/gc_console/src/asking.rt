@@ -12,7 +12,7 @@ use gc_station::Kept;
 use gc_subcommands::Asking;
 use gc_subcommands::ask::ask_place;
 use gc_subcommands::looped::loop_port;
-use gc_words::{LogPlace, Recording, Site, Station};
+use gc_words::{LogPlace, Recording, Settings, Site};
 use std::alloc::Global;
 use std::cell::Cell;
 use std::fs::File;
@@ -22,7 +22,8 @@ use std::process::ExitCode;
 use std::rt::Files;
 use std::time::Clock;
 
-/// Asks, and reports how that ended, or that a standard stream is closed. The streams are handed back.
+/// Runs the subcommand `loop`, `ask` or `station`, as `asking` says, and reports how that ended; or only reports that a standard
+/// stream is closed. The streams are handed back.
 pub(crate) fn run_asking<
     R: Net<Listener = TcpListener, Stream = TcpStream> + Clock + Files<File = File>,
     S: Source,
@@ -47,7 +48,7 @@ pub(crate) fn run_asking<
     run_open(rt, alloc, standard, asking, streams)
 }
 
-// Asks over streams that are open, and reports how that ended. The streams are handed back.
+// Runs the subcommand that `asking` says over streams that are open, and reports how that ended. The streams are handed back.
 fn run_open<
     R: Net<Listener = TcpListener, Stream = TcpStream> + Clock + Files<File = File>,
     S: Source,
@@ -76,7 +77,7 @@ fn run_open<
     }
 }
 
-// Asks a simulator of its own. The streams are handed back.
+// Asks the commands of the input over a connection to a simulator in this program. The streams are handed back.
 fn run_loop<
     R: Net<Listener = TcpListener, Stream = TcpStream> + Files,
     S: Source,
@@ -101,7 +102,7 @@ fn run_loop<
     (streams, ended)
 }
 
-// Asks at a place. The streams are handed back.
+// Asks the commands of the input at a place. The streams are handed back.
 fn run_ask<
     R: Net<Listener = TcpListener, Stream = TcpStream> + Clock + Files<File = File>,
     S: Source,
@@ -137,7 +138,7 @@ fn measure_site<
     rt: &Noting<'_, R>,
     alloc: Global,
     site: Site<'_>,
-    station: Station,
+    station: Settings,
     recording: Option<Recording<'_>>,
     streams: Streams<S, K, E>,
 ) -> (Streams<S, K, E>, io::Result<ExitCode>)
@@ -151,6 +152,7 @@ fn measure_site<
     let lossy = lossy_of(streams);
     let (mut lossy, ended) = measure_recorded(rt, alloc, spot, site.log, station, recording, lossy);
     let _ = spot.tell(&mut lossy.messages);
+    // The system's reason is told only where the place couldn't be reached, or no run stopped for a fault.
     if !spot.is_unreached() {
         rt.forget();
     }
@@ -168,7 +170,7 @@ fn measure_recorded<
     alloc: Global,
     spot: Spot<'_>,
     log: Option<LogPlace<'_>>,
-    station: Station,
+    station: Settings,
     recording: Option<Recording<'_>>,
     streams: Streams<S, K, E>,
 ) -> (Streams<S, K, E>, io::Result<ExitCode>)
@@ -199,7 +201,7 @@ fn end_appending<R: Files<File = File>>(appended: Option<Appended<'_, R>>) {
     }
 }
 
-// These streams, but with messages of which one that can't be written is lost, and is no error.
+// These streams, but a message that can't be written is lost, which is no error.
 fn lossy_of<S, K, E>(streams: Streams<S, K, E>) -> Streams<S, K, Lossy<E>> {
     let Streams {
         input,

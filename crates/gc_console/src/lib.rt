@@ -13,5 +13,5 @@ pub use gc_messages::{FilesSeen, LogSeen, Noticed, Oddities, Spot, Standard, Str
 pub use gc_rows::Form;
 pub use gc_station::Tally;
 pub use gc_texts::{Command, RunFault, Trouble, read_commands};
-pub use gc_words::{Choice, Layout, Station, Watch};
+pub use gc_words::{Choice, Layout, Settings, Watch};
 pub use program::run_program;

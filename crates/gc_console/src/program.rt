@@ -26,9 +26,10 @@ use std::process::ExitCode;
 use std::rt::Files;
 use std::time::Clock;
 
-/// Runs a command line, whose first word is the program's name, over the net, the clock and the files, and over an input, an output
-/// and a place for messages, and gives the exit status: 0 where it is done or asked for help or the version, 1 after a fault, which
-/// is one line on the messages, and 2 for words that don't parse. It fails itself only where a text can't be written.
+/// Runs a command line, whose first word is the program's name, over the net, the clock and the files, and over an input, an
+/// output and a place for messages, and gives the exit status: 0 where it is done or asked for help or the version, 1 after a
+/// fault, which is one line on the messages, and 2 for words that don't parse. It fails itself only where a text can't be
+/// written.
 ///
 /// `standard` says which of the three streams are open. Where one isn't, `station`, `ask` and `loop` only report it, and `serve`
 /// fills its place.
@@ -102,7 +103,7 @@ fn run_asked<
     }
 }
 
-// Answers requests. The input is read ahead.
+// Answers requests as the instrument of the file `scene`, or as the simulator where none is named. The input is read ahead.
 fn run_exec<R: Files, I: Read + Drop, O: Write + Drop, E: Write + Drop>(
     rt: &R,
     alloc: Global,
@@ -157,7 +158,7 @@ fn run_drill<R: Files, I: Read + Drop, O: Write + Drop, E: Write + Drop>(
     drill_scene(rt, alloc, drilling, &mut source, &mut sink, &mut messages)
 }
 
-// Serves a simulator.
+// Serves a simulator, and reports how that ended; after a fault also what the system refused last, and why.
 fn run_serve<
     R: Net<Listener = TcpListener, Stream = TcpStream> + Clock + Files<File = File>,
     I: Drop,
@@ -177,7 +178,8 @@ fn run_serve<
     noting.tell(standard, ended, &mut streams.messages)
 }
 
-// Asks over a connection.
+// Runs a subcommand that asks over a connection, and reports how that ended; after a fault also what the system refused last, and
+// why.
 fn run_over<
     R: Net<Listener = TcpListener, Stream = TcpStream> + Clock + Files<File = File>,
     I: Read + Drop,
@@ -207,7 +209,8 @@ fn run_over<
     noting.tell(standard, ended, &mut streams.messages)
 }
 
-// Reports why words ask for no subcommand: memory ran out, they don't parse, or they ask for the help or the version.
+// Reports why words ask for no subcommand: memory ran out, they don't parse, or they ask for the help or the version. `reads`
+// says whether they name a subcommand that reads a text.
 fn answer<O: Write, E: Write>(
     error: &Error,
     reads: bool,
@@ -239,7 +242,7 @@ fn show<O: Write, E: Write>(text: &Error, output: &mut O, messages: &mut E) -> i
     }
 }
 
-// Whether words ask for a subcommand that reads a text.
+// Whether words name a subcommand that reads a text from standard input.
 fn reads_a_text(words: &[String]) -> bool {
     match words.get(1) {
         Some(word) => match Subcommand::named(word.as_str()) {
@@ -250,8 +253,8 @@ fn reads_a_text(words: &[String]) -> bool {
     }
 }
 
-// Writes why a command line doesn't parse, and after an unknown argument of a subcommand that reads a text, that the text comes on
-// standard input. The status is 2.
+// Writes why a command line doesn't parse. Where an argument is unknown, and the subcommand reads a text (`reads`), a second
+// line says that the text comes on standard input. The status is 2.
 fn refuse<E: Write>(error: &Error, reads: bool, messages: &mut E) -> io::Result<ExitCode>
     ensures { IfOk result (λ status. exit_status status ≡ 2) }
 {

@@ -1,4 +1,5 @@
-//! The client's parts, once: a window on the heap, and a client that takes no memory.
+//! The client's parts, once: a window on the heap, and a client that takes no memory. Each function says whether all came as it
+//! should.
 
 use crate::outcome::Outcome;
 use arrayvec::ArrayVec;
@@ -59,7 +60,7 @@ fn is_restarted(client: &mut Client<Slots>) -> bool {
         && (client.waiting(), client.next_id()) == (0, 0)
 }
 
-// Whether these are one settlement, this one.
+// Whether these are exactly one settlement, with this target, call and outcome.
 fn ends(settled: &[Settlement], target: u32, call: Call, outcome: End) -> bool {
     let wanted = Settlement {
         target,

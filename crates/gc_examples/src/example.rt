@@ -21,7 +21,8 @@ impl Example {
         }
     }
 
-    /// In which way another output comes than is expected: whole, or in some cut. Empty: in none.
+    /// In which pieces the input gives another output than the expected one: whole, in single bytes, or cut in two somewhere.
+    /// Empty: it gives the expected output in any of them.
     pub fn fault(&self, alloc: Global) -> &'static str {
         let whole = self.setup.run(alloc, &[]);
         if !whole.wrote(self.expected.as_slice()) {

@@ -2,7 +2,7 @@
 //! and each schedule through `drill --totals`, whole, in single bytes, and cut in two at every place, and what is written
 //! must be the file of the expected output each time. The folder it runs in is read whole, so that no example is forgotten.
 //! Then each is played once more, and with the word `once` nothing else is done: that run can be refused memory.
-//! Behind them the cases of the folder `cases` are played.
+//! After them the cases of the folder `cases` are played.
 #![tactic(auto)]
 
 mod cases;
@@ -40,6 +40,7 @@ fn tell_cuts(rt: &HostRuntime, name: &str, fault: &str) -> io::Result<bool> {
     Ok(false)
 }
 
+// Plays the examples, whole, cut and once, and the cases. The status is 1 where anything came otherwise than expected.
 fn main(rt: HostRuntime) -> io::Result<ExitCode> {
     let words: Vec<String> = env::args(&rt)?.collect(rt.alloc())?;
     let names = names_of(&rt, ".", "")?;

@@ -47,6 +47,7 @@ fn play_example(rt: &HostRuntime, name: &str, example: &Example) -> io::Result<b
     }
 }
 
+// Drills a schedule, and plays it over both windows.
 fn play_schedule(rt: &HostRuntime, name: &str, input: &[u8], expected: &[u8]) -> io::Result<bool> {
     let is_drilled = tell(rt, name, "drilled", drills(rt.alloc(), input, expected))?;
     Ok(tell(rt, name, "played", plays(rt.alloc(), input))? && is_drilled)
@@ -68,6 +69,7 @@ fn serves(input: &[u8], expected: &[u8]) -> Outcome {
     Outcome::of_answer(is_done && holds(&taken, expected))
 }
 
+// Has `exec` answer the requests of `input` into `taken`, and says whether it ended well.
 fn is_served(input: &[u8], taken: &mut [u8]) -> bool {
     let mut source = PieceSource::new(input, &[], u64::MAX);
     run_exec(&mut source, &mut ToWriter::new(taken), u32::MAX).is_ok()
@@ -80,6 +82,7 @@ fn checks(input: &[u8], expected: &[u8]) -> Outcome {
     Outcome::of_answer(is_done && holds(&taken, expected))
 }
 
+// Has `check` write its verdicts on `input` into `taken`, and says whether it ended well.
 fn is_checked(input: &[u8], taken: &mut [u8]) -> bool {
     let mut source = PieceSource::new(input, &[], u64::MAX);
     run_check(&mut source, &mut ToWriter::new(taken), u32::MAX).is_ok()
@@ -97,6 +100,7 @@ fn drills(alloc: Global, input: &[u8], expected: &[u8]) -> Outcome {
     Outcome::of(end, &sink, expected)
 }
 
+// Drills a schedule, with totals, into this sink.
 fn drill_into(alloc: Global, input: &[u8], sink: &mut PieceSink) -> Result<(), RunFault> {
     let mut source = PieceSource::new(input, &[], u64::MAX);
     run_drill(alloc, &mut source, sink, true)
@@ -121,6 +125,7 @@ fn agrees(alloc: Global, events: &[Event]) -> Outcome {
     outcome_of(&ring, &places)
 }
 
+// Whether what was told over a ring is what was told over places, where memory sufficed for both.
 fn outcome_of(ring: &Told, places: &Told) -> Outcome {
     if ring.is_lacking() || places.is_lacking() {
         return Outcome::NoMemory;
@@ -128,6 +133,7 @@ fn outcome_of(ring: &Told, places: &Told) -> Outcome {
     Outcome::of_answer(ring.as_bytes() == places.as_bytes())
 }
 
+// Tells all that events lead to over a ring.
 fn tell_ring(alloc: Global, events: &[Event], told: &mut Told) {
     match Ring::new(alloc) {
         Ok(ring) => tell_over(alloc, ring, events, told),
@@ -143,6 +149,7 @@ fn tell_over<W: Window>(alloc: Global, window: W, events: &[Event], told: &mut T
     }
 }
 
+// Tells all of a report, and of the client how many requests wait, and the next id.
 fn tell_all<W: Window>(report: &Report, client: &Client<W>, told: &mut Told) {
     tell_lists(report, told);
     tell_counts(report, told);
@@ -150,6 +157,7 @@ fn tell_all<W: Window>(report: &Report, client: &Client<W>, told: &mut Told) {
     told.display(&client.next_id());
 }
 
+// Tells the lists of a report.
 fn tell_lists(report: &Report, told: &mut Told) {
     told.debug(&report.sent.as_slice());
     told.debug(&report.executed.as_slice());
@@ -158,6 +166,7 @@ fn tell_lists(report: &Report, told: &mut Told) {
     told.debug(&report.starts.as_slice());
 }
 
+// Tells whether each direction is at the start of a line, how many sends were refused, and how many events weren't possible.
 fn tell_counts(report: &Report, told: &mut Told) {
     told.counted(&report.up.at_start(), " ");
     told.counted(&report.down.at_start(), " ");

@@ -18,6 +18,7 @@ pub enum Outcome {
 }
 
 impl fmt::Display for Outcome {
+    // Writes the outcome in words.
     fn fmt<W: fmt::Write>(&self, f: &mut fmt::Formatter<W>) -> fmt::Result {
         f.write_str(match self {
             Outcome::Exact => "its answer",

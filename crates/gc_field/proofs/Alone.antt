@@ -1,4 +1,5 @@
--- Two requests at once, with a reply kept that has the second one's id.
+-- Two requests go out at once, and the instrument keeps a reply with the second one's id: that reply is booked for the second
+-- request.
 use Rattle.std.proofs.Common.{◌≡◌, ℕ, true, false, List, [], ◌∷◌, ◌++◌, Option, Some, sym, ◌∙◌, ap, subst, lit<}
 use Rattle.gc_catalogue.specs.declared.call.Call.TheVariants.{NullProc}
 use Rattle.gc_client.specs.declared.window.TheConstants.{WINDOW}
@@ -41,7 +42,8 @@ module _ (s : State) (line : List ℕ) where
   heard_is : IsFittingState s → kept_line (kept_of s) (Some 1) ≡ Some line → ends.heard line ≡ Some 1
   heard_is fits k = ap (λ (h : Handed State). ends.heard h.reply) (sym (handed_is k)) ∙ exchange.reads s 1 NullProc fits (lit< tt)
 
-  -- only one request reaches the instrument by these moves
+  -- only one request reaches the instrument by the moves `two_at_once`: before the move at which a request does, two requests are
+  -- sent and the first is lost
   only : (front later : List (Move State)) → two_at_once line ≡ front ++ OnLine Up_deliver ∷ later → front ≡ Sends 1 NullProc 9 ∷ Sends 2 NullProc 9 ∷ OnLine (Up_lose 0) ∷ []
   only [] later e = let never : ⊥ = cc in absurd never
   only (a ∷ []) later e = let never : ⊥ = cc in absurd never

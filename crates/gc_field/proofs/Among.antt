@@ -27,6 +27,7 @@ among_settled [] ps n x line got answered = absurd (never ps n got) where
   never (p ∷ ps) zero e = lost_not p (some_same (lost p) x e)
   never (p ∷ ps) (suc n) e = never ps n e
 
+-- true isn't false
 pub true_is_not : true ≡ false → ⊥
 true_is_not e = cc
 
@@ -46,7 +47,7 @@ among_late [] ps n x got late = absurd (never ps n got) where
   never (p ∷ ps) zero e = lost_not p (some_same (lost p) x e)
   never (p ∷ ps) (suc n) e = never ps n e
 
--- the request whose question is at a place is at that place
+-- where `a` is what request n asks for, there is a request n that asks for it
 pub asked_at : (rs : List Sent) (n : ℕ) (a : Asked) → slice_get (map asked rs) n ≡ Some a → (r : Sent) × (slice_get rs n ≡ Some r) × (asked r ≡ a)
 asked_at [] n a e = cc
 asked_at (r ∷ rs) zero a e = (r, refl, same (asked r) a e) where
@@ -54,19 +55,19 @@ asked_at (r ∷ rs) zero a e = (r, refl, same (asked r) a e) where
   same x y e = cc
 asked_at (r ∷ rs) (suc n) a e = asked_at rs n a e
 
--- what holds of the records of two lists holds of those of both, one behind the other
+-- what holds of each record of two lists holds of each of the joined list
 pub all_append : (P : Record → Type 0) (xs ys : List Record) → AllByRecursion P xs → AllByRecursion P ys → AllByRecursion P (xs ++ ys)
 all_append P [] ys h g = g
 all_append P (x ∷ xs) ys h g = (h.0, all_append P xs ys h.1 g)
 
--- an element that is at place n behind the first k is at place k + n of the whole list
+-- an element that is at place n after the first k is at place k + n of the whole list
 pub get_behind : {A : Type 0} (k n j : ℕ) (xs : List A) (x : A) → j ≡ k + n → slice_get (drop k xs) n ≡ Some x → slice_get xs j ≡ Some x
 get_behind zero n j xs x e got = let same : n ≡ j = omega (arith, e) in subst (λ i. slice_get xs i ≡ Some x) same got
 get_behind (suc k) n j [] x e got = absurd (none_is_not x got)
 get_behind (suc k) n zero (y ∷ xs) x e got = absurd (omega (arith, e))
 get_behind (suc k) n (suc j) (y ∷ xs) x e got = get_behind k n j xs x (omega (arith, e)) got
 
--- an element that is at place n behind the first k is at place k + n
+-- an element that is at place n after the first k is at place k + n
 pub get_drop : {A : Type 0} (k n : ℕ) (xs : List A) (x : A) → slice_get (drop k xs) n ≡ Some x → slice_get xs (k + n) ≡ Some x
 get_drop k n xs x got = get_behind k n (k + n) xs x refl got
 

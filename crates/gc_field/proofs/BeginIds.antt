@@ -1,4 +1,5 @@
--- A beginning over a line of ids alone: the line, its two ends, what may happen, and a run.
+-- A beginning over a line of ids alone: the line, its two ends, what may happen, and a run. The *word* of a beginning is the
+-- list of the ids of its null procedures. The *beginner* asks them one after the other, each until it is answered.
 use Rattle.std.specs.Prelude.{◌≡◌, ℕ, zero, suc, ◌+◌, ◌%◌, nat_eq, Bool, true, false, List, [], ◌∷◌, ◌++◌, map, Option, Some, None}
 use Rattle.gc_client.specs.Beginning.{IsSubsequence, left_by_one}
 use Rattle.gc_world.specs.Order.{Each}
@@ -6,7 +7,8 @@ use Rattle.gc_world.specs.World.{without, doubled}
 
 -- The line.
 
--- a request under way, or a reply: its id, and whether the request (or the one for which the reply was sent) is from before this beginning
+-- a request under way, or a reply: its id, and whether the request (or the one for which the reply was sent) is from before
+-- this beginning
 pub record Sent : Type 0 where
   pub id : ℕ
   pub old : Bool
@@ -29,7 +31,7 @@ pub data Move : Type 0 where
   Reach : (replies : Bool) → Move
   -- the front reply comes
   Come : Move
-  -- the line loses an element, or repeats it directly behind itself
+  -- the line loses an element, or repeats it directly after itself
   Up_lose : (which : ℕ) → Move
   Up_repeat : (which : ℕ) → Move
   Down_lose : (which : ℕ) → Move
@@ -37,31 +39,31 @@ pub data Move : Type 0 where
   -- the instrument starts anew, whatever is under way
   Anew : Move
 
--- the ids that are left of the word once a reply with this id came: the reply answers the first of them if it has that id, and else is
--- dropped
+-- the ids that are left of the word once a reply with this id came: the reply answers the first of them if it has that id, and
+-- else is dropped
 abbrev pub heard : List ℕ → ℕ → List ℕ
 heard [] id = []
 heard (asked ∷ rest) id = left_by_one (nat_eq id asked) asked rest
 
--- the state once the beginner asked, while ids are left
+-- the state once the beginner sent the null procedure of the first id that is left, if any is (the list has those that are left)
 abbrev pub asks : Model → List ℕ → Model
 asks s [] = s
 asks s (asked ∷ rest) = record s { up = s.up ++ record { id = asked; old = false } ∷ [] }
 
--- the state once the request in front reached the instrument, which replies with the request's id: by the reply that it keeps, if that
--- has this id, and else by executing the request, whose reply it then keeps. So what it keeps has this id from now on, and what it
--- sends is for this request
+-- the state once the front request of this queue reached the instrument (true: its reply goes out; false: it is lost), which
+-- replies with the request's id: by the reply that it keeps, if that has this id, and else by executing the request, whose
+-- reply it then keeps. So what it keeps has this id from now on, and what it sends is for this request
 abbrev pub reaches : Model → Bool → List Sent → Model
 reaches s replies [] = s
 reaches s true (x ∷ rest) = record s { up = rest; down = s.down ++ x ∷ []; kept = Some x.id }
 reaches s false (x ∷ rest) = record s { up = rest; kept = Some x.id }
 
--- the state once the reply in front came
+-- the state once the front reply of this queue came
 abbrev pub comes : Model → List Sent → Model
 comes s [] = s
 comes s (x ∷ rest) = record s { down = rest; left = heard s.left x.id }
 
--- the state behind a move; one that isn't possible changes nothing
+-- the state after a move; one that isn't possible changes nothing
 abbrev pub moves : Model → Move → Model
 moves s Ask = asks s s.left
 moves s (Reach replies) = reaches s replies s.up
@@ -72,12 +74,12 @@ moves s (Down_lose k) = record s { down = without k s.down }
 moves s (Down_repeat k) = record s { down = doubled k s.down }
 moves s Anew = record s { kept = None }
 
--- the state behind these moves, in order
+-- the state after these moves, in order
 abbrev pub moved : List Move → Model → Model
 moved [] s = s
 moved (m ∷ ms) s = moved ms (moves s m)
 
--- each element and each one behind it have the relation
+-- each element and each one after it have the relation
 abbrev pub Pairs : {A : Type 0} → (A → A → Type 0) → List A → Type 0
 Pairs R [] = Unit {0}
 Pairs R (x ∷ xs) = Each (R x) xs × Pairs R xs
@@ -86,10 +88,11 @@ Pairs R (x ∷ xs) = Each (R x) xs × Pairs R xs
 abbrev pub AllDiffer : List ℕ → Type 0
 AllDiffer ids = Pairs (λ i j. i ≡ j → ⊥) ids
 
+-- the ids of these requests or replies
 abbrev pub ids_of : List Sent → List ℕ
 ids_of xs = map (λ x. x.id) xs
 
--- the last id of a word; where the word is empty, this one
+-- `last z word` is the last id of the word, or z where the word is empty
 abbrev pub last : ℕ → List ℕ → ℕ
 last z [] = z
 last z (i ∷ ids) = last i ids
@@ -113,7 +116,7 @@ pub record IsClean (id : ℕ) (s : Model) : Type 0 where
 
 -- The word.
 
--- n ids from this one on, upward and round at eight: what a run that measures may have in flight
+-- n ids from i on, upward modulo 8: what a run that measures may have in flight
 abbrev pub upward : ℕ → ℕ → List ℕ
 upward i zero = []
 upward i (suc n) = i % 8 ∷ upward (i + 1) n

@@ -1,4 +1,5 @@
--- A beginning over lines of bytes is one over their ids.
+-- A beginning over lines of bytes is one over their ids: any turns of the former are some moves of the latter. `Shows` says
+-- that the state of the one over ids is that of the one over lines.
 use Rattle.std.proofs.Common.{◌≡◌, ℕ, zero, suc, ◌<◌, ◌⊎◌, inl, inr, Bool, true, false, List, [], ◌∷◌, ◌++◌, map, Option, Some, None, refl, sym, ◌∙◌, ap, subst, arith}
 use mathlib.Core.Path.{ap₂}
 use Rattle.std.specs.List.{filter_map, cons_option}
@@ -24,16 +25,19 @@ use Rattle.gc_field.proofs.BeginSound.{the_word_begins_cleanly}
 
 -- Lists.
 
+-- losing an element, and applying a function to each, come to the same in either order
 map_without : {A B : Type 0} (f : A → B) (k : ℕ) (xs : List A) → without k (map f xs) ≡ map f (without k xs)
 map_without f k [] = refl
 map_without f zero (x ∷ xs) = refl
 map_without f (suc k) (x ∷ xs) = ap (λ l. f x ∷ l) (map_without f k xs)
 
+-- repeating an element, and applying a function to each, come to the same in either order
 map_doubled : {A B : Type 0} (f : A → B) (k : ℕ) (xs : List A) → doubled k (map f xs) ≡ map f (doubled k xs)
 map_doubled f k [] = refl
 map_doubled f zero (x ∷ xs) = refl
 map_doubled f (suc k) (x ∷ xs) = ap (λ l. f x ∷ l) (map_doubled f k xs)
 
+-- where P holds of f x for each element x of a list, P holds of each element of the mapped list
 each_to_map : {A B : Type 0} (P : B → Type 0) (f : A → B) (xs : List A) → Each (λ x. P (f x)) xs → Each P (map f xs)
 each_to_map P f [] h = tt
 each_to_map P f (x ∷ xs) h = (h.0, each_to_map P f xs h.1)
@@ -57,10 +61,11 @@ mark_up x = record { id = x.line.id; old = x.old }
 abbrev mark_down : Aged (List ℕ) → Sent
 mark_down x = record { id = id_or (rule.heard x.line); old = x.old }
 
+-- the ids of the word are below 8
 word_small : IsSmall the_word
 word_small = (omega arith, (omega arith, (omega arith, (omega arith, (omega arith, (omega arith, (omega arith, (omega arith, tt))))))))
 
--- what is left of small ids is small, whether the first was answered
+-- what is left of small ids is small, whether the first was answered (b true) or not
 small_if : (b : Bool) (asked : ℕ) (rest : List ℕ) → IsSmall (asked ∷ rest) → IsSmall (left_by_one b asked rest)
 small_if true asked rest h = h.1
 small_if false asked rest h = h
@@ -70,7 +75,7 @@ small_left : (left : List ℕ) (o : Option ℕ) → IsSmall left → IsSmall (le
 small_left [] o h = tt
 small_left (asked ∷ rest) o h = small_if (is_answered (asked ∷ rest) o) asked rest h
 
--- what a line leaves of ids is what its id leaves
+-- a reply leaves of the ids of the word what the beginning over ids leaves for this reply's id, or for 8 where it has none
 same_left : (left : List ℕ) (o : Option ℕ) → IsSmall left → ids.heard left (id_or o) ≡ left_by left o
 same_left [] o h = refl
 same_left (asked ∷ rest) (Some id) h = refl
@@ -81,14 +86,14 @@ none_left : (left : List ℕ) → left_by left None ≡ left
 none_left [] = refl
 none_left (asked ∷ rest) = refl
 
--- One standing shows another.
+-- One state shows another.
 
--- a request of this beginning is a null procedure, and its id is below 8
+-- a request's id is below 8, and if the request is of this beginning, it is a null procedure
 abbrev IsKnown : Aged Request → Type 0
 IsKnown x = (x.line.id < 8) × (x.old ≡ false → x.line.call ≡ NullProc)
 
 module _ {State : Type 0} (ends : Ends State) (Good : State → Type 0) (kept : State → Option KeptReply) (is : IsAnInstrument ends Good kept) where
-  -- a beginning over lines is as this one over ids
+  -- the state p of a beginning over ids is that of the beginning over lines, s, with the ids of its lines
   pub record Shows (s : Model State) (p : ids.Model) : Type 0 where
     pub up : p.up ≡ map mark_up s.up
     pub down : p.down ≡ map mark_down s.down
@@ -138,7 +143,7 @@ module _ {State : Type 0} (ends : Ends State) (Good : State → Type 0) (kept : 
     small = small_left s.left (rule.heard line) g.small;
   }
 
-  -- what is kept behind a request has the request's id
+  -- what is kept after a request, its reply or nothing, has the request's id
   kept_behind : (k o : Option KeptReply) (id : ℕ) (line : List ℕ) (r : KeptReply) → (k ≡ None) ⊎ (k ≡ Some (record { id = id; line = line })) → k ≡ Some r → Some id ≡ Some r.id
   kept_behind k o id line r (inl none) e = absurd (none_is_not r (sym none ∙ e))
   kept_behind k o id line r (inr some) e = ap (λ (x : KeptReply). Some x.id) (some_is (record { id = id; line = line }) r (sym some ∙ e))
@@ -164,30 +169,30 @@ module _ {State : Type 0} (ends : Ends State) (Good : State → Type 0) (kept : 
         small = g.small;
       }
 
-  -- `Shows` with other requests under way
+  -- `Shows` lasts where the requests under way change alike in both
   shows_up : (s : Model State) (p : ids.Model) (up : List (Aged Request)) (ups : List Sent) → ups ≡ map mark_up up → Each IsKnown up → Shows s p → Shows (record s { up = up }) (record p { up = ups })
   shows_up s p up ups e known g = record { up = e; down = g.down; left = g.left; keeps = g.keeps; good = g.good; known = known; small = g.small }
 
-  -- `Shows` with other replies under way
+  -- `Shows` lasts where the replies under way change alike in both
   shows_down : (s : Model State) (p : ids.Model) (down : List (Aged (List ℕ))) (downs : List Sent) → downs ≡ map mark_down down → Shows s p
       → Shows (record s { down = down }) (record p { down = downs })
   shows_down s p down downs e g = record { up = g.up; down = e; left = g.left; keeps = g.keeps; good = g.good; known = g.known; small = g.small }
 
-  -- what is still kept has the id that it had
+  -- what is kept afterwards, the same as before or nothing, has the id that was noted before
   still_kept : (k after : Option KeptReply) (o : Option ℕ) → (after ≡ None) ⊎ (after ≡ k) → ((r : KeptReply) → k ≡ Some r → o ≡ Some r.id) → (r : KeptReply) → after ≡ Some r → o ≡ Some r.id
   still_kept k after o (inl none) f r e = absurd (none_is_not r (sym none ∙ e))
   still_kept k after o (inr same) f r e = f r (sym same ∙ e)
 
-  -- `Shows` with another state of the instrument that keeps the same or nothing
+  -- `Shows` lasts where the instrument's state changes, and it then keeps the same or nothing
   shows_state : (s : Model State) (p : ids.Model) (state : State) → Good state → (kept state ≡ None) ⊎ (kept state ≡ kept s.state) → Shows s p → Shows (record s { state = state }) p
   shows_state s p state good same g =
       record { up = g.up; down = g.down; left = g.left; keeps = still_kept (kept s.state) (kept state) p.kept same g.keeps; good = good; known = g.known; small = g.small }
 
-  -- a beginning over lines is as one over ids behind some moves of it
+  -- from p on, some moves over ids lead to a state that shows s
   abbrev IsShown : Model State → ids.Model → Type 0
   IsShown s p = (ms : List ids.Move) × Shows s (moved ms p)
 
-  -- any turns are some moves over the ids
+  -- any possible turns over lines come to some moves over ids
   pub shown : (ts : List (Turn State)) (s : Model State) (p : ids.Model) → AreTurns ends Good kept ts s → Shows s p → IsShown (turned ends ts s) p
   shown [] s p h g = ([], g)
   shown (Asks ∷ ts) s p h g =
@@ -235,20 +240,21 @@ module _ {State : Type 0} (ends : Ends State) (Good : State → Type 0) (kept : 
     left = the_word;
   }
 
-  -- the marks of old requests are those of the requests as old ones
+  -- to reduce requests to their ids and make these old is the same as to make the requests old and then reduce them
   up_marks : (xs : List Request) → aged (map (λ x. record { id = x.id; old = true }) xs) ≡ map mark_up (map (λ x. record { old = true; line = x }) xs)
   up_marks [] = refl
   up_marks (x ∷ xs) = ap (λ l. record { id = x.id; old = true } ∷ l) (up_marks xs)
 
-  -- the marks of old replies are those of the replies as old ones
+  -- to reduce replies to their ids and make these old is the same as to make the replies old and then reduce them
   down_marks : (xs : List (List ℕ)) → aged (map (λ x. record { id = id_or (rule.heard x); old = true }) xs) ≡ map mark_down (map (λ x. record { old = true; line = x }) xs)
   down_marks [] = refl
   down_marks (x ∷ xs) = ap (λ l. record { id = id_or (rule.heard x); old = true } ∷ l) (down_marks xs)
 
+  -- true isn't false
   true_is_not : true ≡ false → ⊥
   true_is_not e = cc
 
-  -- what is from before is known
+  -- requests from before, with ids below 8, are `IsKnown`
   known_old : (xs : List Request) → Each (λ x. x.id < 8) xs → Each IsKnown (map (λ x. record { old = true; line = x }) xs)
   known_old [] h = tt
   known_old (x ∷ xs) h = ((h.0, (λ o. absurd (true_is_not o))), known_old xs h.1)
@@ -272,7 +278,8 @@ module _ {State : Type 0} (ends : Ends State) (Good : State → Type 0) (kept : 
   ids_up [] = refl
   ids_up (x ∷ xs) = ap (λ l. x.id ∷ l) (ids_up xs)
 
-  -- a word that is in the ids of lines, the first of which has this id or none, is in the ids that these lines have
+  -- `ids` are the ids of some lines, with 8 for a line without one; `others` are the ids that these lines have. If each word that
+  -- `ids` contain is contained in `others`, the same holds with one line more in front, whose id, if any, is `o`
   of_lines : (o : Option ℕ) (word ids : List ℕ) (others : List ℕ) → IsSmall word → ((w : List ℕ) → IsSmall w → IsSubsequence w ids → IsSubsequence w others)
       → IsSubsequence word (id_or o ∷ ids) → IsSubsequence word (cons_option o others)
   of_lines o [] ids others s f h = tt
@@ -281,14 +288,15 @@ module _ {State : Type 0} (ends : Ends State) (Good : State → Type 0) (kept : 
   of_lines None (w ∷ word) ids others s f (inl h) = absurd (let low = s.0 in omega (arith, h.0, low))
   of_lines None (w ∷ word) ids others s f (inr h) = f (w ∷ word) s h
 
-  -- a word that is in the ids that these lines have is in the ids of the lines, each its own or none
+  -- the other way: if each word that `others` contain is contained in `ids`, the same holds with one line more in front, whose
+  -- id, if any, is `o`
   to_lines : (o : Option ℕ) (word ids others : List ℕ) → ((w : List ℕ) → IsSubsequence w others → IsSubsequence w ids) → IsSubsequence word (cons_option o others) → IsSubsequence word (id_or o ∷ ids)
   to_lines o [] ids others f h = tt
   to_lines (Some id) (w ∷ word) ids others f (inl h) = inl (h.0, f word h.1)
   to_lines (Some id) (w ∷ word) ids others f (inr h) = inr (f (w ∷ word) h)
   to_lines None (w ∷ word) ids others f h = inr (f (w ∷ word) h)
 
-  -- a word that is in the ids of all that is under way is in the ids that the lines have
+  -- a word that is in the ids of replies, with 8 for one without an id, and then of requests is in the ids that these have
   marked_lines : (down : List (List ℕ)) (word up ups : List ℕ) → up ≡ ups → IsSmall word
       → IsSubsequence word (ids_of (map (λ x. record { id = id_or (rule.heard x); old = true }) down) ++ up)
       → IsSubsequence word (filter_map rule.heard down ++ ups)
@@ -302,7 +310,8 @@ module _ {State : Type 0} (ends : Ends State) (Good : State → Type 0) (kept : 
       split None word h = h
       split (Some id) word h = h
 
-  -- a word that is in the ids that the lines have is in the ids of all that is under way
+  -- the other way: a word that is in the ids that replies have, and then of requests, is in their ids with 8 for a reply
+  -- without one
   lines_marked : (down : List (Aged (List ℕ))) (word up ups : List ℕ) → up ≡ ups
       → IsSubsequence word (filter_map rule.heard (map (λ x. x.line) down) ++ up) → IsSubsequence word (ids_of (map mark_down down) ++ ups)
   lines_marked [] word up ups e h = subst (IsSubsequence word) e h
@@ -333,7 +342,7 @@ module _ {State : Type 0} (ends : Ends State) (Good : State → Type 0) (kept : 
 
   -- Its end.
 
-  -- a line with the mark 7 has id 7
+  -- a line whose id, or 8 where it has none, is 7 has the id 7
   heard_seven : (o : Option ℕ) → id_or o ≡ 7 → o ≡ Some 7
   heard_seven None e = absurd (omega (arith, e))
   heard_seven (Some id) e = ap Some e
@@ -360,7 +369,7 @@ module _ {State : Type 0} (ends : Ends State) (Good : State → Type 0) (kept : 
     keeps = λ k e. c.kept k.id (g.keeps k e);
   }
 
-  -- once a beginning has begun, it has begun cleanly
+  -- a beginning that has begun has begun cleanly, unless the ids under way at its start contain the word
   pub begins_cleanly : (u : UnderWay State) (ts : List (Turn State)) → AreLines Good u → AreTurns ends Good kept ts (begins u)
       → (IsSubsequence the_word (ids_under_way u) → ⊥) → (turned ends ts (begins u)).left ≡ []
       → HasBegunCleanly kept (turned ends ts (begins u))
@@ -369,17 +378,19 @@ module _ {State : Type 0} (ends : Ends State) (Good : State → Type 0) (kept : 
       clean (turned ends ts (begins u)) (moved r.0 (begun_anew the_word (marks u))) r.1
       (the_word_begins_cleanly (begun_anew the_word (marks u)) r.0 (begins_anew (marks u) (absent_marks u the_word word_small none)) (r.1.left ∙ done))
 
-  -- what a beginning that is killed leaves are lines
+  -- what a beginning leaves, killed or not, is `AreLines`: ids below 8, and an instrument in a good state
   pub left_lines : (u : UnderWay State) (ts : List (Turn State)) → AreLines Good u → AreTurns ends Good kept ts (begins u) → AreLines Good (leaves (turned ends ts (begins u)))
   left_lines u ts lines possible =
       let r = shown ts (begins u) (begun_anew the_word (marks u)) possible (shows_begins u lines) in
       record { ids = each_to_map (λ x. x.id < 8) (λ x. x.line) (turned ends ts (begins u)).up (only (turned ends ts (begins u)).up r.1.known); good = r.1.good }
     where
+      -- requests that are `IsKnown` have ids below 8
       only : (xs : List (Aged Request)) → Each IsKnown xs → Each (λ x. x.line.id < 8) xs
       only [] h = tt
       only (x ∷ xs) h = (h.0.0, only xs h.1)
 
-  -- a front of the word that wasn't under way before a beginning isn't, with one id more, behind it
+  -- where the ids under way don't contain the front a, b, `more` of the word, those that a beginning leaves, killed or not,
+  -- don't contain that front with the next id, c
   pub left_absent : (u : UnderWay State) (ts : List (Turn State)) (a b : ℕ) (more : List ℕ) (c : ℕ) (tail : List ℕ) → the_word ≡ a ∷ b ∷ (more ++ c ∷ tail)
       → AreLines Good u → AreTurns ends Good kept ts (begins u)
       → (IsSubsequence (a ∷ b ∷ more) (ids_under_way u) → ⊥) → IsSubsequence (a ∷ b ∷ (more ++ c ∷ [])) (ids_under_way (leaves (turned ends ts (begins u)))) → ⊥

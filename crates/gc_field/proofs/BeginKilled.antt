@@ -1,4 +1,6 @@
--- Beginnings that are killed: each makes the front of the word that stands in the line longer by one id at most.
+-- Beginnings that are killed: each makes the front of the word that the ids under way contain longer by one id at most. (The
+-- word has the ids of a beginning's null procedures.) `first` has the ids under way at the start of a beginning, and `left`
+-- those of the word that aren't answered yet; old lines are from before it, own ones are its own. `IsTrying` is the invariant.
 use Rattle.std.proofs.Common.{◌≡◌, ℕ, zero, ◌⊎◌, inl, inr, Bool, true, false, List, [], ◌∷◌, ◌++◌, nat_eq, refl, sym, ◌∙◌, ap, subst, append-nil}
 use Rattle.std.proofs.lemmas.Bool.{eqb-true}
 use Rattle.gc_client.specs.Beginning.{left_by_one, IsSubsequence, the_word}
@@ -13,8 +15,8 @@ use Rattle.gc_field.proofs.BeginSound.{sound_at_start}
 
 -- The invariant of one beginning.
 
--- while only old replies answered: the ids that they answered, and behind them any that are in what is left of the old ones, were in
--- that order at the start
+-- only old replies have answered yet, with the ids `done`: each word that is in the old ids now was in `first`, and so was
+-- `done` with that word after it
 pub record IsHearing (first done : List ℕ) (line : List Sent) : Type 0 where
   pub from : Has (olds line) first
   pub heard : (word : List ℕ) → AllDiffer (done ++ word) → IsSubsequence word (olds line) → IsSubsequence (done ++ word) first
@@ -32,17 +34,17 @@ IsNear p left i = (i ≡ p) ⊎ IsAsked i left
 abbrev pub IsOver : List ℕ → List Sent → Type 0
 IsOver left line = (p : ℕ) × Each (λ x. IsOwn x × IsNear p left x.id) line
 
--- a beginning that may be killed: which ids of the word it has heard, and whether what is in flight still has old ones that may answer,
--- or is over
+-- the invariant of a beginning that may be killed: the ids `done` of the word are answered; and either only old replies have
+-- answered yet, or an own one has, and no old line is under way any more
 pub record IsTrying (z : ℕ) (word first left : List ℕ) (line : List Sent) : Type 0 where
   pub sound : IsLine z left line
   pub done : List ℕ
   pub split : word ≡ done ++ left
   pub phase : IsHearing first done line ⊎ IsOver left line
 
--- Old ones are lost or repeated.
+-- Old lines are lost or repeated.
 
--- `IsHearing` lasts where fewer old ones are in flight
+-- `IsHearing` lasts where the old lines change, and their ids contain no more words
 hearing_has : (first done : List ℕ) (line other : List Sent) → Has (olds other) (olds line) → IsHearing first done line → IsHearing first done other
 hearing_has first done line other has h =
     record {
@@ -94,9 +96,10 @@ module _ (z : ℕ) (word first : List ℕ) where
             ];
       }
 
-  -- one comes, and is the answer
+  -- a reply comes, and is the answer
 
-  -- a word that is in ids is, behind an id, in these ids behind an old one with that id
+  -- where a word v is in the ids of old lines, `id` and then v are in those of a line with that id, if it is old, and of those
+  -- lines after it
   old_stands : (b : Bool) (i id : ℕ) (ids v : List ℕ) → b ≡ true → i ≡ id → IsSubsequence v ids → IsSubsequence (id ∷ v) (old_if b i ids)
   old_stands true i id ids v o e s = inl (sym e, s)
   old_stands false i id ids v o e s = absurd (never o)
@@ -115,7 +118,7 @@ module _ (z : ℕ) (word first : List ℕ) where
   own_answers id later x rest h o e =
       (id, each_both (IsBefore x) (KeepsTheId id x) (λ y. IsOwn y × IsNear id later y.id) (λ y f g. (f o, inl (g o e))) rest h.ordered.0 h.own.1.0)
 
-  -- where a reply answers, old or own, `IsTrying` goes on
+  -- where a reply answers, old or own, still only old replies have answered, or the old lines are over
   phase_answered : (id : ℕ) (later done : List ℕ) (x : Sent) (rest : List Sent) (b : Bool) → x.old ≡ b → IsLine z (id ∷ later) (x ∷ rest) → x.id ≡ id
       → IsHearing first done (x ∷ rest) ⊎ IsOver (id ∷ later) (x ∷ rest) → IsHearing first (done ++ id ∷ []) rest ⊎ IsOver later rest
   phase_answered id later done x rest false o h e p = inr (own_answers id later x rest h o e)
@@ -126,6 +129,7 @@ module _ (z : ℕ) (word first : List ℕ) where
   trying_came : (left : List ℕ) (x : Sent) (rest : List Sent) → IsTrying z word first left (x ∷ rest) → IsTrying z word first (heard left x.id) rest
   trying_came [] x rest h = trying_lost [] zero (x ∷ rest) h
   trying_came (id ∷ later) x rest h = chosen (nat_eq x.id id) refl (line_came z (id ∷ later) x rest h.sound) where
+    -- whether the reply has the id that is asked for (`b`) or not
     chosen : (b : Bool) → nat_eq x.id id ≡ b → IsLine z (left_by_one (nat_eq x.id id) id later) rest → IsTrying z word first (left_by_one b id later) rest
     chosen true e line =
         record {
@@ -142,7 +146,8 @@ module _ (z : ℕ) (word first : List ℕ) where
 
 -- What can stand in the line meanwhile.
 
--- of two splits of a word, the front of one lies within that of the other, or goes on behind it
+-- where a word is split into `done` and `left`, and also into `front`, an id c, and `tail`: `front` is a front of `done`, or c
+-- is in `left`, after its first id
 fronts : (done left front : List ℕ) (c : ℕ) (tail : List ℕ) → done ++ left ≡ front ++ c ∷ tail
     → ((more : List ℕ) × (done ≡ front ++ more)) ⊎ ((asked : ℕ) × (more : List ℕ) × (left ≡ asked ∷ (more ++ c ∷ tail)))
 fronts [] left [] c tail e = inl ([], refl)
@@ -156,10 +161,11 @@ fronts (d ∷ done) left (a ∷ front) c tail e =
       | inr h ↦ inr h
     ]
   where
+    -- lists with equal first elements and equal rests are equal
     cons_is : (d a : ℕ) (xs ys : List ℕ) → d ≡ a → xs ≡ ys → d ∷ xs ≡ a ∷ ys
     cons_is d a xs ys e f = cc
 
--- a word isn't in ids that its last id isn't in
+-- ids that don't have the last id c of a word don't contain the word
 own_has_no : (front : List ℕ) (c : ℕ) (ids : List ℕ) → Each (λ i. c ≡ i → ⊥) ids → IsSubsequence (front ++ c ∷ []) ids → ⊥
 own_has_no front c ids h s = (each_back (λ i. c ≡ i → ⊥) front (c ∷ []) (stands_each (λ i. c ≡ i → ⊥) (front ++ c ∷ []) ids h s)).0 refl
 
@@ -168,7 +174,7 @@ each_id : (P : ℕ → Type 0) (xs : List Sent) → Each (λ x. P x.id) xs → E
 each_id P [] h = tt
 each_id P (x ∷ xs) h = (h.0, each_id P xs h.1)
 
--- a word whose last id no own one has is in the old ones
+-- a word that is in the ids of lines, and whose last id no own line has, is in the ids of the old lines
 in_old : (xs : List Sent) (front : List ℕ) (c : ℕ) → Pairs IsBefore xs → Each (λ x. IsOwn x → c ≡ x.id → ⊥) xs → IsSubsequence (front ++ c ∷ []) (ids_of xs) → IsSubsequence (front ++ c ∷ []) (olds xs)
 in_old [] front c before none s = s
 in_old (x ∷ xs) front c before none s = chosen x.old refl (λ f. in_old xs f c before.1 none.1) front s where
@@ -190,7 +196,7 @@ same_asked : (left : List ℕ) (i j : ℕ) → IsAsked i left → IsAsked j left
 same_asked [] i j a b = absurd a
 same_asked (asked ∷ later) i j a b = a ∙ sym b
 
--- three ids that differ aren't all near
+-- three ids that differ aren't all `IsNear`
 not_three : (p : ℕ) (left : List ℕ) (a b c : ℕ) → (a ≡ b → ⊥) → (a ≡ c → ⊥) → (b ≡ c → ⊥) → IsNear p left a → IsNear p left b → IsNear p left c → ⊥
 not_three p left a b c ab ac bc (inl x) (inl y) z = ab (x ∙ sym y)
 not_three p left a b c ab ac bc (inr x) (inr y) z = ab (same_asked left a b x y)
@@ -207,7 +213,8 @@ over_short p left word line a b c d h s =
     (each_id (IsNear p left) line (each_more (λ x. IsOwn x × IsNear p left x.id) (λ x. IsNear p left x.id) (λ x g. g.1) line h)) s in
     not_three p left a b c d.0.0 d.0.1.0 d.1.0.0 near.0 near.1.0 near.1.1.0
 
--- a front of at least two ids of the word that wasn't in the ids at the start isn't in them later with one id more
+-- where the ids at the start didn't contain the front a, b, `more` of the word, the ids under way later don't contain that
+-- front with the next id, c
 no_longer : (z : ℕ) (word first left : List ℕ) (line : List Sent) (a b : ℕ) (more : List ℕ) (c : ℕ) (tail : List ℕ) → word ≡ a ∷ b ∷ (more ++ c ∷ tail) → AllDiffer word
     → (IsSubsequence (a ∷ b ∷ more) first → ⊥) → IsTrying z word first left line → IsSubsequence (a ∷ b ∷ (more ++ c ∷ [])) (ids_of line) → ⊥
 no_longer z word first left line a b more c tail e d none h s =
@@ -224,17 +231,21 @@ no_longer z word first left line a b more c tail e d none h s =
     front : List ℕ
     front = a ∷ b ∷ (more ++ c ∷ [])
 
+    -- no id is among the answered ones twice
     done_differs : AllDiffer h.done
     done_differs = pairs_front (λ i j. i ≡ j → ⊥) h.done left (subst AllDiffer h.split d)
 
+    -- no id is in the front with c twice
     front_differs : AllDiffer (a ∷ b ∷ (more ++ c ∷ []))
     front_differs = pairs_front (λ i j. i ≡ j → ⊥) (a ∷ b ∷ (more ++ c ∷ [])) tail (subst AllDiffer (e ∙ sym (ap (λ l. a ∷ b ∷ l) (goes_over more c tail))) d)
 
+    -- where c isn't answered yet, and isn't the first id left, no own line has it
     own_none : (asked : ℕ) (between : List ℕ) → left ≡ asked ∷ (between ++ c ∷ tail) → Each (λ x. IsOwn x → c ≡ x.id → ⊥) line
     own_none asked between f =
         each_more (HasNone (between ++ c ∷ tail)) (λ x. IsOwn x → c ≡ x.id → ⊥) (λ x g o. (each_back (λ i. i ≡ x.id → ⊥) between (c ∷ tail) (g o)).0) line
         (subst (λ l. AreOwn z l line) f h.sound.own).0
 
+    -- the front with c has a third id, so it isn't in the ids of lines that have two ids at most
     third : (more : List ℕ) → AllDiffer (a ∷ b ∷ (more ++ c ∷ [])) → IsSubsequence (a ∷ b ∷ (more ++ c ∷ [])) (ids_of line) → (p : ℕ) → Each (λ x. IsOwn x × IsNear p left x.id) line → ⊥
     third [] d s p g = over_short p left [] line a b c d g s
     third (m ∷ more) d s p g = over_short p left (more ++ c ∷ []) line a b m d g s
@@ -256,10 +267,11 @@ ids_append : (xs ys : List Sent) → ids_of (xs ++ ys) ≡ ids_of xs ++ ids_of y
 ids_append [] ys = refl
 ids_append (x ∷ xs) ys = ap (λ l. x.id ∷ l) (ids_append xs ys)
 
+-- the ids under way, those of replies first
 abbrev pub under_way : Model → List ℕ
 under_way s = ids_of s.down ++ ids_of s.up
 
--- the ids under way are those that were, where a beginning begins
+-- where a beginning begins anew, the ids under way stay the same
 ids_anew : (s : Model) → under_way (begun_anew the_word s) ≡ under_way s
 ids_anew s = ap (λ l. l ++ ids_of (aged s.up)) (ids_aged s.down) ∙ ap (λ l. ids_of s.down ++ l) (ids_aged s.up)
 
@@ -278,8 +290,8 @@ trying_at_start s h =
       phase = inl (record { from = λ v d g. subst (λ ids. IsSubsequence v ids) same g; heard = λ v d g. subst (λ ids. IsSubsequence v ids) same g });
     }
 
--- a front of at least two ids of the word that isn't in the ids under way isn't in them, with one id more, behind a beginning that is
--- killed anywhere
+-- where the ids under way don't contain the front a, b, `more` of the word, those after a beginning that is killed anywhere
+-- don't contain that front with the next id, c
 pub behind_one : (s : Model) (ms : List Move) (a b : ℕ) (more : List ℕ) (c : ℕ) (tail : List ℕ) → the_word ≡ a ∷ b ∷ (more ++ c ∷ tail)
     → (IsSubsequence (a ∷ b ∷ more) (under_way s) → ⊥) → IsSubsequence (a ∷ b ∷ (more ++ c ∷ [])) (under_way (moved ms (begun_anew the_word s))) → ⊥
 behind_one s ms a b more c tail e none h =

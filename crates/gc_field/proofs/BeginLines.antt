@@ -1,4 +1,6 @@
--- The whole line, replies first: what holds of it from the beginning on, whatever it loses or repeats, and whatever comes.
+-- The whole line, replies first: what holds of it from the beginning on, whatever it loses or repeats, and whatever comes. A
+-- line, be it a request or a reply, is old where it is from before this beginning, and else own. `left` has the ids of the word
+-- that aren't answered yet, and z is the word's last id. `IsLine` is the invariant.
 use Rattle.std.proofs.Common.{◌≡◌, ℕ, zero, suc, inl, Bool, true, false, List, [], ◌∷◌, ◌++◌, nat_eq, refl, sym, ◌∙◌, ap, subst}
 use Rattle.std.proofs.lemmas.Bool.{eqb-true}
 use Rattle.gc_client.specs.Beginning.{left_by_one, IsSubsequence}
@@ -10,114 +12,115 @@ use Rattle.gc_field.proofs.BeginWords.{Has, has_behind, has_twice, stands_more, 
 
 -- The invariant.
 
--- this is from before the beginning
+-- this line is from before the beginning
 abbrev pub IsOld : Sent → Type 0
 IsOld x = x.old ≡ true
 
--- this is of the beginning
+-- this line is of the beginning
 abbrev pub IsOwn : Sent → Type 0
 IsOwn x = x.old ≡ false
 
--- these ids, with the first one in front if it is of an old one
+-- these ids, with i in front if that is the id of an old line (true)
 abbrev pub old_if : Bool → ℕ → List ℕ → List ℕ
 old_if true i ids = i ∷ ids
 old_if false i ids = ids
 
--- the ids of the old ones
+-- the ids of the old lines
 abbrev pub olds : List Sent → List ℕ
 olds [] = []
 olds (x ∷ xs) = old_if x.old x.id (olds xs)
 
--- behind an own one there are only own ones
+-- if x is own, so is y, which is after it
 abbrev pub IsBefore : Sent → Sent → Type 0
 IsBefore x y = IsOwn x → IsOwn y
 
--- if this is an own one, it has none of these ids
+-- if x is own, it has none of these ids
 abbrev pub HasNone : List ℕ → Sent → Type 0
 HasNone ids x = IsOwn x → Each (λ i. i ≡ x.id → ⊥) ids
 
--- behind an own one with this id there are only such
+-- if x is own and has the id `asked`, y, which is after it, has that id, too
 abbrev pub KeepsTheId : ℕ → Sent → Sent → Type 0
 KeepsTheId asked x y = IsOwn x → x.id ≡ asked → y.id ≡ asked
 
--- the own ones: none has an id that is left behind the first; behind one with the first that is left there are only such; and once all
--- are answered, each has the last one
+-- what holds of the own lines. Where no id is left, each has the last id of the word. Else none has one of the ids `later`, and
+-- after a line with the id `asked` each line has that id
 abbrev pub AreOwn : ℕ → List ℕ → List Sent → Type 0
 AreOwn z [] line = Each (λ x. IsOwn x → x.id ≡ z) line
 AreOwn z (asked ∷ later) line = Each (HasNone later) line × Pairs (KeepsTheId asked) line
 
--- what holds of all that is under way, replies first, where these ids are left of a word whose last id is z
+-- the invariant of all that is under way, replies first
 pub record IsLine (z : ℕ) (left : List ℕ) (line : List Sent) : Type 0 where
   pub differ : AllDiffer left
   pub ends : last z left ≡ z
   pub ordered : Pairs IsBefore line
-  -- what is left stands in the old ones only if there are none, and it has begun
+  -- the ids of the old lines contain the ids left only where no id is left, and then there is no old line
   pub clear : IsSubsequence left (olds line) → olds line ≡ []
   pub own : AreOwn z left line
 
--- The ids of the old ones.
+-- The ids of the old lines.
 
+-- true isn't false
 neither : true ≡ false → ⊥
 neither e = cc
 
--- an own one in front adds no id of an old one
+-- where the front line is own, and those after it have no old ids, there are no old ids
 none_if : (b : Bool) (i : ℕ) (ids : List ℕ) → b ≡ false → ids ≡ [] → old_if b i ids ≡ []
 none_if true i ids e f = absurd (neither e)
 none_if false i ids e f = f
 
--- where no id of an old one is there, the first is an own one, and the others have none
+-- where there are no old ids, the front line is own, and those after it have no old ids
 own_if : (b : Bool) (i : ℕ) (ids : List ℕ) → old_if b i ids ≡ [] → (b ≡ false) × (ids ≡ [])
 own_if true i ids e = absurd (not_over i ids e)
 own_if false i ids e = (refl, e)
 
--- own ones alone have no ids of old ones
+-- own lines have no old ids
 pub olds_none : (xs : List Sent) → Each IsOwn xs → olds xs ≡ []
 olds_none [] h = refl
 olds_none (x ∷ xs) h = none_if x.old x.id (olds xs) h.0 (olds_none xs h.1)
 
--- where there are no ids of old ones, all are own ones
+-- where there are no old ids, each line is own
 pub each_own : (xs : List Sent) → olds xs ≡ [] → Each IsOwn xs
 each_own [] e = tt
 each_own (x ∷ xs) e = let h = own_if x.old x.id (olds xs) e in (h.0, each_own xs h.1)
 
--- an old one in front adds its id
+-- where the front line is old, the old ids are its id and those of the lines after it
 all_if : (b : Bool) (i : ℕ) (ids others : List ℕ) → b ≡ true → ids ≡ others → old_if b i ids ≡ i ∷ others
 all_if true i ids others e f = ap (λ l. i ∷ l) f
 all_if false i ids others e f = absurd (never e)
 
--- where all are old, the ids of old ones are those of all
+-- where all lines are old, the old ids are those of all lines
 pub olds_all : (xs ys : List Sent) → Each IsOld xs → Each IsOld ys → olds (xs ++ ys) ≡ ids_of xs ++ ids_of ys
 olds_all [] [] h g = refl
 olds_all [] (y ∷ ys) h g = all_if y.old y.id (olds ys) (ids_of ys) g.0 (olds_all [] ys tt g.1)
 olds_all (x ∷ xs) ys h g = all_if x.old x.id (olds (xs ++ ys)) (ids_of xs ++ ids_of ys) h.0 (olds_all xs ys h.1 g)
 
--- an own one more adds no id of an old one
+-- an own line at the end adds no old id
 pub olds_push : (i : ℕ) (xs : List Sent) → olds (xs ++ record { id = i; old = false } ∷ []) ≡ olds xs
 olds_push i [] = refl
 olds_push i (x ∷ xs) = ap (λ l. old_if x.old x.id l) (olds_push i xs)
 
--- `Has` lasts where the same one is put in front of both lists, old or own
+-- `Has` lasts where the same line, old or own, is put in front of both
 has_if : (b : Bool) (i : ℕ) (ids others : List ℕ) → Has ids others → Has (old_if b i ids) (old_if b i others)
 has_if true i ids others h = has_behind i ids others h
 has_if false i ids others h = h
 
--- no more words are in ids without a first one, old or own
+-- without its front line, old or own, the line has no more words in its old ids
 has_less_if : (b : Bool) (i : ℕ) (ids : List ℕ) → Has ids (old_if b i ids)
 has_less_if true i ids = λ word d h. stands_more word ids i h
 has_less_if false i ids = λ word d h. h
 
--- where a first one comes twice, old or own, no more words are in the ids
+-- where the front line, old or own, comes twice, no more words without an id twice are in the old ids
 has_twice_if : (b : Bool) (i : ℕ) (ids : List ℕ) → Has (old_if b i (old_if b i ids)) (old_if b i ids)
 has_twice_if true i ids = has_twice i ids
 has_twice_if false i ids = λ word d h. h
 
--- where a line is lost, no more words are in the old ones
+-- where a line is lost, no more words without an id twice are in the old ids
 pub has_without : (k : ℕ) (line : List Sent) → Has (olds (without k line)) (olds line)
 has_without k [] = λ word d h. h
 has_without zero (x ∷ xs) = has_less_if x.old x.id (olds xs)
 has_without (suc k) (x ∷ xs) = has_if x.old x.id (olds (without k xs)) (olds xs) (has_without k xs)
 
--- where a line comes twice, no more words without an id twice are in the old ones
+-- where a line comes twice, no more words without an id twice are in the old ids
 pub has_doubled : (k : ℕ) (line : List Sent) → Has (olds (doubled k line)) (olds line)
 has_doubled k [] = λ word d h. h
 has_doubled zero (x ∷ xs) = has_twice_if x.old x.id (olds xs)
@@ -174,9 +177,10 @@ line_asked z asked later line h =
       );
     }
 
--- The front one comes.
+-- The front reply comes.
 
--- an old reply can't answer, if the ids that are left, with its own in front, aren't in the old ones
+-- where `asked` and then the word aren't in the old ids, the front line isn't old with the id `asked` while the word is in the
+-- old ids after it
 no_old : (b : Bool) (i asked : ℕ) (ids word : List ℕ) → b ≡ true → i ≡ asked → (IsSubsequence (asked ∷ word) (old_if b i ids) → old_if b i ids ≡ []) → IsSubsequence word ids → ⊥
 no_old true i asked ids word o e f s = not_over i ids (f (inl (sym e, s)))
 no_old false i asked ids word o e f s = never o
@@ -188,7 +192,7 @@ is_own z asked x rest h e = chosen x.old refl where
   chosen true o = absurd (no_old x.old x.id asked (olds rest) [] o e h.clear tt)
   chosen false o = o
 
--- the last id of a word is that of what is left of it
+-- where z is the last id of a word, it is also that of the word without its first id, if any id is left
 ends_behind : (z asked : ℕ) (later : List ℕ) → last asked later ≡ z → last z later ≡ z
 ends_behind z asked [] e = refl
 ends_behind z asked (i ∷ later) e = e
@@ -202,7 +206,7 @@ own_answered z asked (i ∷ later) x rest h e = (
   pairs_of_each (HasNone (i ∷ later)) (KeepsTheId i) (λ y w f o g. absurd ((f o).0 (sym g))) rest h.own.0.1,
 )
 
--- the ids that are left aren't in the old ones, once a reply answered
+-- once a reply answered, the ids that are left then are in the old ids only where there is no old line
 clear_answered : (z asked : ℕ) (later : List ℕ) (x : Sent) (rest : List Sent) → IsLine z (asked ∷ later) (x ∷ rest) → x.id ≡ asked → IsSubsequence later (olds rest) → olds rest ≡ []
 clear_answered z asked later x rest h e s = chosen x.old refl where
   chosen : (b : Bool) → x.old ≡ b → olds rest ≡ []

@@ -1,87 +1,101 @@
--- What holds of each element, and of each two, when one is lost, comes twice, or comes at the end; and where a queue's element stands in
--- the whole line.
+-- What holds of each element, and of each two, when one is lost, comes twice, or comes at the end; and where a queue's element
+-- stands in the whole line. `Pairs R` says R of each element and each one after it; `without k` is the loss of element k, and
+-- `doubled k` its repeat.
 use Rattle.std.proofs.Common.{◌≡◌, ℕ, zero, suc, ◌⊎◌, inl, inr, List, [], ◌∷◌, ◌++◌, refl, ap}
 use Rattle.gc_field.proofs.BeginIds.{Pairs}
 use Rattle.gc_world.specs.Order.{Each}
 use Rattle.gc_world.specs.World.{without, doubled}
 
 module _ {A : Type 0} where
+  -- where P implies Q, and each element has P, each has Q
   pub each_more : (P Q : A → Type 0) → ((x : A) → P x → Q x) → (xs : List A) → Each P xs → Each Q xs
   each_more P Q f [] h = tt
   each_more P Q f (x ∷ xs) h = (f x h.0, each_more P Q f xs h.1)
 
+  -- what each element of two lists has, each of the joined list has
   pub each_append : (P : A → Type 0) (xs ys : List A) → Each P xs → Each P ys → Each P (xs ++ ys)
   each_append P [] ys h g = g
   each_append P (x ∷ xs) ys h g = (h.0, each_append P xs ys h.1 g)
 
+  -- what each element of a joined list has, each of its front has
   pub each_front : (P : A → Type 0) (xs ys : List A) → Each P (xs ++ ys) → Each P xs
   each_front P [] ys h = tt
   each_front P (x ∷ xs) ys h = (h.0, each_front P xs ys h.1)
 
+  -- what each element of a joined list has, each of its back has
   pub each_back : (P : A → Type 0) (xs ys : List A) → Each P (xs ++ ys) → Each P ys
   each_back P [] ys h = h
   each_back P (x ∷ xs) ys h = each_back P xs ys h.1
 
+  -- what each element has, each has once one is lost
   pub each_without : (P : A → Type 0) (k : ℕ) (xs : List A) → Each P xs → Each P (without k xs)
   each_without P k [] h = tt
   each_without P zero (x ∷ xs) h = h.1
   each_without P (suc k) (x ∷ xs) h = (h.0, each_without P k xs h.1)
 
+  -- what each element has, each has once one is repeated
   pub each_doubled : (P : A → Type 0) (k : ℕ) (xs : List A) → Each P xs → Each P (doubled k xs)
   each_doubled P k [] h = tt
   each_doubled P zero (x ∷ xs) h = (h.0, (h.0, h.1))
   each_doubled P (suc k) (x ∷ xs) h = (h.0, each_doubled P k xs h.1)
 
+  -- where P and Q imply R, and each element has both, each has R
   pub each_both : (P Q R : A → Type 0) → ((x : A) → P x → Q x → R x) → (xs : List A) → Each P xs → Each Q xs → Each R xs
   each_both P Q R f [] h g = tt
   each_both P Q R f (x ∷ xs) h g = (f x h.0 g.0, each_both P Q R f xs h.1 g.1)
 
+  -- `Pairs` lasts where an element is lost
   pub pairs_without : (R : A → A → Type 0) (k : ℕ) (xs : List A) → Pairs R xs → Pairs R (without k xs)
   pairs_without R k [] h = tt
   pairs_without R zero (x ∷ xs) h = h.1
   pairs_without R (suc k) (x ∷ xs) h = (each_without (R x) k xs h.0, pairs_without R k xs h.1)
 
+  -- `Pairs` lasts where an element is repeated, if R holds of each element and itself
   pub pairs_doubled : (R : A → A → Type 0) → ((x : A) → R x x) → (k : ℕ) (xs : List A) → Pairs R xs → Pairs R (doubled k xs)
   pairs_doubled R same k [] h = tt
   pairs_doubled R same zero (x ∷ xs) h = ((same x, h.0), (h.0, h.1))
   pairs_doubled R same (suc k) (x ∷ xs) h = (each_doubled (R x) k xs h.0, pairs_doubled R same k xs h.1)
 
+  -- `Pairs` lasts where an element is added at the end to which every one has the relation
   pub pairs_push : (R : A → A → Type 0) (y : A) → ((x : A) → R x y) → (xs : List A) → Pairs R xs → Pairs R (xs ++ y ∷ [])
   pairs_push R y f [] h = (tt, tt)
   pairs_push R y f (x ∷ xs) h = (each_append (R x) xs (y ∷ []) h.0 (f x, tt), pairs_push R y f xs h.1)
 
+  -- `Pairs` of a joined list holds of its front
   pub pairs_front : (R : A → A → Type 0) (xs ys : List A) → Pairs R (xs ++ ys) → Pairs R xs
   pairs_front R [] ys h = tt
   pairs_front R (x ∷ xs) ys h = (each_front (R x) xs ys h.0, pairs_front R xs ys h.1)
 
+  -- `Pairs` of a joined list holds of its back
   pub pairs_back : (R : A → A → Type 0) (xs ys : List A) → Pairs R (xs ++ ys) → Pairs R ys
   pairs_back R [] ys h = h
   pairs_back R (x ∷ xs) ys h = pairs_back R xs ys h.1
 
-  -- each element in front of this one has the relation to it
+  -- where `Pairs` holds, each element in front of y has the relation to y
   pub pairs_before : (R : A → A → Type 0) (xs : List A) (y : A) (ys : List A) → Pairs R (xs ++ y ∷ ys) → Each (λ x. R x y) xs
   pairs_before R [] y ys h = tt
   pairs_before R (x ∷ xs) y ys h = ((each_back (R x) xs (y ∷ ys) h.0).0, pairs_before R xs y ys h.1)
 
-  -- where all elements satisfy P, and each two that do are related, all are
+  -- where all elements satisfy P, and R holds of any two that do, `Pairs` holds
   pub pairs_of_each : (P : A → Type 0) (R : A → A → Type 0) → ((x y : A) → P x → R x y) → (xs : List A) → Each P xs → Pairs R xs
   pairs_of_each P R f [] h = tt
   pairs_of_each P R f (x ∷ xs) h = (every xs, pairs_of_each P R f xs h.1) where
+    -- x has the relation to every element
     every : (ys : List A) → Each (R x) ys
     every [] = tt
     every (y ∷ ys) = (f x y h.0, every ys)
 
-  -- what is lost from the back queue is lost from both, one behind the other
+  -- what is lost from the back queue is lost from the line, the two queues one after the other
   pub lost_back : (k : ℕ) (xs ys : List A) → (j : ℕ) × (xs ++ without k ys ≡ without j (xs ++ ys))
   lost_back k [] ys = (k, refl)
   lost_back k (x ∷ xs) ys = let h = lost_back k xs ys in (suc h.0, ap (λ l. x ∷ l) h.1)
 
-  -- what comes twice in the back queue comes twice in both
+  -- what comes twice in the back queue comes twice in the line
   pub twice_back : (k : ℕ) (xs ys : List A) → (j : ℕ) × (xs ++ doubled k ys ≡ doubled j (xs ++ ys))
   twice_back k [] ys = (k, refl)
   twice_back k (x ∷ xs) ys = let h = twice_back k xs ys in (suc h.0, ap (λ l. x ∷ l) h.1)
 
-  -- what is lost from the front queue is lost from both, or nothing is
+  -- what is lost from the front queue is lost from the line, or nothing is lost
   pub lost_front : (k : ℕ) (xs ys : List A) → (without k xs ++ ys ≡ xs ++ ys) ⊎ (without k xs ++ ys ≡ without k (xs ++ ys))
   lost_front k [] ys = inl refl
   lost_front zero (x ∷ xs) ys = inr refl
@@ -91,7 +105,7 @@ module _ {A : Type 0} where
         | inr e ↦ inr (ap (λ l. x ∷ l) e)
       ]
 
-  -- what comes twice in the front queue comes twice in both, or nothing does
+  -- what comes twice in the front queue comes twice in the line, or nothing does
   pub twice_front : (k : ℕ) (xs ys : List A) → (doubled k xs ++ ys ≡ xs ++ ys) ⊎ (doubled k xs ++ ys ≡ doubled k (xs ++ ys))
   twice_front k [] ys = inl refl
   twice_front zero (x ∷ xs) ys = inr refl
@@ -101,11 +115,12 @@ module _ {A : Type 0} where
         | inr e ↦ inr (ap (λ l. x ∷ l) e)
       ]
 
-  -- an element that goes from the front of the back queue to the end of the front one stays where it is in both
+  -- an element that goes from the front of the back queue to the end of the front queue stays at its place in the line
   pub goes_over : (xs : List A) (y : A) (ys : List A) → (xs ++ y ∷ []) ++ ys ≡ xs ++ y ∷ ys
   goes_over [] y ys = refl
   goes_over (x ∷ xs) y ys = ap (λ l. x ∷ l) (goes_over xs y ys)
 
+  -- joining lists is associative
   pub behind_both : (xs ys zs : List A) → xs ++ (ys ++ zs) ≡ (xs ++ ys) ++ zs
   behind_both [] ys zs = refl
   behind_both (x ∷ xs) ys zs = ap (λ l. x ∷ l) (behind_both xs ys zs)

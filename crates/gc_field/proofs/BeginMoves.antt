@@ -1,4 +1,5 @@
--- What lasts over the four things that happen to the whole line, replies first, lasts over each move and each run.
+-- A fact of the whole line, replies first, that lasts over the four things that can happen to the line lasts over each move of
+-- a beginning.
 use Rattle.std.proofs.Common.{◌≡◌, ℕ, zero, inl, inr, Bool, true, false, List, [], ◌∷◌, ◌++◌, refl, sym, subst}
 use Rattle.gc_field.proofs.BeginIds.{Sent, Model, Move, Ask, Reach, Come, Up_lose, Up_repeat, Down_lose, Down_repeat, Anew, heard, asks, reaches, comes, moves, moved}
 use Rattle.gc_world.specs.World.{without, doubled}

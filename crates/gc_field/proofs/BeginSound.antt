@@ -1,4 +1,5 @@
--- A whole run: the line's invariant through each move, and what the instrument keeps.
+-- A whole beginning: the invariant of its line (`IsLine`) holds through each move, and so does what is known of the id of the
+-- reply that the instrument keeps (`Keeps`). `IsSound` is both.
 use Rattle.std.proofs.Common.{◌≡◌, ℕ, Bool, true, false, List, [], ◌∷◌, ◌++◌, Option, Some, None, nat_eq, refl, sym, ◌∙◌, subst}
 use Rattle.std.proofs.lemmas.Bool.{eqb-true}
 use Rattle.gc_client.specs.Beginning.{left_by_one, IsSubsequence, the_word}
@@ -21,7 +22,8 @@ IsFor id (Some i) = i ≡ id
 abbrev pub KeepsIf : ℕ → Option ℕ → Sent → Type 0
 KeepsIf asked kept x = IsOwn x → x.id ≡ asked → IsFor asked kept
 
--- what is kept has the first id that is left, once an own reply with that is under way; and once all are answered, the last one
+-- what is known of the id `kept` of the reply that the instrument keeps, if it keeps one. Where no id of the word is left, it is z, the
+-- word's last. Else, as soon as a reply under way (`down`) is of this beginning and has the first id that is left, `asked`, it is `asked`
 abbrev pub Keeps : ℕ → List ℕ → List Sent → Option ℕ → Type 0
 Keeps z [] down kept = IsFor z kept
 Keeps z (asked ∷ later) down kept = Each (KeepsIf asked kept) down
@@ -128,7 +130,7 @@ sound_moved z (m ∷ ms) s h = sound_moved z ms (moves s m) (sound_moves z s m h
 both : (x : Sent) → IsOld x → IsOwn x → ⊥
 both x old own = never (sym own ∙ old)
 
--- the last id of a word stays the last, whatever is in front
+-- the last id of a word is the last, whichever id is named for the case that the word is empty
 last_of_last : (z : ℕ) (word : List ℕ) → last (last z word) word ≡ last z word
 last_of_last z [] = refl
 last_of_last z (i ∷ word) = refl

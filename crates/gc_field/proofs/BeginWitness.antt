@@ -1,4 +1,4 @@
--- Runs by computation.
+-- The runs of `specs/BeginWitness.antt` come out as it says, by computation.
 use Rattle.std.proofs.Common.{◌≤◌, ℕ, List, [], ◌∷◌, refl, arith, lit<}
 use Rattle.std.specs.Prelude.{codes, take, drop}
 use Rattle.std.specs.Fmt.{digits}
@@ -21,6 +21,7 @@ one_reply = record { number = 8; line = codes "%R1P,0,0:0,123456" }
 abbrev other_reply : Numbered (List ℕ)
 other_reply = record { number = 9; line = codes "%R1P,0,1:0,123456" }
 
+-- the first command's answer was made on executing its request
 was_made : WasMadeOn WINDOW ends clean next.moves 8 InstrumentNo (codes "%R1P,0,0:0,123456")
 unfolding header_at reply_at handed exec digits
 was_made =
@@ -35,6 +36,7 @@ was_made =
       reply = refl;
     }
 
+-- two runs meet the premises of the law on runs one after the other
 pub some_runs : AreSomeRuns
 unfolding header_at reply_at handed exec digits
 some_runs =
@@ -66,6 +68,7 @@ some_runs =
       made_on = was_made;
     }
 
+-- where the word is under way, a reply from before is booked
 pub from_before : IsBookedFromBefore
 unfolding header_at reply_at handed exec digits
 from_before = record { begun = refl; possible = (tt, ((7, [], refl), tt)); settled = refl; executed = refl }

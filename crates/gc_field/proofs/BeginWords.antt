@@ -1,4 +1,5 @@
--- Where a word stands in ids: not in fewer, and if no id of it stands twice, not in more that only repeat one directly behind itself.
+-- When a list of ids contains a word as a subsequence ("the word is in the ids"). Where it doesn't, it doesn't either once ids
+-- are lost; nor once an id is repeated directly after itself, if no id is in the word twice.
 use Rattle.std.proofs.Common.{◌≡◌, ℕ, zero, suc, ◌+◌, ◌-◌, ◌%◌, ◌<◌, ◌≤◌, inl, inr, Bool, true, false, List, [], ◌∷◌, ◌++◌, nat_eq, cond, refl, sym, ◌∙◌, subst, arith, map}
 use mathlib.Core.Path.{ap₂}
 use Rattle.std.proofs.lemmas.Bool.{eq-eqb, eqb-true, eqb-false}
@@ -6,20 +7,22 @@ use Rattle.gc_client.specs.Beginning.{left_by_one, IsSubsequence, the_word}
 use Rattle.gc_field.proofs.BeginIds.{heard, AllDiffer, upward}
 use Rattle.gc_world.specs.Order.{Each, Rising}
 
+-- false isn't true
 pub never : false ≡ true → ⊥
 never e = cc
 
+-- a list with an element isn't empty
 pub not_over : (i : ℕ) (ids : List ℕ) → i ∷ ids ≡ [] → ⊥
 not_over i ids e = cc
 
 -- Fewer ids, and repeats.
 
--- a word that is in ids is in these and one more in front
+-- a word that is in ids is in them with one more id in front
 pub stands_more : (word ids : List ℕ) (i : ℕ) → IsSubsequence word ids → IsSubsequence word (i ∷ ids)
 stands_more [] ids i h = tt
 stands_more (w ∷ word) ids i h = inr h
 
--- a word that is in ids is in them without its first id, too
+-- where a word is in ids, the word without its first id is in them, too
 pub stands_behind : (w : ℕ) (word ids : List ℕ) → IsSubsequence (w ∷ word) ids → IsSubsequence word ids
 stands_behind w word [] h = absurd h
 stands_behind w word (i ∷ ids) (inl h) = stands_more word ids i h.1
@@ -32,7 +35,7 @@ stands_front (w ∷ word) more [] h = absurd h
 stands_front (w ∷ word) more (i ∷ ids) (inl h) = inl (h.0, stands_front word more ids h.1)
 stands_front (w ∷ word) more (i ∷ ids) (inr h) = inr (stands_front (w ∷ word) more ids h)
 
--- what holds of each of these ids holds of each of a word that is in them
+-- what holds of each of these ids holds of each id of a word that is in them
 pub stands_each : (P : ℕ → Type 0) (word ids : List ℕ) → Each P ids → IsSubsequence word ids → Each P word
 stands_each P [] ids h s = tt
 stands_each P (w ∷ word) [] h s = absurd s
@@ -49,7 +52,7 @@ has_behind i ids others f [] d h = tt
 has_behind i ids others f (w ∷ word) d (inl h) = inl (h.0, f word d.1 h.1)
 has_behind i ids others f (w ∷ word) d (inr h) = inr (f (w ∷ word) d h)
 
--- where the first of ids comes twice, no more words without an id twice are in them
+-- repeating the first of some ids adds no word without an id twice: `Has` of the ids with i twice in front and those with i once
 pub has_twice : (i : ℕ) (ids : List ℕ) → Has (i ∷ i ∷ ids) (i ∷ ids)
 has_twice i ids [] d h = tt
 has_twice i ids (w ∷ []) d (inl h) = inl (h.0, tt)
@@ -72,16 +75,18 @@ abbrev pub are_new : List ℕ → Bool
 are_new [] = true
 are_new (i ∷ ids) = cond (is_new i ids) (are_new ids) false
 
--- where `is_new` says so of an id and others behind one more, the id differs from that one, and `is_new` says so of the others
+-- the step of `is_new` at an id j, where `rest` is its value for the ids after j, and b whether i equals j: where the whole value
+-- is true, i differs from j, and `rest` is true
 new_if : (i j : ℕ) (rest : Bool) (b : Bool) → nat_eq i j ≡ b → cond b false rest ≡ true → (i ≡ j → ⊥) × (rest ≡ true)
 new_if i j rest true t e = absurd (never e)
 new_if i j rest false t e = ((λ same. never (sym t ∙ eq-eqb i j same)), e)
 
--- an id of which `is_new` says so differs from all of the ids
+-- an id that isn't among these ids by `is_new` differs from each of them
 new_differs : (i : ℕ) (ids : List ℕ) → is_new i ids ≡ true → Each (λ j. i ≡ j → ⊥) ids
 new_differs i [] e = tt
 new_differs i (j ∷ ids) e = let h = new_if i j (is_new i ids) (nat_eq i j) refl e in (h.0, new_differs i ids h.1)
 
+-- where `cond a b false`, which is "a and b", is true, a and b are true
 both_if : (a b : Bool) → cond a b false ≡ true → (a ≡ true) × (b ≡ true)
 both_if true b e = (refl, e)
 both_if false b e = absurd (never e)
@@ -95,14 +100,15 @@ all_differ (i ∷ ids) e = let h = both_if (is_new i ids) (are_new ids) e in (ne
 pub word_differs : AllDiffer the_word
 word_differs = all_differ the_word refl
 
--- The greedy way: who hears these ids one after the other comes to the end of the word, if it stands in them.
+-- The greedy way: replies with these ids, heard one after the other, answer the whole word, if it is in them.
 
--- what is left of a word behind replies with these ids
+-- what is left of a word after replies with these ids, of which each answers the first id that is left, or is dropped
 abbrev pub hears : List ℕ → List ℕ → List ℕ
 hears word [] = word
 hears word (i ∷ ids) = hears (heard word i) ids
 
--- replies answer a word behind a first id that one of them has
+-- the step of the next lemma: where replies with these ids answer each word that the ids contain, a reply with id i in front of
+-- them, followed by them, answers the word `w ∷ word` if `i ∷ ids` contain it, whether i is w (`b`) or not
 hears_next : (i w : ℕ) (ids word : List ℕ) (b : Bool) → nat_eq i w ≡ b → ((v : List ℕ) → IsSubsequence v ids → hears v ids ≡ [])
     → IsSubsequence (w ∷ word) (i ∷ ids) → hears (left_by_one b w word) ids ≡ []
 hears_next i w ids word true e f (inl h) = f word h.1
@@ -110,14 +116,14 @@ hears_next i w ids word true e f (inr h) = f word (stands_behind w word ids h)
 hears_next i w ids word false e f (inl h) = absurd (never (sym e ∙ eq-eqb i w (sym h.0)))
 hears_next i w ids word false e f (inr h) = f (w ∷ word) h
 
--- replies answer a word that is in their ids
+-- replies with these ids answer all of a word that the ids contain
 pub comes_to_end : (ids word : List ℕ) → IsSubsequence word ids → hears word ids ≡ []
 comes_to_end [] [] h = refl
 comes_to_end [] (w ∷ word) h = absurd h
 comes_to_end (i ∷ ids) [] h = comes_to_end ids [] tt
 comes_to_end (i ∷ ids) (w ∷ word) h = hears_next i w ids word (nat_eq i w) refl (comes_to_end ids) h
 
--- no row of eight ids upward has 6 5 4 in it, as computing its eight cases shows
+-- eight ids upward, from any id on, don't contain 6 5 4, as computing the eight cases shows
 three_upward : (i : ℕ) → i < 8 → IsSubsequence (6 ∷ 5 ∷ 4 ∷ []) (upward i 8) → ⊥
 three_upward zero low h = not_over _ _ (comes_to_end (upward 0 8) (6 ∷ 5 ∷ 4 ∷ []) h)
 three_upward (suc zero) low h = not_over _ _ (comes_to_end (upward 1 8) (6 ∷ 5 ∷ 4 ∷ []) h)
@@ -129,8 +135,10 @@ three_upward (suc (suc (suc (suc (suc (suc zero)))))) low h = not_over _ _ (come
 three_upward (suc (suc (suc (suc (suc (suc (suc zero))))))) low h = not_over _ _ (comes_to_end (upward 7 8) (6 ∷ 5 ∷ 4 ∷ []) h)
 three_upward (suc (suc (suc (suc (suc (suc (suc (suc i)))))))) low h = absurd (omega (arith, low))
 
--- A line of numbers that never fall has no more than the row from the least one up.
+-- Numbers that never fall, within eight consecutive ones: modulo 8 they contain no word, in which no id is twice, but those
+-- that the eight ids from the least one up contain.
 
+-- the ids of requests with these numbers
 abbrev ids_at : List ℕ → List ℕ
 ids_at ns = map (λ n. n % 8) ns
 
@@ -144,15 +152,16 @@ rising_lower : (low high : ℕ) (ns : List ℕ) → low ≤ high → Rising high
 rising_lower low high [] le h = tt
 rising_lower low high (n ∷ ns) le h = (omega (arith, le, h.0), h.1)
 
+-- where a equals b, numbers below a are below b
 each_below : (a b : ℕ) (ns : List ℕ) → a ≡ b → Each (λ m. m < a) ns → Each (λ m. m < b) ns
 each_below a b ns e h = subst (λ c. Each (λ m. m < c) ns) e h
 
--- words without an id twice that are in the ids of numbers from a on, which never fall and lie below a + k, are in the row of k ids
--- from a on
+-- each word without an id twice that is in the ids of the numbers `ns`, which never fall from a on and are below a + k, is in
+-- the k ids upward from a
 abbrev InRow : ℕ → ℕ → List ℕ → Type 0
 InRow a k ns = Rising (a + 1) ns → Each (λ m. m < a + k) ns → Has (ids_at ns) (upward a k)
 
--- `InRow` lasts where one number more is put in front: it is a, or all are above a
+-- `InRow` lasts where one number more, m, is put in front: either m is a (`b`), or all of the numbers are above a
 row_first : (a k m : ℕ) (ns : List ℕ) (b : Bool) → nat_eq m a ≡ b → InRow (a + 1) k (m ∷ ns) → InRow a (suc k) ns → InRow a (suc k) (m ∷ ns)
 row_first a k m ns true e above more h low = λ word d s.
     let same : m ≡ a = eqb-true m a e in
@@ -165,23 +174,23 @@ row_first a k m ns false e above more h low = λ word d s.
     let over : a + 1 + 1 ≤ m + 1 = omega (arith, h.0, other) in
     stands_more word (upward (a + 1) k) (a % 8) (above (over, h.1) (each_below (a + suc k) (a + 1 + k) (m ∷ ns) (omega arith) low) word d s)
 
--- `InRow` of the rows above a number gives `InRow` of those from that number on
+-- `InRow` of all numbers from a + 1 on, within k, gives `InRow` of those from a on, within k + 1
 row_more : (a k : ℕ) → ((ns : List ℕ) → InRow (a + 1) k ns) → (ns : List ℕ) → InRow a (suc k) ns
 row_more a k above [] h low = has_nothing (upward a (suc k))
 row_more a k above (m ∷ ns) h low = row_first a k m ns (nat_eq m a) refl (above (m ∷ ns)) (row_more a k above ns) h low
 
--- `InRow` holds
+-- `InRow` holds of any numbers
 in_row : (k a : ℕ) (ns : List ℕ) → InRow a k ns
 in_row zero a [] h low = has_nothing []
 in_row zero a (m ∷ ns) h low = absurd (omega (arith, h.0, low.0))
 in_row (suc k) a ns h low = row_more a k (in_row k (a + 1)) ns h low
 
--- rows from numbers that are the same modulo 8 are the same
+-- the ids upward from two numbers that are the same modulo 8 are the same
 upward_round : (n a b : ℕ) → a % 8 ≡ b % 8 → upward a n ≡ upward b n
 upward_round zero a b e = refl
 upward_round (suc n) a b e = ap₂ (λ i ids. i ∷ ids) e (upward_round n (a + 1) (b + 1) (omega (arith, e)))
 
--- the ids of a run that measures don't have 6 5 4 in them
+-- numbers that never fall, within seven from `low` on, as a run that measures has under way: modulo 8 they don't contain 6 5 4
 pub three_within : (low : ℕ) (ns : List ℕ) → 0 < low → Rising low ns → Each (λ n. n < low + 7) ns → IsSubsequence (6 ∷ 5 ∷ 4 ∷ []) (map (λ n. n % 8) ns) → ⊥
 three_within low ns some h below s =
     let a : ℕ = low - 1 in
@@ -189,6 +198,7 @@ three_within low ns some h below s =
     let row = in_row 8 a ns (subst (λ l. Rising l ns) first h) (each_below (low + 7) (a + 8) ns (omega (arith, first)) below) (6 ∷ 5 ∷ 4 ∷ []) (all_differ (6 ∷ 5 ∷ 4 ∷ []) refl) s in
     three_upward (a % 8) (omega arith) (subst (λ ids. IsSubsequence (6 ∷ 5 ∷ 4 ∷ []) ids) (upward_round 8 a (a % 8) (omega arith)) row)
 
--- the ids of a run that measures don't have the word in them
+-- numbers that never fall, within seven from `low` on, as a run that measures has under way: modulo 8 they don't contain the
+-- word
 pub none_within : (low : ℕ) (ns : List ℕ) → 0 < low → Rising low ns → Each (λ n. n < low + 7) ns → IsSubsequence the_word (map (λ n. n % 8) ns) → ⊥
 none_within low ns some h below s = three_within low ns some h below (stands_front (6 ∷ 5 ∷ 4 ∷ []) (3 ∷ 2 ∷ 1 ∷ 0 ∷ 7 ∷ []) (map (λ n. n % 8) ns) s)

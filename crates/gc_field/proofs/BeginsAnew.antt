@@ -26,16 +26,18 @@ abbrev all_turns : List part.Turn
 all_turns =
     part.Asks ∷ part.Hears first ∷ part.Hears seventh ∷ part.Asks ∷ part.Hears seventh ∷ part.Hears (codes "%R1P,0,5:0,38") ∷ asked_each (drop 1 replies)
 
--- the parts of the run: until the station begins anew, from there on, and the empty one behind the end
+-- the parts of the run: until the station begins anew, from there on, and the empty one after the end
 abbrev parts : List Part
 parts =
     part_of (asked_each begun) (seen moves) (map (λ place. (place, 15)) (0 ∷ 1 ∷ 2 ∷ 3 ∷ 4 ∷ 5 ∷ 6 ∷ []))
     ∷ one_part all_turns (seen moves_anew) ((7, 120) ∷ [])
 
+-- the parts of the run are these
 parts_are : parts_of plan commands (opening plan scope) acts ≡ parts
 unfolding is_elsewhere header_at reply_at digits
 parts_are = refl
 
+-- what the line does while the station begins at first shows these turns
 shown_are : shown counting eight (begins before) ≡ asked_each begun
 unfolding is_elsewhere header_at reply_at digits
 shown_are = refl
@@ -60,11 +62,12 @@ anew_runs =
     (tt, (refl, (tt, (tt, (tt, (refl, (tt, (tt, (tt, tt)))))))))
     (refl, (tt, (tt, (refl, (tt, (tt, (refl, (tt, (tt, (refl, (tt, (tt, (refl, (tt, (tt, (refl, (tt, (tt, (refl, (tt, (tt, (refl, tt))))))))))))))))))))))
 
+-- after the acts until seven requests are given up, the next act is one at which the station begins anew
 begins_anew : IsAnew plan commands scope given_up (Told (at 115))
 unfolding is_elsewhere header_at reply_at digits
 begins_anew = record { renews = refl; moment = at 115; told = refl; seven = refl; given_up = refl; word = refl; client = refl }
 
--- the answer was made on executing the last command's request, the client's first one behind the new beginning
+-- the answer was made on executing the last command's request, the client's first one after the new beginning
 was_made : WasMadeOn WINDOW counting from moves_anew 8 InstrumentNo answer
 unfolding is_elsewhere header_at reply_at digits
 was_made = record { front = take 2 moves_anew; later = drop 3 moves_anew; split = refl; id = 0; rest = []; reaches = refl; executed = refl; reply = refl }

@@ -1,4 +1,5 @@
--- Behind a beginning that has begun cleanly: the eight null procedures are requests that were settled, and what is under way is of the last.
+-- After a clean beginning any possible moves are faithful. The eight null procedures count as requests 0 to 7, which are
+-- settled, and what is under way belongs to the last of them.
 use Rattle.std.proofs.Common.{◌≡◌, ℕ, ◌+◌, ◌<◌, ◌≤◌, inl, List, [], ◌∷◌, ◌++◌, map, Option, Some, None, refl, sym, ◌∙◌, ap, subst, arith, append_assoc}
 use Rattle.std.specs.Prelude.{slice_get}
 use Rattle.gc_catalogue.specs.declared.call.Call.{Call}
@@ -28,7 +29,7 @@ use Rattle.gc_field.proofs.Possible.{possible_front}
 use Rattle.gc_field.proofs.Seen.{same_all}
 use Rattle.gc_field.proofs.Vouched.{KeptIs, True, Vouched}
 
--- The course of a client, behind what was sent and settled before.
+-- The course of a client, after what was sent and settled before.
 
 -- course x is course y, with these requests and these settlements in front
 record Behind (before : List Asked) (old : List Settlement) (x y : Course) : Type 0 where
@@ -68,7 +69,7 @@ behind_all width before old (step ∷ steps) x y h = behind_all width before old
 abbrev begun_course : Course
 begun_course = record { sent = map of_sent nulls; settlements = nulls_settled; client = fresh }
 
--- the course of a client behind a beginning is that of a new client, with the null procedures in front
+-- `begun_course` is the course `begun` of a new client, with the null procedures in front
 begun_behind : Behind (map of_sent nulls) nulls_settled begun_course begun
 begun_behind = record { sent = refl; settled = refl; client = refl }
 
@@ -84,7 +85,7 @@ module _ {Line : Type 0} where
   rising_up [] = tt
   rising_up (x ∷ xs) = (omega arith, rising_up xs)
 
-  -- what holds of each line, with that number, holds of all of them
+  -- where Q of a line gives P of the line with the number 7, and each line has Q, each has P with that number
   pub each_last : (P : Numbered Line → Type 0) (Q : Line → Type 0) → ((x : Line) → Q x → P (record { number = 7; line = x })) → (xs : List Line) → Each Q xs → Each P (of_last xs)
   each_last P Q f [] h = tt
   each_last P Q f (x ∷ xs) h = (f x h.0, each_last P Q f xs h.1)
@@ -95,6 +96,7 @@ rising_both [] ys = rising_up ys
 rising_both (x ∷ xs) ys = (omega arith, rising_both xs ys)
 
 module _ {State : Type 0} (ends : Ends State) (Good : State → Type 0) (kept : State → Option KeptReply) (keeper : IsAnInstrument ends Good kept) (width : ℕ) (narrow : width ≤ 7) where
+  -- what the proofs of the world ask of an instrument, which this one meets
   abbrev pub ex : IsExchange ends Good
   ex = exchange_of ends Good kept keeper
 
@@ -106,7 +108,7 @@ module _ {State : Type 0} (ends : Ends State) (Good : State → Type 0) (kept : 
       sym one.sent ∙ (behind_all width (map of_sent nulls) nulls_settled (seen ms) begun_course begun begun_behind).sent
 
   module _ (u : UnderWay State) (clean : IsClean Good kept u) where
-    -- what the world of numbers keeps holds behind a clean beginning
+    -- after a clean beginning the world of the client that is given numbers is `Sound`
     sound_begun : Sound width ends Good (numbers_begun u)
     sound_begun =
         let within : 8 ≤ 8 = omega arith in
@@ -124,17 +126,17 @@ module _ {State : Type 0} (ends : Ends State) (Good : State → Type 0) (kept : 
           coming = each_last (IsComing width ends Good 0 8) (λ line. heard line ≡ Some 7) (λ x e. record { recent = omega arith; sent = omega arith; id = keeper.hears x ∙ e }) u.down clean.down;
         }
 
-    -- the two worlds agree behind a clean beginning
+    -- after a clean beginning the world of the client that knows ids and that of the client that is given numbers agree
     pub both_begun : Both width narrow ends Good ex kept (ids_begun u) (numbers_begun u)
     both_begun = record { agree = record { wire = refl; client = record { window = refl; next = refl } }; sound = sound_begun }
 
     module _ (M : ℕ → Call → List ℕ → Type 0) where
-      -- what the instrument keeps behind a clean beginning is of the eighth null procedure
+      -- after a clean beginning, what the instrument keeps, if anything, is the reply to the eighth null procedure
       kept_begun : (k : Option KeptReply) → kept u.state ≡ k → KeptIs width narrow ends Good ex kept keeper 8 M (Vouched width narrow ends Good ex kept keeper 8 M nulls [] []) 0 8 k
       kept_begun None e = tt
       kept_begun (Some k) e = (omega arith, clean.keeps k e, inl (omega arith))
 
-      -- a request that is the eighth null procedure is the last one of a beginning
+      -- the eighth null procedure is among the requests of a beginning, with the number 7
       line_is : (x : Request) → x ≡ eighth → IsOf nulls (record { number = 7; line = x })
       line_is x e = record {
         request = record { target = 0; call = NullProc; line = request_line (Some 7) NullProc };
@@ -144,10 +146,12 @@ module _ {State : Type 0} (ends : Ends State) (Good : State → Type 0) (kept : 
         text = sym (ap (λ (r : Request). request_line (Some r.id) r.call) e);
       }
 
+      -- an empty list has nothing at any place
       never : (j n : ℕ) → slice_get [] j ≡ Some n → ⊥
       never j n e = cc
 
-      -- what the laws on the world of numbers need holds behind a clean beginning
+      -- after a clean beginning the invariant `True` of `Vouched` holds of the world of the client that is given numbers: each
+      -- reply under way was made for its request
       true_begun : True width narrow ends Good ex kept keeper 8 M (numbers_begun u)
       true_begun =
           let within : 8 ≤ 8 = omega arith in
@@ -165,7 +169,7 @@ module _ {State : Type 0} (ends : Ends State) (Good : State → Type 0) (kept : 
             once = λ keeps. record { once = λ i j m n lt run a b. absurd (never j n b); below = tt; idle = λ none. inl refl };
           }
 
-    -- each line was made on executing its request, behind these moves: the wire of the world of numbers is that of the world of ids
+    -- the reply to each request that is executed at one of these moves was made on executing it, by `WasMadeOn`
     made_here : (ms : List (Move State)) → ArePossible ends Good kept (by_ids width ends) ms (ids_begun u)
         → AreOn width narrow ends Good ex kept keeper 8 (omega arith) (λ n call line. WasMadeOn width ends u ms n call line) ms (numbers_begun u)
     made_here ms p front later e x rest q exe =
@@ -184,7 +188,7 @@ module _ {State : Type 0} (ends : Ends State) (Good : State → Type 0) (kept : 
           reply = ap (λ t. (ends.handed t x.line.id x.line.call).reply) (sym stands);
         }
 
-    -- moves behind a clean beginning are faithful
+    -- moves after a clean beginning are faithful
     pub faithful : (ms : List (Move State)) → ArePossible ends Good kept (by_ids width ends) ms (ids_begun u) → IsFaithful width ends u ms Good kept
     faithful ms p =
         let a = moved ends (by_ids width ends) ms (ids_begun u) in

@@ -1,4 +1,6 @@
--- What a client has under way, behind a beginning that has begun cleanly: numbers from the eighth null procedure on, whose ids go upward.
+-- What a client has under way after a clean beginning is an `IsRow`: requests and replies whose numbers, from the eighth null
+-- procedure's on, never fall in the order of the line, and whose ids are these numbers modulo 8. The *word* is the list of the
+-- ids of a beginning's eight null procedures: 6 down to 0, and then 7.
 use Rattle.std.proofs.Common.{◌≡◌, ℕ, ◌+◌, ◌-◌, ◌%◌, ◌<◌, ◌≤◌, Bool, true, false, List, [], ◌∷◌, ◌++◌, length, map, Option, Some, refl, sym, ◌∙◌, ap, subst, arith, ltb, eqb}
 use mathlib.Core.Path.{ap₂}
 use Rattle.std.specs.List.{filter_map, cons_option}
@@ -23,13 +25,13 @@ use Rattle.gc_field.proofs.BeginWords.{none_within, three_within}
 use Rattle.gc_field.proofs.BegunFaithful.{both_begun, ex}
 use Rattle.gc_field.proofs.Moving.{both_all}
 
--- A row has not the word, nor its first three.
+-- The ids of an `IsRow` contain neither the word nor its first three ids.
 
--- the ids of an `IsRow` don't have the word in them
+-- the ids of an `IsRow` don't contain the word as a subsequence
 pub rows_have_not : {State : Type 0} (u : UnderWay State) → IsRow u → IsSubsequence the_word (ids_under_way u) → ⊥
 rows_have_not u h s = none_within h.low h.numbers h.some h.rising h.few (subst (IsSubsequence the_word) h.ids s)
 
--- the ids of a row don't have 6 5 4 in them
+-- the ids of an `IsRow` don't contain 6, 5, 4 as a subsequence
 pub rows_have_not_three : {State : Type 0} (u : UnderWay State) → IsRow u → IsSubsequence (6 ∷ 5 ∷ 4 ∷ []) (ids_under_way u) → ⊥
 rows_have_not_three u h s = three_within h.low h.numbers h.some h.rising h.few (subst (IsSubsequence (6 ∷ 5 ∷ 4 ∷ [])) h.ids s)
 
@@ -89,6 +91,7 @@ module _ {State : Type 0} (width : ℕ) (ends : Ends State) where
 
 -- Its ids.
 
+-- the ids of requests with these numbers
 abbrev ids_at : List ℕ → List ℕ
 ids_at ns = map (λ n. n % 8) ns
 
@@ -107,7 +110,7 @@ module _ {State : Type 0} (width : ℕ) (ends : Ends State) (Good : State → Ty
       let plain : x.number - since ≡ x.number = omega (arith, e) in
       ap₂ (λ o ids. cons_option o ids) (sym (same_heard x.line) ∙ h.0.id ∙ ap (λ n. Some (n % 8)) plain) (ids_down since total xs e h.1)
 
-  -- what is under way of such a world is an `IsRow`
+  -- what is under way in a sound world whose client is `IsBased` is an `IsRow`
   row : (c : ByNumber) (w : Wire State) (narrow : width ≤ 7) → IsBased c → Sound width ends Good (record { wire = w; client = c }) → IsRow (on_line w)
   row c w narrow base s =
       let total = length c.requests in
@@ -124,7 +127,7 @@ module _ {State : Type 0} (width : ℕ) (ends : Ends State) (Good : State → Ty
       }
 
 module _ {State : Type 0} (ends : Ends State) (Good : State → Type 0) (kept : State → Option KeptReply) (is : IsAnInstrument ends Good kept) (width : ℕ) (narrow : width ≤ 7) where
-  -- what is under way behind possible moves of a clean beginning is an `IsRow`
+  -- what is under way after possible moves of a clean beginning is an `IsRow`
   pub runs_leave_rows : (u : UnderWay State) → IsClean Good kept u → (ms : List (Move State))
       → ArePossible ends Good kept (by_ids width ends) ms (ids_begun u) → IsRow (on_line (behind width ends u ms).wire)
   runs_leave_rows u clean ms p =
@@ -142,6 +145,7 @@ module _ {State : Type 0} (ends : Ends State) (Good : State → Type 0) (kept : 
       subst (λ (w : Wire State). Good w.state × Each (λ x. x.id < 8) (map (λ x. x.line) w.up)) (sym both.agree.wire)
       (both.sound.good, small _ _ (moved ends (by_numbers width) ms (numbers_begun u)).wire.up both.sound.going)
     where
+      -- requests under way in a sound world have ids below 8
       small : (since total : ℕ) (xs : List (Numbered Request)) → Each (IsGoing since total) xs → Each (λ x. x.id < 8) (map (λ x. x.line) xs)
       small since total [] h = tt
       small since total (x ∷ xs) h = ((let id = h.0.id in omega (arith, id)), small since total xs h.1)

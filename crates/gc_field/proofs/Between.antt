@@ -1,4 +1,6 @@
--- What is executed between two moves of a stretch, and what it makes of the instrument.
+-- What is executed between two moves of a stretch, and what it makes of the instrument. A *stretch* is a run once it has begun:
+-- what is under way then, and its moves. `Did` says of two wires, an earlier and a later one, what was executed between them;
+-- `Goes` says it, too, and that the later wire is in order (`Refines`) as the earlier one was.
 use Rattle.std.proofs.Common.{◌≡◌, ℕ, ◌+◌, ◌≤◌, Bool, true, false, cond, List, [], ◌∷◌, ◌++◌, length, Option, Some, None, refl, sym, ◌∙◌, ap, subst, arith, append_assoc, append-nil, ltb}
 use Rattle.std.specs.Prelude.{slice_get}
 use Rattle.std.proofs.lemmas.List.{length-append}
@@ -21,13 +23,13 @@ use Rattle.gc_field.proofs.BegunFaithful.{each_last}
 
 -- What the instrument becomes.
 
--- the state behind two lists of calls is the one behind the second, from the one behind the first on
+-- two lists of calls, one after the other, make the state that the second makes of what the first makes
 executing_append : {State : Type 0} (effect : State → Call → State) (xs ys : List Call) (s : State) → executing effect s (xs ++ ys) ≡ executing effect (executing effect s xs) ys
 executing_append effect [] ys s = refl
 executing_append effect (call ∷ xs) ys s = executing_append effect xs ys (effect s call)
 
 module _ {State : Type 0} (ends : Ends State) where
-  -- two states that are alike apart from what is kept are so behind the same calls
+  -- two states that are alike apart from what is kept are still so after the same calls
   executing_alike : (apart : State → State) (effect : State → Call → State) → HasEffect ends apart effect → (calls : List Call) (s t : State)
       → apart s ≡ apart t → apart (executing effect s calls) ≡ apart (executing effect t calls)
   executing_alike apart effect has [] s t e = e
@@ -46,7 +48,7 @@ module _ {State : Type 0} (ends : Ends State) where
   made_none : (s t : State) → t ≡ s → IsMadeBy s [] t
   made_none s t e apart effect has = ap apart e
 
-  -- an executed call makes the state behind it
+  -- an executed call makes the state after it
   made_one : (s : State) (id : ℕ) (call : Call) → (ends.handed s id call).executed ≡ true → IsMadeBy s (call ∷ []) (ends.handed s id call).state
   made_one s id call e apart effect has = has.executes s id call e
 
@@ -56,7 +58,7 @@ module _ {State : Type 0} (ends : Ends State) where
 
 -- What happens from one wire to another.
 
--- the calls of requests stay where more are sent
+-- these are still the calls of the requests with these numbers when more requests are sent
 pub calls_more : (sent more : List Sent) (ns : List ℕ) (calls : List Call) → AreCalls sent ns calls → AreCalls (sent ++ more) ns calls
 calls_more sent more [] [] h = tt
 calls_more sent more [] (call ∷ calls) h = absurd h
@@ -78,7 +80,7 @@ IsKnown sent x = (r : Sent) × (slice_get sent x.number ≡ Some r) × (r.call �
 known_more : (sent more : List Sent) (x : Numbered Request) → IsKnown sent x → IsKnown (sent ++ more) x
 known_more sent more x h = (h.0, get_more sent more x.number h.0 h.1, h.2)
 
--- where each start had at most as many executions before it as there are, so it had where there are more
+-- where each start had at most as many executions before it as there are in all (`xs`), the same holds when more follow (`ys`)
 begun_more : (xs ys starts : List ℕ) → Each (λ s. s ≤ length xs) starts → Each (λ s. s ≤ length (xs ++ ys)) starts
 begun_more xs ys starts h = let size : length (xs ++ ys) ≡ length xs + length ys = length-append xs ys in
     each_more (λ s. s ≤ length xs) (λ s. s ≤ length (xs ++ ys)) (λ s l. omega (arith, l, size)) starts h
@@ -96,7 +98,8 @@ module _ {State : Type 0} (ends : Ends State) where
     pub starts : quiet → w.starts ≡ v.starts
     pub state : still → IsMadeBy ends v.state calls w.state
 
-  -- one stretch and another behind it, as one, which is quiet or undisturbed as the second is
+  -- `Did` of one interval, from u to v, and of another after it, from v to w, gives `Did` of both as one, under the premises q
+  -- and s of the second, where these imply the premises p and r of the first
   did_both : (u v w : Wire State) (q p s r : Type 0) → (q → p) → (s → r) → Did u v p r → Did v w q s → Did u w q s
   did_both u v w q p s r f g h i = record {
     numbers = h.numbers ++ i.numbers;
@@ -128,7 +131,7 @@ module _ {State : Type 0} (ends : Ends State) where
   did_same v w quiet still executed sent starts state =
       did_none v w quiet still [] executed (sent ∙ sym (append-nil v.sent)) (λ q. starts) (λ s. made_none ends v.state w.state state)
 
-  -- each request under way is one that was sent, with its call; and each start had at most as many executions before it as there are
+  -- each request under way is one that was sent, with its call; and no start had more executions before it than there are in all
   pub record Refines (w : Wire State) : Type 0 where
     pub known : Each (IsKnown w.sent) w.up
     pub begun : Each (λ s. s ≤ length w.executed) w.starts
@@ -151,11 +154,11 @@ module _ {State : Type 0} (ends : Ends State) where
 
   -- the request in front reaches the instrument
   module _ (v : Wire State) (x : Numbered Request) (rest : List (Numbered Request)) (quiet still : Type 0) (q : v.up ≡ x ∷ rest) (k : Refines v) where
-    -- the request in front, and those behind it, were sent
+    -- the request in front, and those after it, were sent
     known_here : IsKnown v.sent x × Each (IsKnown v.sent) rest
     known_here = subst (λ l. Each (IsKnown v.sent) l) q k.known
 
-    -- what the instrument did with the request in front: it executed it, or sent a line again
+    -- where the instrument is handed the front request, and executes it (`b`) or sends a line again, `Goes` holds
     reached_by : (hd : Handed State) (b : Bool) → hd.executed ≡ b → (hd.executed ≡ true → IsMadeBy ends v.state (x.line.call ∷ []) hd.state)
         → (hd.executed ≡ false → IsMadeBy ends v.state [] hd.state) → Goes v (replied v x.number rest hd) quiet still
     reached_by hd true e new same =
@@ -182,7 +185,7 @@ module _ {State : Type 0} (ends : Ends State) where
           stands = record { known = known_here.1; begun = subst (λ l. Each (λ s. s ≤ length l) v.starts) (sym acted) k.begun };
         }
 
-    -- a request reached the instrument
+    -- where the front request reaches the instrument, `Goes` holds
     reached : Goes v (replied v x.number rest (ends.handed v.state x.line.id x.line.call)) quiet still
     reached =
         let hd = ends.handed v.state x.line.id x.line.call in
@@ -236,11 +239,11 @@ module _ {State : Type 0} (ends : Ends State) where
   goes_line w quiet still Restart_instrument p k = absurd p
   goes_line w quiet still Nothing p k = goes_same w.wire _ quiet still refl refl refl refl k.known k
 
-  -- where `Goes` holds over one move, and over those behind it, it holds over all
+  -- where `Goes` holds over one move, and over those after it, it holds over all
   goes_then : (u v w : Wire State) (p q r s : Type 0) → (q → p) → (s → r) → Goes u v p r → Goes v w q s → Goes u w q s
   goes_then u v w p q r s f g h i = record { did = did_both u v w q p s r f g h.did i.did; stands = i.stands }
 
-  -- where `Goes` holds over one stretch and over another behind it, with the same premises, it holds over both
+  -- where `Goes` holds over one stretch and over another after it, with the same premises, it holds over both
   goes_alike : (u v w : Wire State) (q s : Type 0) → Goes u v q s → Goes v w q s → Goes u w q s
   goes_alike u v w q s h i = goes_then u v w q q s s (λ x. x) (λ x. x) h i
 
@@ -275,7 +278,7 @@ module _ {State : Type 0} (ends : Ends State) where
   }
 
   module _ (Good : State → Type 0) (kept : State → Option KeptReply) where
-    -- what happened by moves
+    -- `Goes` holds over any possible moves, quiet where the instrument doesn't start, and still where it isn't disturbed
     goes_all : (ms : List (Move State)) (w : World ById State) → ArePossible ends Good kept (by_ids 7 ends) ms w → Refines w.wire
         → Goes w.wire (moved ends (by_ids 7 ends) ms w).wire (HasNoStartBetween ms) (IsUndisturbed ms)
     goes_all [] w p k = goes_same w.wire w.wire (Unit {0}) (Unit {0}) refl refl refl refl k.known k
@@ -302,21 +305,22 @@ module _ {State : Type 0} (ends : Ends State) where
     known_last : (x : Request) → x ≡ eighth → IsKnown nulls (record { number = 7; line = x })
     known_last x e = (record { target = 0; call = NullProc; line = request_line (Some 7) NullProc }, refl, sym (ap (λ (r : Request). r.call) e))
 
-    -- behind a clean beginning the wire `Refines`
+    -- after a clean beginning the wire `Refines`
     stands_begun : (u : UnderWay State) → IsClean Good kept u → Refines (ids_begun u).wire
     stands_begun u clean = record { known = each_last (IsKnown nulls) (λ x. x ≡ eighth) known_last u.up clean.up; begun = tt }
 
-    -- behind a clean beginning, and moves, the wire `Refines`
+    -- after a clean beginning, and moves, the wire `Refines`
     pub stands_all : (ms : List (Move State)) (u : UnderWay State) → IsClean Good kept u → ArePossible ends Good kept (by_ids 7 ends) ms (ids_begun u)
         → Refines (moved ends (by_ids 7 ends) ms (ids_begun u)).wire
     stands_all ms u clean p = (goes_all ms (ids_begun u) p (stands_begun u clean)).stands
 
-    -- what happened between two wires by moves
+    -- `Did` holds over any possible moves, quiet where the instrument doesn't start, and still where it isn't disturbed
     pub did_all : (ms : List (Move State)) (w : World ById State) → ArePossible ends Good kept (by_ids 7 ends) ms w → Refines w.wire
         → Did w.wire (moved ends (by_ids 7 ends) ms w).wire (HasNoStartBetween ms) (IsUndisturbed ms)
     did_all ms w p k = (goes_all ms w p k).did
 
-  -- the request in front is executed by this move
+  -- where the front request is executed on reaching the instrument, it is the next one executed, the state becomes what its
+  -- call makes of it, and there is no start
   pub acted : (w : World ById State) (x : Numbered Request) (rest : List (Numbered Request)) → w.wire.up ≡ x ∷ rest → (ends.handed w.wire.state x.line.id x.line.call).executed ≡ true
       → ((moves ends (by_ids 7 ends) w (OnLine Up_deliver)).wire.executed ≡ w.wire.executed ++ x.number ∷ [])
       × IsMadeBy ends w.wire.state (x.line.call ∷ []) (moves ends (by_ids 7 ends) w (OnLine Up_deliver)).wire.state

@@ -8,6 +8,7 @@ use Rattle.gc_instrument.specs.Execution.{exec}
 use Rattle.gc_instrument.specs.Replying.{handed}
 use Rattle.gc_texts.specs.Nears.{is_elsewhere}
 use Rattle.gc_texts.specs.declared.tasks.Task.{Task}
+use Rattle.gc_texts.specs.Codes.{no_codes}
 use Rattle.gc_station.specs.Links.{AreChained}
 use Rattle.gc_world.proofs.Options.{some_is}
 use Rattle.gc_field.specs.ChainWitness.{IsPointedInField, acts, before, commands, measures, moves, runs, scope}
@@ -32,7 +33,7 @@ all_chained (suc (suc (suc p))) above upto = absurd (omega (arith, upto))
 none_turns : AreStill commands 0 2
 none_turns zero task above under e = absurd (omega (arith, above))
 none_turns (suc zero) task above under e =
-    let one : Task = record { command = record { target = 7; call = measures }; deadline = 100; chained = true; near = None } in ap (λ (t : Task). turns t.command.call) (sym (some_is one task e))
+    let one : Task = record { command = record { target = 7; call = measures }; deadline = 100; chained = true; near = None; accepted = no_codes } in ap (λ (t : Task). turns t.command.call) (sym (some_is one task e))
 none_turns (suc (suc p)) task above under e = absurd (omega (arith, under))
 
 -- the run's parts: one, with the requests by place and moment
@@ -40,6 +41,7 @@ parts_are : parts_of plan commands (opening plan scope) acts ≡ one_part (asked
 unfolding is_elsewhere header_at reply_at digits rounded
 parts_are = refl
 
+-- what the line does while the station begins shows the null procedures and these replies
 shown_are : shown ends eight (begins before) ≡ asked_each replies
 unfolding is_elsewhere header_at reply_at handed exec digits rounded
 shown_are = refl

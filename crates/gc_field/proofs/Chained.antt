@@ -1,4 +1,7 @@
--- Chains in the field: the run up to a request is a run in the field, whose last stretch is a front of the whole one's.
+-- Chains in the field: the acts of a run up to a request are a run in the field, too, whose last stretch is a front of the
+-- whole run's stretch at that place. So when a chained command goes out, the answer of the command before it is settled there.
+-- A *part* is what happens in a run from one beginning to the next, as the station sees it; a *stretch* is what happens then on
+-- the line. The *marks* of a part say for which command each of its requests is, in order.
 use Rattle.std.proofs.Common.{◌≡◌, ◌⊎◌, inl, inr, ℕ, zero, suc, ◌+◌, ◌-◌, ◌<◌, ◌≤◌, ◌&&◌, Bool, true, false, if◌then◌else◌, drop, length-drop, List, [], ◌∷◌, ◌++◌, length, map, Option, Some, refl, sym, ◌∙◌, ap, subst, arith, append_assoc, ltb}
 use Rattle.std.specs.Prelude.{slice_get}
 use Rattle.std.specs.List.{AllByRecursion}
@@ -8,7 +11,7 @@ use Rattle.gc_client.specs.OneForOne as step
 use Rattle.gc_client.specs.OneForOne.{Asked}
 use Rattle.gc_client.specs.Rule.{Answered, Settlement}
 use Rattle.gc_instrument.specs.State.{KeptReply}
-use Rattle.gc_texts.specs.declared.near.Near.{Near}
+use Rattle.gc_texts.specs.declared.near.Expected.{Expected}
 use Rattle.gc_texts.specs.declared.tasks.Task.{Task}
 use Rattle.gc_station.specs.declared.plan.Plan.{Plan}
 use Rattle.gc_links.specs.Acts.{Act}
@@ -47,14 +50,15 @@ use Rattle.gc_field.proofs.Ordered.{executed_behind}
 
 -- The front of a run.
 
--- these parts are the first of those, where the last one may go on in others
+-- the parts `ps`, at least one, are the first of the parts `qs`; but the last of them may be only the front of the part at its
+-- place
 abbrev IsFront : List Part → List Part → Type 0
 IsFront [] qs = ⊥
 IsFront (p ∷ ps) [] = ⊥
 IsFront (p ∷ []) (q ∷ qs) = (more : Part) × (q ≡ joined p more)
 IsFront (p ∷ next ∷ ps) (q ∷ qs) = (q ≡ p) × IsFront (next ∷ ps) qs
 
--- three parts, one behind the other, are joined in either order
+-- of three parts in a row, the first two or the last two may be joined first
 joined_assoc : (p q r : Part) → joined (joined p q) r ≡ joined p (joined q r)
 joined_assoc p q r =
     ap (λ (turns : List part.Turn). record { turns = turns; steps = (p.steps ++ q.steps) ++ r.steps; marks = (p.marks ++ q.marks) ++ r.marks }) (append_assoc p.turns q.turns r.turns)
@@ -91,7 +95,7 @@ runs_front : (plan : Plan) (commands : List Task) (s : Model) (xs ys : List Act)
 runs_front plan commands s [] ys h = tt
 runs_front plan commands s (act ∷ xs) ys h = (h.0, runs_front plan commands (after plan commands s act) xs ys h.1)
 
--- the last part of a front is the front of a part of the whole
+-- the last part of a front of parts is the front of the part at its place in all
 front_last : (ps qs : List Part) (i : ℕ) (p q : Part) → IsFront ps qs → length ps ≡ suc i → slice_get ps i ≡ Some p → slice_get qs i ≡ Some q → (more : Part) × (q ≡ joined p more)
 front_last [] qs i p q h size e f = absurd h
 front_last (x ∷ ps) [] i p q h size e f = absurd h
@@ -100,7 +104,7 @@ front_last (x ∷ []) (y ∷ qs) (suc i) p q h size e f = absurd (omega (arith, 
 front_last (x ∷ next ∷ ps) (y ∷ qs) zero p q h size e f = absurd (omega (arith, size))
 front_last (x ∷ next ∷ ps) (y ∷ qs) (suc i) p q h size e f = front_last (next ∷ ps) qs i p q h.1 (omega (arith, size)) e f
 
--- Where a request went out in the last of them, it had begun, and no turn came behind that.
+-- Where a request went out in the last part of a front, the station had begun by then, and no turn came after that.
 
 -- if the last part of the first list has requests, its turns are those of the part at its place in the second
 abbrev AreWhole : List Part → List Part → Type 0
@@ -109,7 +113,7 @@ AreWhole (p ∷ ps) [] = ⊥
 AreWhole (p ∷ []) (q ∷ qs) = (p.marks ≡ []) ⊎ (q.turns ≡ p.turns)
 AreWhole (p ∷ next ∷ ps) (q ∷ qs) = AreWhole (next ∷ ps) qs
 
--- the part in which nothing happens is whole in front of any parts
+-- `AreWhole` holds of the one part in which nothing happens, and any parts
 whole_none : (p : Part) (b : Bool) (ps : List Part) → AreWhole (nothing ∷ []) (in_front p b ps)
 whole_none p true ps = inl refl
 whole_none p false [] = inl refl
@@ -140,7 +144,7 @@ module _ (plan : Plan) (commands : List Task) where
       let t = after plan commands s act in
       inr (λ f. (no_turns plan commands t xs (goes_begun plan commands t f), no_turns plan commands t ys (goes_begun plan commands t f)))
 
-  -- the parts of the first acts of a run are whole in the parts of all
+  -- `AreWhole` holds of the parts of a run's first acts, and the parts of all of its acts
   whole_parts : (s : Model) (xs ys : List Act) → AreWhole (parts_of plan commands s xs) (parts_of plan commands s (xs ++ ys))
   whole_parts s [] [] = inl refl
   whole_parts s [] (act ∷ ys) = whole_none (acting plan commands s (action_at plan s) act) (ends_part plan commands s act) (parts_of plan commands (after plan commands s act) ys)
@@ -169,15 +173,17 @@ last_marked (x ∷ []) (suc i) m p mark size e got = absurd (omega (arith, size)
 last_marked (x ∷ next ∷ ps) zero m p mark size e got = absurd (omega (arith, size))
 last_marked (x ∷ next ∷ ps) (suc i) m p mark size e got = last_marked (next ∷ ps) i m p mark (omega (arith, size)) e got
 
--- Its stretches.
+-- The stretches of a front.
 
+-- the first elements of equal lists are equal
 cons_head : {A : Type 0} (x y : A) (xs ys : List A) → x ∷ xs ≡ y ∷ ys → x ≡ y
 cons_head x y xs ys e = cc
 
+-- the rests of equal lists, after their first elements, are equal
 cons_tail : {A : Type 0} (x y : A) (xs ys : List A) → x ∷ xs ≡ y ∷ ys → xs ≡ ys
 cons_tail x y xs ys e = cc
 
--- these moves are cut behind those whose steps a client sees as `xs`
+-- these moves are cut after those whose steps a client sees as `xs`
 record SplitSeen {State : Type 0} (ms : List (Move State)) (xs : List step.Step) : Type 0 where
   front : List (Move State)
   later : List (Move State)
@@ -198,7 +204,7 @@ split_visible m st x ms xs ys shows again e =
       steps = shows h.front ∙ ap (λ l. st ∷ l) h.steps ∙ ap (λ z. z ∷ xs) (cons_head st x (seen ms) (xs ++ ys) both);
     }
 
--- moves whose steps are two lists are cut so
+-- moves that show the client two lists of steps, one after the other, can be cut between the two
 split_seen : {State : Type 0} (ms : List (Move State)) (xs ys : List step.Step) → seen ms ≡ xs ++ ys → SplitSeen ms xs
 split_seen ms [] ys e = record { front = []; later = ms; order = refl; steps = refl }
 split_seen [] (x ∷ xs) ys e = cc
@@ -212,14 +218,15 @@ split_seen (Changes state ∷ ms) (x ∷ xs) ys e = let h = split_seen ms (x ∷
     record { front = Changes state ∷ h.front; later = h.later; order = ap (λ l. Changes state ∷ l) h.order; steps = h.steps }
 split_seen (Joins line ∷ ms) (x ∷ xs) ys e = let h = split_seen ms (x ∷ xs) ys e in record { front = Joins line ∷ h.front; later = h.later; order = ap (λ l. Joins line ∷ l) h.order; steps = h.steps }
 
--- the first of these stretches is the front of the second, up to some move
+-- the stretch t is the front of the stretch s, up to some move
 record IsCutOf {State : Type 0} (t s : Stretch State) : Type 0 where
   front : List (Move State)
   later : List (Move State)
   is : t ≡ record { from = s.from; moves = front }
   order : s.moves ≡ front ++ later
 
--- the first of these stretches, cut behind some moves, is a cut of the first
+-- where one list has a front of the stretch s as its only stretch, and another list begins with s, the stretch at place 0 of the
+-- first is a cut (`IsCutOf`) of the one at place 0 of the second
 first_cut : {State : Type 0} (s : Stretch State) (ss : List (Stretch State)) (front later : List (Move State)) → s.moves ≡ front ++ later → (i : ℕ) (u v : Stretch State) → i ≡ 0
     → slice_get (record { from = s.from; moves = front } ∷ []) i ≡ Some u → slice_get (s ∷ ss) i ≡ Some v → IsCutOf u v
 first_cut s ss front later order zero u v is a b =
@@ -236,14 +243,15 @@ module _ {State : Type 0} (ends : Ends State) (Good : State → Type 0) (kept : 
   possible_cut [] s ms front later e p = possible_front 7 ends Good kept front later (ids_begun (leaves s)) (subst (λ l. ArePossible ends Good kept (by_ids 7 ends) l (ids_begun (leaves s))) e p)
   possible_cut (asked ∷ rest) s ms front later e p = front_nil front later (sym p ∙ e)
 
-  -- runs that show the first parts of a run: each as in the whole one, and the last one cut
+  -- possible runs that show the parts `ps`, the first ones of a longer run with the runs `rs`: the stretch of the last one is a
+  -- front of the stretch at its place among those of `rs`
   record Cut (ps : List Part) (u : UnderWay State) (rs : List (Run State)) : Type 0 where
     runs : List (Run State)
     shown : AreShownAs ends u runs ps
     possible : AreRuns 7 ends Good kept u runs
     last : (i : ℕ) (t s : Stretch State) → length ps ≡ suc i → slice_get (stretches ends u runs) i ≡ Some t → slice_get (stretches ends u rs) i ≡ Some s → IsCutOf t s
 
-  -- a run is cut behind the moves of its part
+  -- `Cut` of one part: the first run is cut after the moves that show the part's steps
   cut_one : (p : Part) (u : UnderWay State) (r : Run State) (rs : List (Run State)) → shown ends r.turns (begins u) ≡ p.turns → SplitSeen r.moves p.steps → AreTurns ends Good kept r.turns (begins u)
       → ArePossibleIf 7 ends Good kept (stood_by 7 ends u r).left (stood_by 7 ends u r) r.moves → Cut (p ∷ []) u (r ∷ rs)
   cut_one p u r rs e x turns possible = record {
@@ -253,14 +261,14 @@ module _ {State : Type 0} (ends : Ends State) (Good : State → Type 0) (kept : 
     last = λ i t v size a b. first_cut (record { from = from_of u r; moves = r.moves }) (stretches ends (left_by_run 7 ends u r) rs) x.front x.later x.order i t v (omega (arith, size)) a b;
   }
 
-  -- a cut of the last of the later stretches is one of the last of all
+  -- where the last stretch of the later runs is cut, so is the last stretch of these runs with one more in front
   later_cut : (p next : Part) (ps : List Part) (u : UnderWay State) (r : Run State) (rs : List (Run State)) (c : Cut (next ∷ ps) (left_by_run 7 ends u r) rs)
       (i : ℕ) (t v : Stretch State) → length (p ∷ next ∷ ps) ≡ suc i
       → slice_get (stretches ends u (r ∷ c.runs)) i ≡ Some t → slice_get (stretches ends u (r ∷ rs)) i ≡ Some v → IsCutOf t v
   later_cut p next ps u r rs c zero t v size a b = absurd (omega (arith, size))
   later_cut p next ps u r rs c (suc i) t v size a b = c.last i t v (omega (arith, size)) a b
 
-  -- the last run is cut, where its part has requests
+  -- `Cut` of one part that is a front of the first part that possible runs show, where it has a request
   cut_last : (p : Part) (qs : List Part) (u : UnderWay State) (rs : List (Run State)) → IsFront (p ∷ []) qs → AreWhole (p ∷ []) qs → (p.marks ≡ [] → ⊥)
       → AreShownAs ends u rs qs → AreRuns 7 ends Good kept u rs → Cut (p ∷ []) u rs
   cut_last p [] u rs h w marked e good = absurd h
@@ -281,7 +289,7 @@ module _ {State : Type 0} (ends : Ends State) (Good : State → Type 0) (kept : 
     last = λ i t v size a b. later_cut p next ps u r rs c i t v size a b;
   }
 
-  -- a front of at least two parts is cut behind its first one
+  -- `Cut` of a front of at least two parts, where any front `next ∷ ps` has a `Cut`
   cut_on : (p next : Part) (ps qs : List Part) (u : UnderWay State) (rs : List (Run State)) → IsFront (p ∷ next ∷ ps) qs → AreWhole (p ∷ next ∷ ps) qs
       → AreShownAs ends u rs qs → AreRuns 7 ends Good kept u rs
       → ((xs : List Part) (v : UnderWay State) (ts : List (Run State)) → IsFront (next ∷ ps) xs → AreWhole (next ∷ ps) xs → AreShownAs ends v ts xs
@@ -291,7 +299,7 @@ module _ {State : Type 0} (ends : Ends State) (Good : State → Type 0) (kept : 
   cut_on p next ps (q ∷ qs) u (r ∷ rs) h w e good again =
       cut_more p next ps u r rs (e.0 ∙ ap (λ (x : Part). x.turns) h.0) (e.1 ∙ ap (λ (x : Part). x.steps) h.0) good.0 (again qs (left_by_run 7 ends u r) rs h.1 w e.2 good.1)
 
-  -- the first parts of a run in the field are those of a run in the field, whose last stretch is cut
+  -- `Cut` of any parts that are a front of those that possible runs show, where the last of them has a request
   cut_field : (ps qs : List Part) (u : UnderWay State) (rs : List (Run State)) → IsFront ps qs → AreWhole ps qs → LastIsMarked ps → AreShownAs ends u rs qs
       → AreRuns 7 ends Good kept u rs → Cut ps u rs
   cut_field [] qs u rs h w marked e good = absurd h
@@ -300,21 +308,24 @@ module _ {State : Type 0} (ends : Ends State) (Good : State → Type 0) (kept : 
 
 -- What stands at a place.
 
+-- what holds of all elements holds of the one at a place
 all_at : {A : Type 0} (P : A → Type 0) (xs : List A) (k : ℕ) (x : A) → AllByRecursion P xs → slice_get xs k ≡ Some x → P x
 all_at P [] k x h e = absurd (none_is_not x e)
 all_at P (y ∷ xs) zero x h e = subst P (some_is y x e) h.0
 all_at P (y ∷ xs) (suc k) x h e = all_at P xs k x h.1 e
 
+-- where P implies Q, and all elements have P, all have Q
 all_so : {A : Type 0} (P Q : A → Type 0) → ((x : A) → P x → Q x) → (xs : List A) → AllByRecursion P xs → AllByRecursion Q xs
 all_so P Q f [] h = tt
 all_so P Q f (x ∷ xs) h = (f x h.0, all_so P Q f xs h.1)
 
+-- what is at a place of a list is there when another list follows
 in_more : {A : Type 0} (xs ys : List A) (i : ℕ) (x : A) → slice_get xs i ≡ Some x → slice_get (xs ++ ys) i ≡ Some x
 in_more [] ys i x e = absurd (none_is_not x e)
 in_more (y ∷ xs) ys zero x e = e
 in_more (y ∷ xs) ys (suc i) x e = in_more xs ys i x e
 
--- the part and the stretch at a place fit
+-- where parts and stretches fit, one for one, the part and the stretch at one place fit
 fit_at : {State : Type 0} (ends : Ends State) (Good : State → Type 0) (kept : State → Option KeptReply) (is : IsAnInstrument ends Good kept) (ps : List Part)
     (ss : List (Stretch State)) (i : ℕ) (p : Part) (s : Stretch State) → AllFit ends Good kept is ps ss → slice_get ps i ≡ Some p → slice_get ss i ≡ Some s
     → Fits ends Good kept is p s
@@ -332,9 +343,9 @@ sent_at ends commands (q ∷ ps) (t ∷ ss) zero p s h e f =
     subst (λ (x : Part). AreOf commands x.marks (map asked (own_sent ends s))) (some_is q p e) (subst (λ (x : Stretch _). AreOf commands q.marks (map asked (own_sent ends x))) (some_is t s f) h.0)
 sent_at ends commands (q ∷ ps) (t ∷ ss) (suc i) p s h e f = sent_at ends commands ps ss i p s h.1 e f
 
--- Pairs of numbers.
+-- Pairs of numbers: a cycle and a place in it, or a part of the run and a request in it.
 
--- nothing comes before itself
+-- no place of a cycle comes before itself (`IsBefore c p d q`: place p of cycle c comes before place q of cycle d)
 not_itself : (c p : ℕ) → IsBefore c p c p → ⊥
 not_itself c p (inl l) = omega (arith, l)
 not_itself c p (inr l) = let less : p < p = l.1 in omega (arith, less)
@@ -347,7 +358,7 @@ one_of x y = by_test (ltb x y) (ltb y x) refl refl where
   by_test false true e f = inr (inr (ltb-true y x f))
   by_test false false e f = let le : y ≤ x = ltb-false x y e in let ge : x ≤ y = ltb-false y x f in inr (inl (omega (arith, le, ge)))
 
--- of two requests of which neither comes before the other, both are the same
+-- where neither of the pairs i, m and j, n comes before the other, they are the same
 same_place : (i j m n : ℕ) → (IsBefore i m j n → ⊥) → (IsBefore j n i m → ⊥) → (i ≡ j) × (m ≡ n)
 same_place i j m n f g =
     elim (one_of i j) [
@@ -364,7 +375,8 @@ same_place i j m n f g =
       ]
     ]
 
--- a place that comes between two places of one cycle is of that cycle, and lies between them
+-- where place q of cycle d comes between place p of cycle c and place r of cycle e, and c equals e, d is that cycle, too, and q
+-- lies between p and r
 within : (c p d q e r : ℕ) → IsBefore c p d q → IsBefore d q e r → c ≡ e → (d ≡ e) × (p < q) × (q < r)
 within c p d q e r (inl a) (inl b) same = absurd (omega (arith, a, b, same))
 within c p d q e r (inl a) (inr b) same = let is : d ≡ e = b.0 in absurd (omega (arith, a, is, same))
@@ -375,16 +387,18 @@ within c p d q e r (inr a) (inr b) same = (b.0, a.1, b.1)
 
 module _ {State : Type 0} (ends : Ends State) (Good : State → Type 0) (kept : State → Option KeptReply) (is : IsAnInstrument ends Good kept)
     (stay : ChainsStay) (go_on : MarksGoOn) (records_stay : RecordsStay) (plan : Plan) (commands : List Task) (scope : Scope) where
-  -- where a command's own request is, whose record is known
+  -- where request m of part i is for the command of record r, and r has an answer that is its own, that answer is the one to
+  -- this request
   own_place : (acts : List Act) → Runs plan commands (opening plan scope) acts
-      → (i m : ℕ) (part : Part) (near : Option Near) (r : Record) (ss : List (Stretch State)) (line : List ℕ) → slice_get (parts plan commands scope acts) i ≡ Some part
-      → slice_get part.marks m ≡ Some (Some (mark_of near r)) → (u : IsItsOwn ends Good kept commands (parts plan commands scope acts) ss r line) → (u.k ≡ i) × (u.m ≡ m)
-  own_place acts runs i m part near r ss line of_parts mark u =
+      → (i m : ℕ) (part : Part) (expected : Expected) (r : Record) (ss : List (Stretch State)) (line : List ℕ) → slice_get (parts plan commands scope acts) i ≡ Some part
+      → slice_get part.marks m ≡ Some (Some (mark_of expected r)) → (u : IsItsOwn ends Good kept commands (parts plan commands scope acts) ss r line) → (u.k ≡ i) × (u.m ≡ m)
+  own_place acts runs i m part expected r ss line of_parts mark u =
       same_place u.k i u.m m
-      (λ l. not_itself r.cycle r.place (go_on plan commands scope acts runs u.k i u.m m u.part part (mark_of u.near r) (mark_of near r) u.of_parts of_parts u.mark mark l))
-      (λ l. not_itself r.cycle r.place (go_on plan commands scope acts runs i u.k m u.m part u.part (mark_of near r) (mark_of u.near r) of_parts u.of_parts mark u.mark l))
+      (λ l. not_itself r.cycle r.place (go_on plan commands scope acts runs u.k i u.m m u.part part (mark_of u.expected r) (mark_of expected r) u.of_parts of_parts u.mark mark l))
+      (λ l. not_itself r.cycle r.place (go_on plan commands scope acts runs i u.k m u.m part u.part (mark_of expected r) (mark_of u.expected r) of_parts u.of_parts mark u.mark l))
 
-  -- the run up to a request is one in the field
+  -- the acts of a run in the field that come before a request are a run in the field, too, with its last stretch cut short
+  -- (`Cut`)
   in_front_of : (acts before rest : List Act) (u : UnderWay State) (rs : List (Run State)) → acts ≡ before ++ rest
       → LastIsMarked (parts plan commands scope before) → IsInField ends Good kept plan commands scope acts u rs
       → (c : Cut ends Good kept (parts plan commands scope before) u rs) × IsInField ends Good kept plan commands scope before u c.runs
@@ -397,7 +411,8 @@ module _ {State : Type 0} (ends : Ends State) (Good : State → Type 0) (kept : 
       let c = cut_field ends Good kept (parts plan commands scope before) (parts plan commands scope acts) u rs front whole marked h.shown h.possible in
       (c, record { runs = runs; lines = h.lines; none = h.none; shown = c.shown; possible = c.possible })
 
-  -- behind the acts before a request, the answer of the command before it in its chain was settled, and the request wasn't sent
+  -- when a chained command's request is about to go out, as request n of its stretch, the command before it in the chain is
+  -- settled, with the answer that its record has
   settled_there : (before : List Act) (u : UnderWay State) (rs : List (Run State)) → IsInField ends Good kept plan commands scope before u rs
       → (i n cycle a : ℕ) (first : Part) → slice_get (parts plan commands scope before) i ≡ Some first → length first.marks ≡ n
       → (back : IsAnsweredBack plan commands scope before first cycle a) → (t : Stretch State) × (slice_get (stretches ends u rs) i ≡ Some t) × (length (own_sent ends t) ≡ n)
@@ -407,7 +422,7 @@ module _ {State : Type 0} (ends : Ends State) (Good : State → Type 0) (kept : 
       let f = run_faithful ends Good kept is plan commands scope before u rs h in
       let o = all_at (IsOwnAnswer ends Good kept commands (parts plan commands scope before) ss)
       (stood plan commands scope before).records back.k back.answer f.own back.among back.line (ap answer_of back.answered) in
-      let at = own_place before h.runs i back.m first back.near back.answer ss back.line of_first back.mark o in
+      let at = own_place before h.runs i back.m first back.expected back.answer ss back.line of_first back.mark o in
       let of_ss : slice_get ss i ≡ Some o.stretch = subst (λ k. slice_get ss k ≡ Some o.stretch) at.0 o.of_stretches in
       let size : length first.marks ≡ length (own_sent ends o.stretch) =
       of_length commands first.marks (map asked (own_sent ends o.stretch))
@@ -429,15 +444,16 @@ module _ {State : Type 0} (ends : Ends State) (Good : State → Type 0) (kept : 
       (get_drop 8 o.m w.sent o.request o.sent)).1 ∙ ap (λ (z : Asked). z.call) o.asks in
       subst (λ call. WasMadeOn 7 ends o.stretch.from o.stretch.moves (8 + o.m) call line) (sym right) o.made_on
 
+  -- where the answer of record b is its own, the command at each place a, from which b is chained, was executed before that of b
   chained_to : (acts : List Act) (v : UnderWay State) (rs : List (Run State)) → IsInField ends Good kept plan commands scope acts v rs
       → (b : Record) (line : List ℕ) (u : IsItsOwn ends Good kept commands (parts plan commands scope acts) (stretches ends v rs) b line) (a : ℕ)
       → a < b.place → AreChained commands a b.place
-      → IsChainedTo ends Good kept scope.reads (parts plan commands scope acts) (stretches ends v rs) (stood plan commands scope acts).records a b line
+      → IsChainedTo ends Good kept scope.reads commands (parts plan commands scope acts) (stretches ends v rs) (stood plan commands scope acts).records a b line
   chained_to acts v rs h b line u a less chained =
       let ss = stretches ends v rs in
-      let sent = stay plan commands scope acts h.runs u.k u.m u.part (mark_of u.near b) u.of_parts u.mark in
+      let sent = stay plan commands scope acts h.runs u.k u.m u.part (mark_of u.expected b) u.of_parts u.mark in
       let back = sent.chain a less chained in
-      let marked = last_marked (parts plan commands scope sent.before) u.k back.m sent.first (Some (mark_of back.near back.answer)) sent.last sent.of_parts back.mark in
+      let marked = last_marked (parts plan commands scope sent.before) u.k back.m sent.first (Some (mark_of back.expected back.answer)) sent.last sent.of_parts back.mark in
       let cut = in_front_of acts sent.before sent.rest v rs sent.order marked h in
       let there = settled_there sent.before v cut.0.runs cut.1 u.k u.m b.cycle a sent.first sent.of_parts sent.count back in
       let c = cut.0.last u.k there.0 u.stretch sent.last there.1 u.of_stretches in
@@ -453,9 +469,9 @@ module _ {State : Type 0} (ends : Ends State) (Good : State → Type 0) (kept : 
       let front : IsFront (parts plan commands scope sent.before) (parts plan commands scope acts) =
       subst (λ l. IsFront (parts plan commands scope sent.before) (parts plan commands scope l)) (sym sent.order) (front_parts plan commands (opening plan scope) sent.before sent.rest) in
       let more = front_last (parts plan commands scope sent.before) (parts plan commands scope acts) u.k sent.first u.part front sent.last sent.of_parts u.of_parts in
-      let mark_a : slice_get u.part.marks back.m ≡ Some (Some (mark_of back.near back.answer)) =
-      ap (λ (p : Part). slice_get p.marks back.m) more.1 ∙ in_more sent.first.marks more.0.marks back.m (Some (mark_of back.near back.answer)) back.mark in
-      let small : back.m < length sent.first.marks = below sent.first.marks back.m (Some (mark_of back.near back.answer)) back.mark in
+      let mark_a : slice_get u.part.marks back.m ≡ Some (Some (mark_of back.expected back.answer)) =
+      ap (λ (p : Part). slice_get p.marks back.m) more.1 ∙ in_more sent.first.marks more.0.marks back.m (Some (mark_of back.expected back.answer)) back.mark in
+      let small : back.m < length sent.first.marks = below sent.first.marks back.m (Some (mark_of back.expected back.answer)) back.mark in
       let grown = records_stay plan commands scope sent.before sent.rest in
       let same_cycle : back.answer.cycle ≡ b.cycle = back.own_cycle in
       record {
@@ -466,9 +482,11 @@ module _ {State : Type 0} (ends : Ends State) (Good : State → Type 0) (kept : 
         cycle = same_cycle;
         place = back.own_place;
         line_a = back.line;
+        quality = back.quality;
         said = back.said;
         answered = back.answered;
         well = back.well;
+        says = back.says;
         i = u.k;
         part = u.part;
         stretch = u.stretch;
@@ -477,13 +495,13 @@ module _ {State : Type 0} (ends : Ends State) (Good : State → Type 0) (kept : 
         m = back.m;
         n = u.m;
         goes_on = omega (arith, small, sent.count);
-        near_a = back.near;
-        near_b = u.near;
+        expected_a = back.expected;
+        expected_b = u.expected;
         mark_a = mark_a;
         mark_b = u.mark;
         between = λ k mark above under at.
-            let first = go_on plan commands scope acts h.runs u.k u.k back.m k u.part u.part (mark_of back.near back.answer) mark u.of_parts u.of_parts mark_a at (inr (refl, above)) in
-            let last = go_on plan commands scope acts h.runs u.k u.k k u.m u.part u.part mark (mark_of u.near b) u.of_parts u.of_parts at u.mark (inr (refl, under)) in
+            let first = go_on plan commands scope acts h.runs u.k u.k back.m k u.part u.part (mark_of back.expected back.answer) mark u.of_parts u.of_parts mark_a at (inr (refl, above)) in
+            let last = go_on plan commands scope acts h.runs u.k u.k k u.m u.part u.part mark (mark_of u.expected b) u.of_parts u.of_parts at u.mark (inr (refl, under)) in
             let it = within back.answer.cycle back.answer.place mark.cycle mark.place b.cycle b.place first last same_cycle in
             (it.0, subst (λ p. p < mark.place) back.own_place it.1, it.2);
         executed =

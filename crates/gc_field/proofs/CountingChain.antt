@@ -28,6 +28,7 @@ use Rattle.gc_field.specs.Begin.{begins}
 use Rattle.gc_field.specs.Witness.{begun_with, eight, plan, plan_of}
 use Rattle.gc_field.proofs.Witness.{asked_each, one_part, run_on, units}
 
+-- true isn't false
 true_is_not : true ≡ false → ⊥
 true_is_not e = cc
 
@@ -41,12 +42,12 @@ repeats : (s : Counter) (id : ℕ) (o : Option ℕ) → held s.keeps id ≡ o �
 repeats s id (Some n) e not = kept_own s.keeps id n e
 repeats s id None e not = absurd (true_is_not not)
 
--- the reply to a request is kept behind it, with the request's id
+-- the reply to a request is kept after it, with the request's id
 reply_is_kept : (s : Counter) (id : ℕ) (o : Option ℕ) → held s.keeps id ≡ o → kept_by (counted_or s id o).state ≡ Some (record { id = id; line = (counted_or s id o).reply })
 reply_is_kept s id (Some n) e = kept_own s.keeps id n e
 reply_is_kept s id None e = refl
 
--- what is kept with this id is held for it
+-- where a number is kept with this id, it can't be that none is held for the id
 none_held : (x : ℕ × ℕ) (id : ℕ) → x.0 ≡ id → held (Some x) id ≡ None → ⊥
 none_held x id same e = let e' : Some x.1 ≡ None = sym (ap (λ b. cond b (Some x.1) None) (eq-eqb x.0 id same)) ∙ e in cc
 
@@ -104,22 +105,27 @@ unfolding is_elsewhere header_at reply_at digits
 opens_counting width tasks reads =
     (tt, (refl, (tt, (refl, (tt, (tt, (refl, (tt, (tt, (refl, (tt, (tt, (refl, (tt, (tt, (refl, (tt, (tt, (refl, (tt, (tt, (refl, (tt, (tt, (refl, (tt, (tt, tt)))))))))))))))))))))))))))
 
+-- the first answer was made on executing the first command's request
 first_made : WasMadeOn WINDOW counting stretch.from moves 8 points first
 unfolding is_elsewhere header_at reply_at digits
 first_made = record { front = take 3 moves; later = drop 4 moves; split = refl; id = 0; rest = []; reaches = refl; executed = refl; reply = refl }
 
+-- the third answer was made on executing the third command's request
 third_made : WasMadeOn WINDOW counting stretch.from moves 10 reads_all third
 unfolding is_elsewhere header_at reply_at digits
 third_made = record { front = take 13 moves; later = drop 14 moves; split = refl; id = 2; rest = []; reaches = refl; executed = refl; reply = refl }
 
+-- the run has one part: its turns, steps, and the three requests by place and moment
 parts_are : parts_of plan commands (opening plan scope) acts ≡ one_part (asked_each begun) (seen moves) ((0, 15) ∷ (1, 20) ∷ (2, 25) ∷ [])
 unfolding is_elsewhere header_at reply_at digits
 parts_are = refl
 
+-- what the line does while the station begins shows these turns
 shown_are : shown counting eight (begins before) ≡ asked_each begun
 unfolding is_elsewhere header_at reply_at digits
 shown_are = refl
 
+-- this run meets the premises of the law of chains, and the counts are as that law says
 pub counted : IsCountedInField
 unfolding is_elsewhere header_at reply_at digits
 counted =

@@ -19,6 +19,7 @@ use Rattle.gc_field.specs.Shown.{AreShownAs, shown}
 use Rattle.gc_station.specs.Parts as part
 use Rattle.gc_field.proofs.Witness.{asked_each, one_part, run_on, units}
 
+-- true isn't false
 true_is_not : true ≡ false → ⊥
 true_is_not e = cc
 
@@ -40,14 +41,17 @@ was_made : WasMadeOn WINDOW drifting (leaves (turned drifting turns (begins (non
 unfolding is_elsewhere header_at reply_at digits
 was_made = record { front = take 11 moves; later = drop 12 moves; split = refl; id = 1; rest = []; reaches = refl; executed = refl; reply = refl }
 
+-- the run has one part: its turns, steps, and the two requests by place and moment
 parts_are : parts_of plan commands (opening plan scope) acts ≡ one_part (part.Asks ∷ part.Asks ∷ asked_each begun) (seen moves) ((0, 220) ∷ (1, 320) ∷ [])
 unfolding is_elsewhere header_at reply_at digits
 parts_are = refl
 
+-- what the line does while the station begins shows these turns
 shown_are : shown drifting turns (begins (none_under_way 5)) ≡ part.Asks ∷ part.Asks ∷ asked_each begun
 unfolding is_elsewhere header_at reply_at digits
 shown_are = refl
 
+-- this run is in the field, and its second command is answered
 pub answered : IsAnsweredByDrifting
 unfolding is_elsewhere header_at reply_at digits
 answered =

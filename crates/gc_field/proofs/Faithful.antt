@@ -1,4 +1,4 @@
--- The law, from its parts.
+-- The law on answers, `IsFaithful`, put together from its parts.
 use Rattle.std.proofs.Common.{◌≡◌, ℕ, ◌≤◌, false, List, ◌∷◌, Option, sym, ◌∙◌, ap, subst, arith, map, ◌++◌}
 use Rattle.gc_catalogue.specs.declared.call.Call.{Call}
 use Rattle.gc_client.specs.OneForOne.{begun, course, of_settled, of_pending}
@@ -23,10 +23,11 @@ use Rattle.gc_field.proofs.Seen.{same_all, same_open}
 
 module _ {State : Type 0} (ends : Ends State) (same_heard : (line : List ℕ) → ends.heard line ≡ heard line) (Good : State → Type 0)
     (kept : State → Option KeptReply) (keeper : IsAnInstrument ends Good kept) (width : ℕ) (narrow : width ≤ 7) where
+  -- what the proofs of the world ask of an instrument, which this one meets
   abbrev ex : IsExchange ends Good
   ex = exchange_of ends Good kept keeper
 
-  -- the line of a request that is executed was made on executing it: with the numbers the wire is the same
+  -- the reply to each request that is executed at one of these moves was made on executing it, by `WasMadeOn`
   made_here : (state : State) → Good state → (ms : List (Move State)) → ArePossible ends Good kept (by_ids width ends) ms (ids_open state)
       → AreOn width narrow ends Good ex kept keeper 1 (omega arith) (λ n call line. WasMadeOn width ends state ms n call line) ms (numbers_open state)
   made_here state good ms p front later e x rest q exe =

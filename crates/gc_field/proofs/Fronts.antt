@@ -1,4 +1,5 @@
--- What is left of a request that was cut: all its bytes behind the first are above that one, which begins each request.
+-- What is left of a request that was cut is no request: each request begins with `%` (37, called the sign here), and all of its
+-- other bytes are above 37.
 use Rattle.std.proofs.Common.{◌≡◌, ◌≢◌, ℕ, zero, suc, ◌+◌, ◌-◌, ◌/◌, ◌%◌, ◌^◌, ◌<◌, ◌≤◌, Bool, true, false, ◌&&◌, ltb, eqb, ℤ, pos, negsuc, unsigned_abs, List, [], ◌∷◌, ◌++◌, length, take, drop, map, Option, Some, None, cond, refl, sym, ◌∙◌, ap, subst, arith, lit<}
 use Rattle.std.specs.Prelude.{slice_index}
 use Rattle.std.specs.Fmt.{decimal}
@@ -40,12 +41,12 @@ use Rattle.gc_field.specs.Fronts.{request_bytes, IsWholeOrNothing}
 abbrev pub AreAbove : List ℕ → Type 0
 AreAbove bytes = AllByRecursion (λ b. 37 < b) bytes
 
--- what holds of the bytes of two lists holds of those of both, one behind the other
+-- where each byte of two lists has a property, so has each byte of the joined list
 pub joined : (P : ℕ → Type 0) (xs ys : List ℕ) → AllByRecursion P xs → AllByRecursion P ys → AllByRecursion P (xs ++ ys)
 joined P [] ys h k = k
 joined P (x ∷ xs) ys h k = (h.0, joined P xs ys h.1 k)
 
--- what holds of all bytes holds of those behind the first k
+-- what holds of all bytes holds of those after the first k
 dropped : (P : ℕ → Type 0) (k : ℕ) (xs : List ℕ) → AllByRecursion P xs → AllByRecursion P (drop k xs)
 dropped P zero xs h = h
 dropped P (suc k) [] h = tt
@@ -57,17 +58,17 @@ taken P zero xs h = tt
 taken P (suc k) [] h = tt
 taken P (suc k) (x ∷ xs) h = (h.0, taken P k xs h.1)
 
--- what follows for each byte from a fact of it holds of all, if the fact does
+-- where P implies Q for any byte, and each byte of a list has P, each has Q
 weaker : (P Q : ℕ → Type 0) (f : (b : ℕ) → P b → Q b) (xs : List ℕ) → AllByRecursion P xs → AllByRecursion Q xs
 weaker P Q f [] h = tt
 weaker P Q f (x ∷ xs) h = (f x h.0, weaker P Q f xs h.1)
 
--- digits, as a property of bytes, are above the sign with which each request begins
+-- bytes that are digits, by `AreDigits`, are above the sign with which each request begins
 above_digits : (ds : List ℕ) → AreDigits ds → AreAbove ds
 above_digits [] h = tt
 above_digits (d ∷ ds) h = ((let low = h.0.0 in omega (arith, low)), above_digits ds h.1)
 
--- digits are above the sign with which each request begins
+-- bytes that are digits, by `AllDigits`, are above the sign with which each request begins
 pub above_decimal_digits : (ds : List ℕ) → AllDigits 10 ds → AreAbove ds
 above_decimal_digits [] h = tt
 above_decimal_digits (c ∷ cs) h = (omega (arith, digit_at (c ∷ cs) 0 h (omega arith)), above_decimal_digits cs h.1)
@@ -135,7 +136,7 @@ above_value (value.Byte n) h g = above_byte n h
 above_value (value.Bool b) h g = above_boolean b
 above_value (value.Text bytes) h g = absurd g
 
--- the texts of values behind commas are above the sign, if none of them is a text
+-- the texts of values after commas are above the sign, if none of them is a text
 above_behind : (vs : List Value) → AreValues vs → AllByRecursion IsNoText vs → AreAbove (behind_commas vs)
 above_behind [] h g = tt
 above_behind (v ∷ vs) h g = joined (λ b. 37 < b) (44 ∷ text v) (behind_commas vs) (lit< tt, above_value v h.0 g.0) (above_behind vs h.1 g.1)
@@ -150,7 +151,8 @@ pub above_id : (id : Option ℕ) → AreAbove (id_text id)
 above_id None = tt
 above_id (Some i) = (lit< tt, (omega arith, tt))
 
--- the bytes of a request behind the first, without CR LF
+-- the bytes of a request after the first, `%`, without CR LF: `R1Q,` (82 49 81 44), the number, the id, a colon (58), and the
+-- parameters
 abbrev pub body : ℕ → Call → List ℕ
 body id call = 82 ∷ 49 ∷ 81 ∷ 44 ∷ (decimal (call_fields call).number ++ (id_text (Some id) ++ 58 ∷ params_of (call_fields call).values))
 
@@ -187,7 +189,7 @@ frame_line bytes line e = chosen (ends_in_return bytes) (ltb 512 (length bytes -
   chosen true true e = let never : ⊥ = cc in absurd never
   chosen true false e = cc
 
--- what holds of a frame's line, and of the lines behind it, holds of all
+-- where a frame's line, if it has one, has the property P, and so has each line of the later frames, all of these lines have P
 framed : (P : List ℕ → Type 0) (f : Frame) (fs : List Frame) → ((line : List ℕ) → line_in f ≡ Some line → P line) → AllByRecursion P (lines_in fs) → AllByRecursion P (lines_in (f ∷ fs))
 framed P (Line line) fs h g = (h line.items refl, g)
 framed P Cleared fs h g = g
@@ -227,6 +229,7 @@ no_return (b ∷ bytes) h =
     (λ b. b ≢ 13) (b ∷ bytes) h (length (b ∷ bytes) - 1) 0 (omega arith)) in
     ap (λ t. ltb 0 (length (b ∷ bytes)) && t) last ∙ never (ltb 0 (length (b ∷ bytes)))
   where
+    -- "and false" is false
     never : (t : Bool) → (t && false) ≡ false
     never true = refl
     never false = refl
@@ -235,7 +238,8 @@ no_return (b ∷ bytes) h =
 no_line : (bytes : List ℕ) → AllByRecursion (λ b. b ≢ 13) bytes → frame_of bytes ≡ Cleared
 no_line bytes h = ap (λ t. cond t (cond (ltb 512 (length bytes - 1)) Overlong (Line (record { items = take (length bytes - 1) bytes }))) Cleared) (no_return bytes h)
 
--- where a byte ends a frame that is no line, and the others have no lines, all have none
+-- where the frame that a byte would end is no line, and the later frames have no lines, whether the byte ends a frame (`t`) or
+-- not, there are no lines
 one_by_one : (t : Bool) (before : List ℕ) (here later : List (List ℕ)) → frame_of before ≡ Cleared → lines_in (map frame_of here) ≡ []
     → lines_in (map frame_of later) ≡ [] → lines_in (map frame_of (cond t (before ∷ here) later)) ≡ []
 one_by_one true before here later none h g = ap (λ f. lines_in (f ∷ map frame_of here)) none ∙ h
@@ -248,15 +252,18 @@ no_lines before (b ∷ bytes) h g =
     one_by_one (is_line_feed b) before (pieces_behind [] bytes) (pieces_behind (before ++ b ∷ []) bytes) (no_line before h) (no_lines [] bytes tt g.1)
     (no_lines (before ++ b ∷ []) bytes (joined (λ b. b ≢ 13) before (b ∷ []) h (g.0, tt)) g.1)
 
+-- the first n bytes of a list that has as many don't change where another list follows
 take_front : (xs ys : List ℕ) (n : ℕ) → n ≤ length xs → take n (xs ++ ys) ≡ take n xs
 take_front xs ys zero le = refl
 take_front [] ys (suc n) le = absurd (omega (arith, le))
 take_front (x ∷ xs) ys (suc n) le = ap (λ l. x ∷ l) (take_front xs ys n (omega (arith, le)))
 
+-- of `xs`, then y, and then `ys`, the first length xs + 1 bytes are `xs` and y
 take_one_more : (xs ys : List ℕ) (y : ℕ) → take (suc (length xs)) (xs ++ y ∷ ys) ≡ xs ++ y ∷ []
 take_one_more [] ys y = refl
 take_one_more (x ∷ xs) ys y = ap (λ l. x ∷ l) (take_one_more xs ys y)
 
+-- to add a at the end, and then b, is to add both at once
 behind_push : (xs : List ℕ) (a b : ℕ) → (xs ++ a ∷ []) ++ b ∷ [] ≡ xs ++ a ∷ b ∷ []
 behind_push [] a b = refl
 behind_push (x ∷ xs) a b = ap (λ l. x ∷ l) (behind_push xs a b)
@@ -278,6 +285,7 @@ whole_or_nothing id call fits =
       tail = λ count some. tail_of above count some;
     }
   where
+    -- no tail of a request, without its first byte at least, has a request in it
     tail_of : AreAbove (body id call) → (count : ℕ) → 0 < count → HasNoRequest (drop count (request_bytes id call))
     tail_of above zero some = absurd (omega (arith, some))
     tail_of above (suc k) some =

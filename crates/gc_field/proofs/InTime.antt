@@ -1,4 +1,5 @@
--- The first reply to a request that comes unsettled settles it.
+-- The first reply to a request that comes while the request isn't settled settles it. A *stretch* is a run once it has begun:
+-- what is under way then, and its moves.
 use Rattle.std.proofs.Common.{◌≡◌, ◌⊎◌, inl, inr, ℕ, zero, suc, ◌+◌, ◌-◌, ◌<◌, ◌≤◌, Bool, true, false, List, [], ◌∷◌, ◌++◌, length, map, nat_eq, Option, Some, refl, sym, ◌∙◌, ap, subst, arith, append_assoc, length-drop}
 use Rattle.std.specs.Prelude.{slice_get}
 use Rattle.std.proofs.lemmas.Bool.{ne_eqb}
@@ -28,6 +29,7 @@ use Rattle.gc_field.proofs.Moving.{both_all}
 use Rattle.gc_field.proofs.BegunFaithful.{both_begun, faithful}
 use Rattle.gc_field.proofs.Unbegun.{faithful_none}
 
+-- the client's steps among two lists of moves are those of the first and then those of the second
 seen_append : {State : Type 0} (front later : List (Move State)) → seen (front ++ later) ≡ seen front ++ seen later
 seen_append [] later = refl
 seen_append (Sends target call deadline ∷ front) later = ap (λ xs. step.Send target call deadline ∷ xs) (seen_append front later)
@@ -39,13 +41,13 @@ seen_append (Anew ∷ front) later = seen_append front later
 seen_append (Changes state ∷ front) later = seen_append front later
 seen_append (Joins line ∷ front) later = seen_append front later
 
--- the settlement of the request that a reply meets is at its place
+-- where a reply meets the request at place k of those that wait, the settlement at place k is that of this request by the reply
 met_at : (k : ℕ) (line : List ℕ) (ps : List Pending) → k < length ps → (p : Pending) × (slice_get ps k ≡ Some p) × (slice_get (settle k line ps) k ≡ Some (met p line))
 met_at k line [] low = absurd (omega (arith, low))
 met_at zero line (p ∷ ps) low = (p, refl, refl)
 met_at (suc k) line (p ∷ ps) low = met_at k line ps (omega (arith, low))
 
--- what is at a place of the middle of three lists is in all
+-- what is at place k of the second of three lists is at place length xs + k of the three joined
 get_between : (xs ys zs : List Settlement) (n k : ℕ) (x : Settlement) → n ≡ length xs + k → slice_get ys k ≡ Some x → slice_get ((xs ++ ys) ++ zs) n ≡ Some x
 get_between [] ys zs n k x e got = let same : k ≡ n = omega (arith, e) in subst (λ i. slice_get (ys ++ zs) i ≡ Some x) same (get_more ys k got) where
   get_more : (ys : List Settlement) (k : ℕ) → slice_get ys k ≡ Some x → slice_get (ys ++ zs) k ≡ Some x
@@ -55,9 +57,11 @@ get_between [] ys zs n k x e got = let same : k ≡ n = omega (arith, e) in subs
 get_between (a ∷ xs) ys zs zero k x e got = absurd (omega (arith, e))
 get_between (a ∷ xs) ys zs (suc n) k x e got = get_between xs ys zs n k x (omega (arith, e)) got
 
+-- two requests are equal where `Some` of the one equals `Some` of the other
 some_pending : (p q : Pending) → Some p ≡ Some q → p ≡ q
 some_pending p q e = cc
 
+-- an empty list isn't one with an element
 cons_not : {A : Type 0} (xs ys : List A) (y : A) → xs ≡ [] → xs ≡ y ∷ ys → ⊥
 cons_not xs ys y e f = cc
 
@@ -66,7 +70,7 @@ pub not_nil : {A : Type 0} (xs front later : List A) (x : A) → xs ≡ [] → x
 not_nil xs [] later x e f = cons_not xs later x e f
 not_nil xs (y ∷ front) later x e f = cons_not xs (front ++ x ∷ later) y e f
 
--- a front of no elements has none
+-- a front of an empty list is empty
 pub front_nil : {A : Type 0} (front later : List A) → [] ≡ front ++ later → front ≡ []
 front_nil [] later e = refl
 front_nil (x ∷ front) later e = cc
@@ -76,7 +80,7 @@ module _ {State : Type 0} (ends : Ends State) (Good : State → Type 0) (kept : 
   pub law : (u : UnderWay State) → IsClean Good kept u → (ms : List (Move State)) → ArePossible ends Good kept (by_ids 7 ends) ms (ids_begun u) → IsFaithful 7 ends u ms Good kept
   law u clean ms p = faithful ends Good kept is 7 (omega arith) u clean ms p
 
-  -- the front of possible moves of a clean stretch is faithful
+  -- the front of possible moves of a stretch is possible
   pub front_of : (u : UnderWay State) (ms front later : List (Move State)) → ms ≡ front ++ later → ArePossible ends Good kept (by_ids 7 ends) ms (ids_begun u)
       → ArePossible ends Good kept (by_ids 7 ends) front (ids_begun u)
   front_of u ms front later e p = possible_front 7 ends Good kept front later (ids_begun u) (subst (λ xs. ArePossible ends Good kept (by_ids 7 ends) xs (ids_begun u)) e p)
@@ -94,7 +98,7 @@ module _ {State : Type 0} (ends : Ends State) (Good : State → Type 0) (kept : 
         | inr none ↦ absurd (not_nil s.moves front later m none e)
       ]
 
-  -- a sound stretch is faithful behind its first moves
+  -- a sound stretch is faithful after any number of its first moves
   pub throughout : (s : Stretch State) → Sound s → IsFaithfulThroughout ends Good kept s
   throughout s sound front later e =
       elim sound.clean [
@@ -102,7 +106,7 @@ module _ {State : Type 0} (ends : Ends State) (Good : State → Type 0) (kept : 
         | inr none ↦ subst (λ ms. IsFaithful 7 ends s.from ms Good kept) (sym (front_nil front later (sym none ∙ e))) (faithful_none ends Good kept s.from)
       ]
 
-  -- what is settled behind the first moves of a stretch stays in front of what is settled behind more
+  -- what is settled after the first moves of a stretch stays in front of what is settled after more of them
   settled_more : (u : UnderWay State) → IsClean Good kept u → (ms front later : List (Move State)) → ms ≡ front ++ later → ArePossible ends Good kept (by_ids 7 ends) ms (ids_begun u)
       → (more : List Settlement) × ((behind 7 ends u ms).wire.settled ≡ (behind 7 ends u front).wire.settled ++ more)
   settled_more u clean ms front later e p =
@@ -118,7 +122,7 @@ module _ {State : Type 0} (ends : Ends State) (Good : State → Type 0) (kept : 
         whole.settled ∙ ap (λ l. nulls_settled ++ l) grown ∙ sym (append_assoc nulls_settled own more) ∙ ap (λ l. l ++ more) (sym part.settled),
       )
 
-  -- a reply under way belongs to a request that was sent
+  -- where the front reply is to a request that isn't settled, that request waits
   below_sent : (u : UnderWay State) → IsClean Good kept u → (front : List (Move State)) → ArePossible ends Good kept (by_ids 7 ends) front (ids_begun u)
       → (line : List ℕ) (n : ℕ) (rest : List (Numbered (List ℕ))) → (behind 7 ends u front).wire.down ≡ record { number = n; line = line } ∷ rest
       → length (behind 7 ends u front).wire.settled ≤ n → n - length (behind 7 ends u front).wire.settled < length (behind 7 ends u front).client.waiting
@@ -167,13 +171,13 @@ module _ {State : Type 0} (ends : Ends State) (Good : State → Type 0) (kept : 
       let c : length xs + length ys ≡ length w.wire.sent = sym (length-append xs ys) ∙ ap length e ∙ length-map w.wire.sent asked in
       omega (arith, a, b, c)
 
-  -- a request that goes out where the client doesn't refuse it waits, behind the others
+  -- a request that goes out where the client doesn't refuse it waits, after the others
   sent_by_test : (w : World ById State) (target : ℕ) (call : Call) (deadline : ℕ) (b : Bool) → b ≡ false → length w.wire.settled + length w.client.waiting ≡ length w.wire.sent
       → Waits (requested w target call (id_send w.client target call deadline b)) (length w.wire.sent) (pending_of target call deadline)
   sent_by_test w target call deadline true e counts = cc
   sent_by_test w target call deadline false e counts = λ le. get_last w.client.waiting (length w.wire.sent - length w.wire.settled) (pending_of target call deadline) (omega (arith, counts))
 
-  -- a request that goes out waits, behind the others
+  -- a request that goes out waits, after the others
   sent_waits : (u : UnderWay State) (before : List (Move State)) (target : ℕ) (call : Call) (deadline : ℕ) → IsFaithful 7 ends u before Good kept → length (behind 7 ends u before).client.waiting < 7
       → Waits (moves ends (by_ids 7 ends) (behind 7 ends u before) (Sends target call deadline)) (length (behind 7 ends u before).wire.sent) (pending_of target call deadline)
   sent_waits u before target call deadline f room =

@@ -1,4 +1,5 @@
--- Instruments: what the proofs of the world ask of one follows; the simulator is one; and so is any that keeps no reply.
+-- Instruments: each meets what the proofs of the world ask of an instrument; the simulator is one; and so is any that keeps no
+-- reply.
 use Rattle.std.proofs.Common.{◌≡◌, ℕ, inl, inr, Bool, true, false, List, Option, Some, None, cond, refl, sym, ◌∙◌, ap, subst, eqb}
 use Rattle.std.proofs.lemmas.Bool.{eqb-true, eq-eqb}
 use Rattle.gc_catalogue.specs.declared.call.Call.{Call}
@@ -13,7 +14,7 @@ use Rattle.gc_world.proofs.Options.{some_is}
 use Rattle.gc_field.specs.Instrument.{IsAnInstrument, KeepingNothingSuffices}
 use Rattle.gc_field.specs.Laws.{SimulatorIsAnInstrument}
 
--- an instrument is one that the proofs of the world ask for
+-- an instrument meets what the proofs of the world ask of one, `IsExchange`
 pub exchange_of : {State : Type 0} (ends : Ends State) (Good : State → Type 0) (kept : State → Option KeptReply) → IsAnInstrument ends Good kept → IsExchange ends Good
 exchange_of ends Good kept is =
     record {
@@ -24,10 +25,11 @@ exchange_of ends Good kept is =
 
 -- The simulator.
 
+-- true isn't false
 true_is_not : true ≡ false → ⊥
 true_is_not e = cc
 
--- a line that is kept for an id is kept with that id
+-- where the kept line for an id is this one (`kept_line`), this line is kept, with that id
 kept_own : (k : Option KeptReply) (id : ℕ) (line : List ℕ) → kept_line k (Some id) ≡ Some line → k ≡ Some (record { id = id; line = line })
 kept_own None id line e = let never : ⊥ = cc in absurd never
 kept_own (Some k) id line e = chosen (eqb k.id id) refl e where
@@ -35,23 +37,24 @@ kept_own (Some k) id line e = chosen (eqb k.id id) refl e where
   chosen true t e = ap (λ i. Some (record { id = i; line = k.line })) (eqb-true k.id id t) ∙ ap (λ l. Some (record { id = id; line = l })) (some_is k.line line e)
   chosen false t e = let never : ⊥ = cc in absurd never
 
--- a line that is kept with an id is kept for it
+-- where this line is kept, with this id, it is the kept line for the id (`kept_line`)
 kept_for : (k : Option KeptReply) (id : ℕ) (line : List ℕ) → k ≡ Some (record { id = id; line = line }) → kept_line k (Some id) ≡ Some line
 kept_for k id line e = ap (λ k. kept_line k (Some id)) e ∙ ap (λ b. cond b (Some line) None) (eq-eqb id id refl)
 
--- a line of the simulator that isn't new is the one that it keeps
+-- where the simulator doesn't execute a request, its reply is the line that it keeps for the request's id
 repeated : (s : State) (id : ℕ) (call : Call) (o : Option (List ℕ)) → kept_line s.kept (Some id) ≡ o → (handed s id call).executed ≡ false
     → s.kept ≡ Some (record { id = id; line = (handed s id call).reply })
 repeated s id call None e not = absurd (true_is_not (sym (ap (λ (h : Handed State). h.executed) (handed_new s id call e)) ∙ not))
 repeated s id call (Some line) e not =
     kept_own s.kept id line e ∙ sym (ap (λ (h : Handed State). Some (record { id = id; line = h.reply })) (handed_again s id call line e))
 
--- the simulator keeps its line behind a request
+-- after a request the simulator keeps its reply to that request
 behind : (s : State) (id : ℕ) (call : Call) (o : Option (List ℕ)) → kept_line s.kept (Some id) ≡ o → (handed s id call).state.kept ≡ Some (record { id = id; line = (handed s id call).reply })
 behind s id call None e = subst (λ (x : Handed State). x.state.kept ≡ Some (record { id = id; line = x.reply })) (sym (handed_new s id call e)) refl
 behind s id call (Some line) e =
     subst (λ (x : Handed State). x.state.kept ≡ Some (record { id = id; line = x.reply })) (sym (handed_again s id call line e)) (kept_own s.kept id line e)
 
+-- the simulator is an instrument, and one that keeps its reply
 pub simulator : SimulatorIsAnInstrument
 simulator =
     record {

@@ -7,18 +7,21 @@ use Rattle.gc_instrument.proofs.Answering.{read_of}
 use Rattle.gc_field.specs.Fronts.{JoinedRequestsHaveTheFrontsId}
 use Rattle.gc_field.proofs.Fronts.{AreAbove, joined, taken, above_decimal_digits, above_id, body, above_body}
 
+-- the first elements of equal lists are equal
 head : (x y : ℕ) (xs ys : List ℕ) → x ∷ xs ≡ y ∷ ys → x ≡ y
 head x y xs ys e = cc
 
+-- the rests of equal lists, after their first elements, are equal
 tail : (x y : ℕ) (xs ys : List ℕ) → x ∷ xs ≡ y ∷ ys → xs ≡ ys
 tail x y xs ys e = cc
 
+-- the first k elements of a list, and then the others, are the list
 take_drop : (k : ℕ) (xs : List ℕ) → take k xs ++ drop k xs ≡ xs
 take_drop zero xs = refl
 take_drop (suc k) [] = refl
 take_drop (suc k) (x ∷ xs) = ap (λ l. x ∷ l) (take_drop k xs)
 
--- where a text above the sign, with the sign behind it, begins with another text above the sign, that one is a front of the first
+-- where `xs`, and after it the sign `%`, begins with `ys`, and all bytes of both are above the sign, `xs` begins with `ys`
 split : (xs ys more p : List ℕ) → AreAbove xs → AreAbove ys → xs ++ 37 ∷ more ≡ ys ++ p → (rest : List ℕ) × (xs ≡ ys ++ rest)
 split xs [] more p h g e = (xs, refl)
 split [] (y ∷ ys) more p h g e = absurd (omega (arith, head 37 y more (ys ++ p) e, g.0))
@@ -26,7 +29,7 @@ split (x ∷ xs) (y ∷ ys) more p h g e =
     let s = split xs ys more p h.1 g.1 (tail x y (xs ++ 37 ∷ more) (ys ++ p) e) in
     (s.0, ap (λ z. z ∷ xs) (head x y (xs ++ 37 ∷ more) (ys ++ p) e) ∙ ap (λ l. y ∷ l) s.1)
 
--- a front and the next request, as one line, have the front's id and procedure
+-- the front of a request and the next request, read as one line, have the front's id and procedure
 pub joined_requests : JoinedRequestsHaveTheFrontsId
 joined_requests id call next behind zero small fits some q is = absurd (omega (arith, some))
 joined_requests id call next behind (suc k) small fits some q is =

@@ -1,4 +1,6 @@
--- A run of a station and its stretches, joined.
+-- A run of a station and what happens on its line, joined: each part of the run, from one beginning to the next, goes with a
+-- stretch of the line, and each answer that is written down was made in one of the stretches. The *marks* of a part say for which
+-- command each of its requests is, in order.
 use Rattle.std.proofs.Common.{◌≡◌, inl, inr, ℕ, suc, ◌+◌, ◌≤◌, Bool, true, false, List, [], ◌∷◌, ◌++◌, map, Option, Some, refl, sym, ◌∙◌, ap, subst, arith, append_assoc, append-nil, drop}
 use Rattle.std.specs.Prelude.{slice_get}
 use Rattle.std.specs.List.{AllByRecursion}
@@ -53,8 +55,8 @@ use Rattle.gc_field.proofs.Among.{among_settled, true_is_not, among_late, asked_
 module _ {State : Type 0} (ends : Ends State) (Good : State → Type 0) (kept : State → Option KeptReply) (is : IsAnInstrument ends Good kept) where
   -- One part.
 
-  -- what a run comes to, by the ids that are left of its word: if it has begun, it has begun cleanly; and its stretch is sound and
-  -- faithful
+  -- what a run comes to, by the ids that are left of its word: if it has begun, it has begun cleanly; and its stretch is sound
+  -- and faithful
   record One (u : UnderWay State) (r : Run State) (left : List ℕ) : Type 0 where
     own : IsOwnIf 7 ends Good kept left (stood_by 7 ends u r) r.moves
     sound : Sound ends Good kept is (record { from = leaves (turned ends r.turns (begins u)); moves = r.moves })
@@ -98,8 +100,8 @@ module _ {State : Type 0} (ends : Ends State) (Good : State → Type 0) (kept : 
 
   -- A stretch with its part.
 
-  -- a part and a stretch are of the same run: the client sees the stretch's moves as the part's steps, and the stretch is sound and
-  -- faithful
+  -- a part and a stretch are of the same run: the client sees the stretch's moves as the part's steps, and the stretch is sound
+  -- and faithful
   pub record Fits (p : Part) (s : Stretch State) : Type 0 where
     pub steps : seen s.moves ≡ p.steps
     pub sound : Sound ends Good kept is s
@@ -131,7 +133,7 @@ module _ {State : Type 0} (ends : Ends State) (Good : State → Type 0) (kept : 
       let others = all_fit (y ∷ ps) rs (left_by_run 7 ends u r) next.0 next.1 s.2 p.1 b.1 in
       ((record { steps = s.1; sound = o.sound; faithful = o.faithful }, others.0), (o.own, others.1))
 
-  -- what holds of a stretch that fits holds of all
+  -- what holds of any stretch that fits a part holds of each of these
   pub each_fits : (P : Stretch State → Type 0) → ((p : Part) (s : Stretch State) → Fits p s → P s) → (ps : List Part) (ss : List (Stretch State)) → AllFit ps ss → AllByRecursion P ss
   each_fits P g [] [] h = tt
   each_fits P g [] (s ∷ ss) h = absurd h
@@ -152,7 +154,7 @@ module _ {State : Type 0} (ends : Ends State) (Good : State → Type 0) (kept : 
       ap (sent_by fresh) (sym f.steps) ∙ sym (course_sent (seen s.moves) begun) ∙ sym (ap (drop 8) (sent_is ends Good kept is 7 (omega arith) s.from s.moves f.sound.possible))
       ∙ sym (map_drop asked 8 (world ends s).wire.sent)
 
-  -- a part's steps, and a restart behind them, settle what its stretch settled, and as lost what waits
+  -- a part's steps, and a restart after them, settle what its stretch settled, and as lost what waits
   fit_ended : (p : Part) (s : Stretch State) → Fits p s → settled_by fresh (p.steps ++ Restart ∷ []) ≡ own_settled ends s ++ map lost (world ends s).client.waiting
   fit_ended p s f =
       let c = client_after fresh p.steps in
@@ -166,7 +168,7 @@ module _ {State : Type 0} (ends : Ends State) (Good : State → Type 0) (kept : 
         → Books reads commands fresh [] rs p end.client end.marks (sent_of end.records) → AreOf commands p.marks (map asked (own_sent ends s))
     of_last rs p s end f h = subst (AreOf commands p.marks) (fit_sent p s f) h.wrote.sent
 
-    -- the marks of a part behind which the client restarts are of the stretch's requests
+    -- the marks of a part after which the client restarts are of the stretch's requests
     of_ended : (rs mid : List Record) (p : Part) (s : Stretch State) → Fits p s → Books reads commands fresh [] rs (joined p restarting) fresh [] mid
         → AreOf commands p.marks (map asked (own_sent ends s))
     of_ended rs mid p s f h =
@@ -178,7 +180,7 @@ module _ {State : Type 0} (ends : Ends State) (Good : State → Type 0) (kept : 
         → map timeless (sent_of end.records) ≡ map timeless rs ++ records_of reads 0 p.marks (own_settled ends s)
     written_last rs p s end f h = h.wrote.records ∙ ap (λ l. map timeless rs ++ records_of reads 0 p.marks l) (fit_settled p s f)
 
-    -- the records of a part behind which the client restarts are those of what the stretch settled, and of what was lost
+    -- the records of a part after which the client restarts are those of what the stretch settled, and of what was lost
     written_ended : (rs mid : List Record) (p : Part) (s : Stretch State) → Fits p s → Books reads commands fresh [] rs (joined p restarting) fresh [] mid
         → map timeless mid ≡ map timeless rs ++ records_of reads 0 p.marks (own_settled ends s ++ map lost (world ends s).client.waiting)
     written_ended rs mid p s f h =
@@ -210,7 +212,7 @@ module _ {State : Type 0} (ends : Ends State) (Good : State → Type 0) (kept : 
 
   -- Its own.
 
-  -- an answer that is its own in the later stretches is its own in all
+  -- an answer that is its own in the later stretches is its own in these with one more in front
   own_later : (commands : List Task) (p : Part) (s : Stretch State) (ps : List Part) (ss : List (Stretch State)) (r : Record) (line : List ℕ)
       → IsItsOwn ends Good kept commands ps ss r line → IsItsOwn ends Good kept commands (p ∷ ps) (s ∷ ss) r line
   own_later commands p s ps ss r line h = record {
@@ -220,7 +222,7 @@ module _ {State : Type 0} (ends : Ends State) (Good : State → Type 0) (kept : 
     of_parts = h.of_parts;
     of_stretches = h.of_stretches;
     m = h.m;
-    near = h.near;
+    expected = h.expected;
     mark = h.mark;
     request = h.request;
     sent = h.sent;
@@ -234,7 +236,7 @@ module _ {State : Type 0} (ends : Ends State) (Good : State → Type 0) (kept : 
     made_on = h.made_on;
   }
 
-  -- an answer is its own whenever it was written down
+  -- whether an answer is its own doesn't depend on the moment at which it was written down
   own_timeless : (commands : List Task) (ps : List Part) (ss : List (Stretch State)) (r : Record) (line : List ℕ)
       → IsItsOwn ends Good kept commands ps ss (timeless r) line → IsItsOwn ends Good kept commands ps ss r line
   own_timeless commands ps ss r line h = record {
@@ -244,7 +246,7 @@ module _ {State : Type 0} (ends : Ends State) (Good : State → Type 0) (kept : 
     of_parts = h.of_parts;
     of_stretches = h.of_stretches;
     m = h.m;
-    near = h.near;
+    expected = h.expected;
     mark = h.mark;
     request = h.request;
     sent = h.sent;
@@ -258,13 +260,13 @@ module _ {State : Type 0} (ends : Ends State) (Good : State → Type 0) (kept : 
     made_on = h.made_on;
   }
 
-  -- answers are their own whenever they were written down
+  -- whether answers are their own doesn't depend on the moments at which they were written down
   all_timeless : (commands : List Task) (ps : List Part) (ss : List (Stretch State)) (rs : List Record)
       → AllByRecursion (IsOwnAnswer ends Good kept commands ps ss) (map timeless rs) → AllByRecursion (IsOwnAnswer ends Good kept commands ps ss) rs
   all_timeless commands ps ss [] h = tt
   all_timeless commands ps ss (r ∷ rs) h = (λ line answered. own_timeless commands ps ss r line (h.0 line answered), all_timeless commands ps ss rs h.1)
 
-  -- records that are their own in the later stretches are their own in all
+  -- answers that are their own in the later stretches are their own in these with one more in front
   all_later : (commands : List Task) (p : Part) (s : Stretch State) (ps : List Part) (ss : List (Stretch State)) (rs : List Record)
       → AllByRecursion (IsOwnAnswer ends Good kept commands ps ss) rs → AllByRecursion (IsOwnAnswer ends Good kept commands (p ∷ ps) (s ∷ ss)) rs
   all_later commands p s ps ss [] h = tt
@@ -278,7 +280,7 @@ module _ {State : Type 0} (ends : Ends State) (Good : State → Type 0) (kept : 
   own_first reads commands p s ps ss waiting xs e f sent =
       all_records reads (IsOwnAnswer ends Good kept commands (p ∷ ps) (s ∷ ss)) p.marks xs
       (λ n mark x at got line says.
-      let answered : x.outcome ≡ Answered line = was_answered (record_of reads 0 mark x) x (record { reads = reads; near = mark.near; command = refl; ended = refl }) line says in
+      let answered : x.outcome ≡ Answered line = was_answered (record_of reads 0 mark x) x (record { reads = reads; expected = mark.expected; command = refl; ended = refl }) line says in
       let here = among_settled (own_settled ends s) waiting n x line (sym (ap (λ l. slice_get l n) e) ∙ got) answered in
       let beyond : 8 ≤ 8 + n = omega arith in
       let there = get_drop 8 n (world ends s).wire.settled x here in
@@ -293,7 +295,7 @@ module _ {State : Type 0} (ends : Ends State) (Good : State → Type 0) (kept : 
         of_parts = refl;
         of_stretches = refl;
         m = n;
-        near = mark.near;
+        expected = mark.expected;
         mark = at;
         request = r.0;
         sent = r.1;
@@ -327,8 +329,9 @@ module _ {State : Type 0} (ends : Ends State) (Good : State → Type 0) (kept : 
   -- a record of a command that didn't go out is no answer
   unsent_own : (commands : List Task) (ps : List Part) (ss : List (Stretch State)) (r : Record) → went_out r.end ≡ false → IsOwnAnswer ends Good kept commands ps ss r
   unsent_own commands ps ss r out line answered = absurd (none r.end out answered) where
+    -- the end of a command that didn't go out is no answer
     none : (e : End) → went_out e ≡ false → answer_of e ≡ Some line → ⊥
-    none (end.Answered said l) out answered = cc
+    none (end.Answered quality said l) out answered = cc
     none (end.Unreadable l fault) out answered = cc
     none (end.Elsewhere l) out answered = cc
     none end.Late out answered = cc
@@ -348,7 +351,7 @@ module _ {State : Type 0} (ends : Ends State) (Good : State → Type 0) (kept : 
 
   -- Dealt with, though late.
 
-  -- if the instrument dealt with a late record in the later stretches, it dealt with it in all of them
+  -- if the instrument dealt with a late record in the later stretches, it did so in these stretches with one more in front
   late_later : (commands : List Task) (p : Part) (s : Stretch State) (ps : List Part) (ss : List (Stretch State)) (r : Record)
       → IsDealtWith ends Good kept commands ps ss r → IsDealtWith ends Good kept commands (p ∷ ps) (s ∷ ss) r
   late_later commands p s ps ss r f = λ late.
@@ -360,7 +363,7 @@ module _ {State : Type 0} (ends : Ends State) (Good : State → Type 0) (kept : 
         of_parts = h.of_parts;
         of_stretches = h.of_stretches;
         m = h.m;
-        near = h.near;
+        expected = h.expected;
         mark = h.mark;
         task =
             h.task;
@@ -369,13 +372,13 @@ module _ {State : Type 0} (ends : Ends State) (Good : State → Type 0) (kept : 
         made_on = h.made_on;
       }
 
-  -- the instrument dealt with all late ones of the later stretches, so of all stretches
+  -- if the instrument dealt with all late records in the later stretches, it did so in these stretches with one more in front
   late_all_later : (commands : List Task) (p : Part) (s : Stretch State) (ps : List Part) (ss : List (Stretch State)) (rs : List Record)
       → AllByRecursion (IsDealtWith ends Good kept commands ps ss) rs → AllByRecursion (IsDealtWith ends Good kept commands (p ∷ ps) (s ∷ ss)) rs
   late_all_later commands p s ps ss [] h = tt
   late_all_later commands p s ps ss (r ∷ rs) h = (late_later commands p s ps ss r h.0, late_all_later commands p s ps ss rs h.1)
 
-  -- the instrument dealt with late ones, whenever they were written down
+  -- whether the instrument dealt with late records doesn't depend on the moments at which they were written down
   late_timeless : (commands : List Task) (ps : List Part) (ss : List (Stretch State)) (rs : List Record)
       → AllByRecursion (IsDealtWith ends Good kept commands ps ss) (map timeless rs) → AllByRecursion (IsDealtWith ends Good kept commands ps ss) rs
   late_timeless commands ps ss [] h = tt
@@ -388,7 +391,7 @@ module _ {State : Type 0} (ends : Ends State) (Good : State → Type 0) (kept : 
           of_parts = g.of_parts;
           of_stretches = g.of_stretches;
           m = g.m;
-          near = g.near;
+          expected = g.expected;
           mark = g.mark;
           task =
               g.task;
@@ -399,7 +402,7 @@ module _ {State : Type 0} (ends : Ends State) (Good : State → Type 0) (kept : 
     late_timeless commands ps ss rs h.1,
   )
 
-  -- the instrument dealt with the late ones among what the first stretch settled
+  -- the instrument dealt with the late records among those that the first stretch writes down
   late_first : (reads : Call → List ℕ → Reading) (commands : List Task) (p : Part) (s : Stretch State) (ps : List Part) (ss : List (Stretch State))
       (waiting : List Pending) (xs : List Settlement) → xs ≡ own_settled ends s ++ map lost waiting → Fits p s
       → AreOf commands p.marks (map asked (own_sent ends s))
@@ -407,7 +410,7 @@ module _ {State : Type 0} (ends : Ends State) (Good : State → Type 0) (kept : 
   late_first reads commands p s ps ss waiting xs e f sent =
       all_records reads (IsDealtWith ends Good kept commands (p ∷ ps) (s ∷ ss)) p.marks xs
       (λ n mark x at got says.
-      let late : x.outcome ≡ Late = was_late (record_of reads 0 mark x) x (record { reads = reads; near = mark.near; command = refl; ended = refl }) says in
+      let late : x.outcome ≡ Late = was_late (record_of reads 0 mark x) x (record { reads = reads; expected = mark.expected; command = refl; ended = refl }) says in
       let here = among_late (own_settled ends s) waiting n x (sym (ap (λ l. slice_get l n) e) ∙ got) late in
       let beyond : 8 ≤ 8 + n = omega arith in
       let there = get_drop 8 n (world ends s).wire.settled x here in
@@ -422,7 +425,7 @@ module _ {State : Type 0} (ends : Ends State) (Good : State → Type 0) (kept : 
         of_parts = refl;
         of_stretches = refl;
         m = n;
-        near = mark.near;
+        expected = mark.expected;
         mark = at;
         task = a.2.0;
         listed = a.2.1;
@@ -430,7 +433,7 @@ module _ {State : Type 0} (ends : Ends State) (Good : State → Type 0) (kept : 
         made_on = subst (λ call. WasMadeOn 7 ends s.from s.moves (8 + n) call made.0) right made.1;
       })
 
-  -- the instrument dealt with the late ones that the stretches write down
+  -- the instrument dealt with all late records that the stretches write down
   pub late_all : (reads : Call → List ℕ → Reading) (commands : List Task) (ps : List Part) (ss : List (Stretch State)) → AllFit ps ss
       → AreSentAs ends commands ps ss → AllByRecursion (IsDealtWith ends Good kept commands ps ss) (written_over ends reads ps ss)
   late_all reads commands [] [] f h = tt
@@ -445,7 +448,8 @@ module _ {State : Type 0} (ends : Ends State) (Good : State → Type 0) (kept : 
       (late_first reads commands p s (q ∷ ps) (t ∷ ss) (world ends s).client.waiting xs refl f.0 h.0)
       (late_all_later commands p s (q ∷ ps) (t ∷ ss) (written_over ends reads (q ∷ ps) (t ∷ ss)) (late_all reads commands (q ∷ ps) (t ∷ ss) f.1 h.1))
 
-  -- if the instrument dealt with the late ones that went out, it did with all
+  -- if the instrument dealt with all late records of commands that went out, it dealt with all late records: no other command
+  -- is late
   late_sent : (commands : List Task) (ps : List Part) (ss : List (Stretch State)) (rs : List Record)
       → AllByRecursion (IsDealtWith ends Good kept commands ps ss) (sent_of rs) → AllByRecursion (IsDealtWith ends Good kept commands ps ss) rs
   late_sent commands ps ss [] h = tt

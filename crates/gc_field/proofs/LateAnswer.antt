@@ -29,14 +29,17 @@ answer_made : WasMadeOn WINDOW ends from moves 9 InstrumentNo answer
 unfolding is_elsewhere header_at reply_at handed exec digits
 answer_made = record { front = take 9 moves; later = drop 10 moves; split = refl; id = 1; rest = []; reaches = refl; executed = refl; reply = refl }
 
+-- the run has one part: its turns, steps, and the two requests by place and moment
 parts_are : parts_of plan commands (opening plan scope) acts ≡ one_part (asked_each replies) (seen moves) ((0, 15) ∷ (1, 115) ∷ [])
 unfolding is_elsewhere header_at reply_at digits
 parts_are = refl
 
+-- what the line does while the station begins shows these turns
 shown_are : shown ends eight (begins before) ≡ asked_each replies
 unfolding is_elsewhere header_at reply_at handed exec digits
 shown_are = refl
 
+-- this run is in the field, and writes down a late record and an answer
 pub come_late : IsLateInField
 unfolding is_elsewhere header_at reply_at handed exec digits
 come_late =

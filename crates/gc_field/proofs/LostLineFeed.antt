@@ -53,6 +53,7 @@ refused : (s : State) → IsReplied s joint s (Some refusal)
 unfolding digits
 refused s = answers fields is_request refusal (refuses (Parameters Count) (InstrumentNo, refl, too_many) refl refl) refl
 
+-- the reply to the joint line is booked for the request that was cut
 pub joined : IsBookedJoined
 unfolding header_at request_at reply_at handed exec digits
 joined =

@@ -1,4 +1,4 @@
--- Each act of a run means its turns, or its steps.
+-- Each act of a run means what its part says: turns while the station begins, steps of the client once it has begun.
 use Rattle.std.proofs.Common.{◌≡◌, ◌⊎◌, inl, inr, ℕ, Bool, true, false, if◌then◌else◌, List, [], ◌∷◌, map, refl, sym, ◌∙◌, ap, subst}
 use Rattle.gc_client.specs.Rule.{ById}
 use Rattle.gc_texts.specs.declared.tasks.Task.{Task}
@@ -19,7 +19,7 @@ use Rattle.gc_field.specs.Asking.{IsAskedFor, IsTaken, MeansTurns}
 use Rattle.gc_field.specs.Meaning.{IsPut, Means}
 use Rattle.gc_field.specs.Runs.{AreMeant, IsMeant}
 
--- bytes that go out by a part are what they mean to the client
+-- where bytes that go out mean the part p to the station, they mean the part's steps to its client
 put_means : (s : Model) (bytes : List ℕ) (p : Part) → meant.IsPut s bytes p → IsPut s.client bytes p.steps
 put_means s bytes p (inl e) = inl (e.0, ap (λ (x : Part). x.steps) e.1)
 put_means s bytes p (inr x) =
@@ -33,13 +33,15 @@ put_means s bytes p (inr x) =
       step = ap (λ (y : Part). y.steps) x.part;
     })
 
--- a piece means its lines, where it is heard, and nothing where it is dropped
+-- what a piece of bytes that came means to the client: the moment, and its lines where it is heard (`h`); the moment alone
+-- where it is dropped. `rest` and `behind` are the bytes since the last line feed, before the piece and after it
 gave_means : (client : ById) (h : Bool) (rest behind piece : List ℕ) (m : Moment) → behind ≡ left_of h rest (Gave piece m)
     → Means client rest (Gave piece m) (Expire m.elapsed ∷ hearing h rest piece) behind
 gave_means client true rest behind piece m e = inl (record { lines = refl; rest = e })
 gave_means client false rest behind piece m e = inr (record { lines = refl; rest = e })
 
--- while a station begins a piece means its lines, where it is heard, and nothing where it is dropped
+-- what a piece of bytes that came means while a station begins: its lines where it is heard (`h`); nothing where it is dropped.
+-- `rest` and `behind` are as in `gave_means`
 taken : (h : Bool) (rest behind piece : List ℕ) (m : Moment) → behind ≡ left_of h rest (Gave piece m) → IsTaken rest piece (if h then map Hears (lines_behind rest piece) else []) behind
 taken true rest behind piece m e = inl (refl, e)
 taken false rest behind piece m e = inr (refl, e)
@@ -61,6 +63,7 @@ module _ (plan : Plan) (commands : List Task) where
         (put_is plan commands s (Put bytes) bytes fine obeys refl begun),
     rest_is plan commands s (Put bytes) obeys ∙ plain (is_heard s.progress.phase),
   ) where
+    -- this act leaves the bytes since the last line feed as they were
     plain : (h : Bool) → left_of h s.rest (Put bytes) ≡ s.rest
     plain true = refl
     plain false = refl
@@ -70,38 +73,47 @@ module _ (plan : Plan) (commands : List Task) where
     rest_is plan commands s (Cut bytes count) obeys
         ∙ plain (is_heard s.progress.phase),
   ) where
+    -- this act leaves the bytes since the last line feed as they were
     plain : (h : Bool) → left_of h s.rest (Cut bytes count) ≡ s.rest
     plain true = refl
     plain false = refl
   act_means s (Told m) fine begun obeys = (refl, rest_is plan commands s (Told m) obeys ∙ plain (is_heard s.progress.phase)) where
+    -- this act leaves the bytes since the last line feed as they were
     plain : (h : Bool) → left_of h s.rest (Told m) ≡ s.rest
     plain true = refl
     plain false = refl
   act_means s Untold fine begun obeys = (refl, rest_is plan commands s Untold obeys ∙ plain (is_heard s.progress.phase)) where
+    -- this act leaves the bytes since the last line feed as they were
     plain : (h : Bool) → left_of h s.rest Untold ≡ s.rest
     plain true = refl
     plain false = refl
   act_means s (Silent m) fine begun obeys = (refl, rest_is plan commands s (Silent m) obeys ∙ plain (is_heard s.progress.phase)) where
+    -- this act leaves the bytes since the last line feed as they were
     plain : (h : Bool) → left_of h s.rest (Silent m) ≡ s.rest
     plain true = refl
     plain false = refl
   act_means s Ended fine begun obeys = (refl, rest_is plan commands s Ended obeys ∙ plain (is_heard s.progress.phase)) where
+    -- this act leaves the bytes since the last line feed as they were
     plain : (h : Bool) → left_of h s.rest Ended ≡ s.rest
     plain true = refl
     plain false = refl
   act_means s Broke fine begun obeys = (refl, rest_is plan commands s Broke obeys ∙ plain (is_heard s.progress.phase)) where
+    -- this act leaves the bytes since the last line feed as they were
     plain : (h : Bool) → left_of h s.rest Broke ≡ s.rest
     plain true = refl
     plain false = refl
   act_means s Closed fine begun obeys = (refl, rest_is plan commands s Closed obeys ∙ plain (is_heard s.progress.phase)) where
+    -- a close forgets the bytes since the last line feed
     plain : (h : Bool) → left_of h s.rest Closed ≡ []
     plain true = refl
     plain false = refl
   act_means s Opened fine begun obeys = (refl, rest_is plan commands s Opened obeys ∙ plain (is_heard s.progress.phase)) where
+    -- this act leaves the bytes since the last line feed as they were
     plain : (h : Bool) → left_of h s.rest Opened ≡ s.rest
     plain true = refl
     plain false = refl
   act_means s Unopened fine begun obeys = (refl, rest_is plan commands s Unopened obeys ∙ plain (is_heard s.progress.phase)) where
+    -- this act leaves the bytes since the last line feed as they were
     plain : (h : Bool) → left_of h s.rest Unopened ≡ s.rest
     plain true = refl
     plain false = refl
@@ -117,6 +129,7 @@ module _ (plan : Plan) (commands : List Task) where
         (asked_is plan commands s (Put bytes) bytes obeys refl begins),
     rest_is plan commands s (Put bytes) obeys ∙ plain (is_heard s.progress.phase),
   ) where
+    -- this act leaves the bytes since the last line feed as they were
     plain : (h : Bool) → left_of h s.rest (Put bytes) ≡ s.rest
     plain true = refl
     plain false = refl
@@ -126,43 +139,52 @@ module _ (plan : Plan) (commands : List Task) where
     rest_is plan commands s (Cut bytes count) obeys
         ∙ plain (is_heard s.progress.phase),
   ) where
+    -- this act leaves the bytes since the last line feed as they were
     plain : (h : Bool) → left_of h s.rest (Cut bytes count) ≡ s.rest
     plain true = refl
     plain false = refl
   turns_mean s Untold begins obeys = (turns_plain plan commands s (action_at plan s) Untold tt, rest_is plan commands s Untold obeys ∙ plain (is_heard s.progress.phase)) where
+    -- this act leaves the bytes since the last line feed as they were
     plain : (h : Bool) → left_of h s.rest Untold ≡ s.rest
     plain true = refl
     plain false = refl
   turns_mean s (Told m) begins obeys = (turns_plain plan commands s (action_at plan s) (Told m) tt, rest_is plan commands s (Told m) obeys ∙ plain (is_heard s.progress.phase)) where
+    -- this act leaves the bytes since the last line feed as they were
     plain : (h : Bool) → left_of h s.rest (Told m) ≡ s.rest
     plain true = refl
     plain false = refl
   turns_mean s (Silent m) begins obeys = (turns_plain plan commands s (action_at plan s) (Silent m) tt, rest_is plan commands s (Silent m) obeys ∙ plain (is_heard s.progress.phase)) where
+    -- this act leaves the bytes since the last line feed as they were
     plain : (h : Bool) → left_of h s.rest (Silent m) ≡ s.rest
     plain true = refl
     plain false = refl
   turns_mean s Ended begins obeys = (turns_plain plan commands s (action_at plan s) Ended tt, rest_is plan commands s Ended obeys ∙ plain (is_heard s.progress.phase)) where
+    -- this act leaves the bytes since the last line feed as they were
     plain : (h : Bool) → left_of h s.rest Ended ≡ s.rest
     plain true = refl
     plain false = refl
   turns_mean s Broke begins obeys = (turns_plain plan commands s (action_at plan s) Broke tt, rest_is plan commands s Broke obeys ∙ plain (is_heard s.progress.phase)) where
+    -- this act leaves the bytes since the last line feed as they were
     plain : (h : Bool) → left_of h s.rest Broke ≡ s.rest
     plain true = refl
     plain false = refl
   turns_mean s Opened begins obeys = (turns_plain plan commands s (action_at plan s) Opened tt, rest_is plan commands s Opened obeys ∙ plain (is_heard s.progress.phase)) where
+    -- this act leaves the bytes since the last line feed as they were
     plain : (h : Bool) → left_of h s.rest Opened ≡ s.rest
     plain true = refl
     plain false = refl
   turns_mean s Unopened begins obeys = (turns_plain plan commands s (action_at plan s) Unopened tt, rest_is plan commands s Unopened obeys ∙ plain (is_heard s.progress.phase)) where
+    -- this act leaves the bytes since the last line feed as they were
     plain : (h : Bool) → left_of h s.rest Unopened ≡ s.rest
     plain true = refl
     plain false = refl
   turns_mean s Closed begins obeys = (turns_plain plan commands s (action_at plan s) Closed tt, rest_is plan commands s Closed obeys ∙ plain (is_heard s.progress.phase)) where
+    -- a close forgets the bytes since the last line feed
     plain : (h : Bool) → left_of h s.rest Closed ≡ []
     plain true = refl
     plain false = refl
 
-  -- an act means its part, before the station has begun and then
+  -- an act means its part, whether the station has begun (`b`) or not
   is_meant : (s : Model) (act : Act) (b : Bool) → has_begun s.progress ≡ b → Invariant plan commands s → Performs commands s (action_at plan s) act
       → IsMeant b s act (if b then doing plan commands s (action_at plan s) act else beginning s (action_at plan s) act) (after plan commands s act)
   is_meant s act true e fine obeys = (none_doing plan commands s (action_at plan s) act, act_means s act fine e obeys)

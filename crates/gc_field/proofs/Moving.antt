@@ -1,4 +1,6 @@
--- Over any moves the run by ids is the run by numbers, and each reply is its own request's.
+-- Over any moves, the client that knows ids does what the client does that is given the number of each reply's request; and
+-- each reply is its own request's. The world with the latter client is called the world of numbers here, that with the former
+-- the world of ids.
 use Rattle.std.proofs.Common.{◌≡◌, ℕ, ◌+◌, ◌-◌, ◌%◌, ◌<◌, ◌≤◌, ◌⊎◌, inl, inr, Bool, true, false, List, [], ◌∷◌, ◌++◌, length, drop, Option, Some, refl, sym, ◌∙◌, ap, subst, arith, ltb, eqb}
 use Rattle.std.specs.Prelude.{slice_get}
 use Rattle.std.proofs.lemmas.List.{length_push}
@@ -24,7 +26,8 @@ use Rattle.gc_field.proofs.Once.{IsClimbing, once_few, climbing_first, order_few
 use Rattle.gc_field.proofs.Vouched.{IsVouched, Vouched, kept_one, True, IsOn, true_requested, true_down, true_line, true_started, true_changed}
 
 module _ {State : Type 0} (width : ℕ) (narrow : width ≤ 7) (ends : Ends State) (Good : State → Type 0) (ex : IsExchange ends Good) (kept : State → Option KeptReply) where
-  -- the world of ids and the world of numbers agree, and the line of the second is as it has to be
+  -- the world of ids and the world of numbers agree, and the latter is sound: its line keeps order, with ids that belong to its
+  -- numbers
   pub record Both (a : World ById State) (b : World ByNumber State) : Type 0 where
     pub agree : Agree width narrow ends Good a b
     pub sound : Sound width ends Good b
@@ -77,14 +80,14 @@ module _ {State : Type 0} (width : ℕ) (narrow : width ≤ 7) (ends : Ends Stat
   both_open state good =
       record { agree = record { wire = refl; client = record { window = refl; next = omega arith } }; sound = sound_open width ends Good state good }
 
-  -- in the world of numbers, a reply whose request isn't settled settles it, and those before it as lost
+  -- in the world of numbers, a reply to a request that isn't settled settles that request, and those before it as lost
   heard_first : (b : World ByNumber State) (n : ℕ) (line : List ℕ) (rest q : List (Numbered (List ℕ))) → q ≡ record { number = n; line = line } ∷ rest → b.client.count ≤ n →
       (down_delivered (by_numbers width) b q).wire.settled ≡ b.wire.settled ++ settle (n - b.client.count) line (drop b.client.count b.client.requests)
   heard_first b n line rest q e le =
       ap (λ q. (down_delivered (by_numbers width) b q).wire.settled) e
       ∙ ap (λ t. b.wire.settled ++ (number_reply b.client (record { number = n; line = line }) t).settlements) (le-ltb n b.client.count le)
 
-  -- in the world of ids, a reply whose request isn't settled settles it, and those before it as lost
+  -- in the world of ids, a reply to a request that isn't settled settles that request, and those before it as lost
   pub first_reply : (a : World ById State) (b : World ByNumber State) (n : ℕ) (line : List ℕ) (rest : List (Numbered (List ℕ))) → Both a b
       → a.wire.down ≡ record { number = n; line = line } ∷ rest → length a.wire.settled ≤ n →
       (moves ends (by_ids width ends) a (Comes line)).wire.settled ≡ a.wire.settled ++ settle (n - length a.wire.settled) line a.client.waiting
@@ -100,9 +103,11 @@ module _ {State : Type 0} (width : ℕ) (narrow : width ≤ 7) (ends : Ends Stat
 
 module _ {State : Type 0} (width : ℕ) (narrow : width ≤ 7) (ends : Ends State) (Good : State → Type 0) (ex : IsExchange ends Good)
     (kept : State → Option KeptReply) (keeper : IsAnInstrument ends Good kept) (low : ℕ) (beyond : 0 < low) (M : ℕ → Call → List ℕ → Type 0) where
+  -- the invariant `True` of `Vouched`, for these parameters: each reply under way and each answer was made for its own request
   abbrev Trusted : World ByNumber State → Type 0
   Trusted w = True width narrow ends Good ex kept keeper low M w
 
+  -- the line is vouched for as a reply to request n, or request n is one of those that are excepted
   abbrev pub Vouches : Wire State → ℕ → List ℕ → Type 0
   Vouches w n line = Vouched width narrow ends Good ex kept keeper low M w.sent w.executed w.made n line
 
@@ -112,7 +117,7 @@ module _ {State : Type 0} (width : ℕ) (narrow : width ≤ 7) (ends : Ends Stat
     pub order : IsInOrder w.executed
     pub once : KeepsItsReply ends Good kept → ActsOnce w.executed w.starts
 
-  -- what is vouched for of an answer, and of a late reply, from request low on
+  -- the line of an answer to a request from `low` on is vouched for
   pub vouched_of :
       (w : Wire State) (m : ℕ) (s : Settlement) (line : List ℕ) → low ≤ m → AllSo (Vouches w) 0 w.settled → slice_get w.settled m ≡ Some s → s.outcome ≡ Answered line
       → IsVouched width narrow ends Good ex kept keeper low M w.sent w.executed w.made m line
@@ -136,17 +141,18 @@ module _ {State : Type 0} (width : ℕ) (narrow : width ≤ 7) (ends : Ends Stat
         | inr v ↦ (so.0, v)
       ]
 
-  -- where a request reaches the instrument at one of these moves, and is executed, M is so of its reply
+  -- each request that reaches the instrument at one of these moves, and is executed, has a reply with the property M
   abbrev pub AreOn : List (Move State) → World ByNumber State → Type 0
   AreOn ms b =
       (front later : List (Move State)) → ms ≡ front ++ OnLine Up_deliver ∷ later → (x : Numbered Request) (rest : List (Numbered Request)) →
       (moved ends (by_numbers width) front b).wire.up ≡ x ∷ rest →
       IsOn width narrow ends Good ex kept keeper low M (moved ends (by_numbers width) front b) x
 
-  -- where `AreOn` holds of moves, it holds of those behind the first
+  -- `AreOn` of moves gives `AreOn` of those after the first, in the world that the first leaves
   are_on_behind : (m : Move State) (ms : List (Move State)) (b : World ByNumber State) → AreOn (m ∷ ms) b → AreOn ms (moves ends (by_numbers width) b m)
   are_on_behind m ms b on = λ front later e. on (m ∷ front) later (ap (λ l. m ∷ l) e)
 
+  -- `Trusted` lasts over a possible move, where its execution, if it is one, is `AreOn`
   trusted_move : (m : Move State) (ms : List (Move State)) (a : World ById State) (b : World ByNumber State) → Both width narrow ends Good ex kept a b → IsPossible Good kept a m
       → AreOn (m ∷ ms) b → Sound width ends Good b → Trusted b → Trusted (moves ends (by_numbers width) b m)
   trusted_move (Sends target call deadline) ms a b both p on s t =
@@ -169,10 +175,13 @@ module _ {State : Type 0} (width : ℕ) (narrow : width ≤ 7) (ends : Ends Stat
       whole_all ms _ _ (both_move width narrow ends Good ex kept a b m p.0 h) p.1 (are_on_behind m ms b on) (trusted_move m ms a b h p.0 on h.sound t)
 
   -- Before the first request reached the instrument, which may keep anything.
+
+  -- how many requests were sent at most: none, or one (true)
   abbrev pub ones : Bool → ℕ
   ones false = 0
   ones true = 1
 
+  -- nothing was executed, settled or sent back yet, and at most one request was sent; none where `out` is false
   pub record IsFresh (b : World ByNumber State) (out : Bool) : Type 0 where
     pub since : b.client.since ≡ 0
     pub count : b.client.count ≡ 0
@@ -182,12 +191,14 @@ module _ {State : Type 0} (width : ℕ) (narrow : width ≤ 7) (ends : Ends Stat
     pub sent : length b.wire.sent ≤ ones out
     pub lines : Each (IsOf b.wire.sent) b.wire.up
 
+  -- what holds of every value holds of each element of a list
   each_all : {A : Type 0} (P : A → Type 0) → ((x : A) → P x) → (xs : List A) → Each P xs
   each_all P f [] = tt
   each_all P f (x ∷ xs) = (f x, each_all P f xs)
 
   -- the first request reaches it: from then on what is kept has the id of the last request that it was handed
   module _ (b : World ByNumber State) (out : Bool) (s : Sound width ends Good b) (f : IsFresh b out) where
+    -- once the first request reached the instrument, the world is `Trusted`
     fresh_reached : (x : Numbered Request) (rest : List (Numbered Request)) → b.wire.up ≡ x ∷ rest → Trusted (on_wire b (replied b.wire x.number rest (ends.handed b.wire.state x.line.id x.line.call)))
     fresh_reached x rest q =
         let v = b.wire in
@@ -219,22 +230,27 @@ module _ {State : Type 0} (width : ℕ) (narrow : width ≤ 7) (ends : Ends Stat
               (climbing_first x.number v.executed v.starts hd.executed (record { id = x.line.id; line = hd.reply }) f.executed nought);
         }
       where
+        -- a fresh world has sent at most one request
         below_two : (out : Bool) → length b.wire.sent ≤ ones out → length b.wire.sent ≤ 1
         below_two true l = l
         below_two false l = omega (arith, l)
 
+    -- where the front request reaches the instrument, a fresh world becomes `Trusted`; where there is no request, it stays fresh
     fresh_up : (q : List (Numbered Request)) → b.wire.up ≡ q → (IsFresh (on_wire b (up_delivered ends b.wire q)) out) ⊎ Trusted (on_wire b (up_delivered ends b.wire q))
     fresh_up [] q = inl (record { since = f.since; count = f.count; down = f.down; executed = f.executed; settled = f.settled; sent = f.sent; lines = f.lines })
     fresh_up (x ∷ rest) q = inr (fresh_reached x rest q)
 
+    -- a fresh world stays fresh where a request under way is lost or repeated
     fresh_with_up : (up : List (Numbered Request)) (t : Bool) → Each (IsOf b.wire.sent) up → IsFresh (on_wire b (with_up b.wire up t)) out
     fresh_with_up up true l = record { since = f.since; count = f.count; down = f.down; executed = f.executed; settled = f.settled; sent = f.sent; lines = l }
     fresh_with_up up false l = record { since = f.since; count = f.count; down = f.down; executed = f.executed; settled = f.settled; sent = f.sent; lines = f.lines }
 
+    -- a fresh world stays fresh over a loss or a repeat of a reply: none is under way
     fresh_with_down : (down : List (Numbered (List ℕ))) (t : Bool) → down ≡ [] → IsFresh (on_wire b (with_down b.wire down t)) out
     fresh_with_down down true l = record { since = f.since; count = f.count; down = l; executed = f.executed; settled = f.settled; sent = f.sent; lines = f.lines }
     fresh_with_down down false l = record { since = f.since; count = f.count; down = f.down; executed = f.executed; settled = f.settled; sent = f.sent; lines = f.lines }
 
+    -- over a step of the line a fresh world stays fresh or becomes `Trusted`
     fresh_line : (step : Step) → IsOfLine step → (IsFresh (happens ends (by_numbers width) b step) out) ⊎ Trusted (happens ends (by_numbers width) b step)
     fresh_line (Send target call deadline) p = absurd p
     fresh_line Up_deliver p = fresh_up b.wire.up refl
@@ -248,7 +264,7 @@ module _ {State : Type 0} (width : ℕ) (narrow : width ≤ 7) (ends : Ends Stat
     fresh_line Restart_instrument p = absurd p
     fresh_line Nothing p = inl (record { since = f.since; count = f.count; down = f.down; executed = f.executed; settled = f.settled; sent = f.sent; lines = f.lines })
 
-  -- the first request goes out, or is refused
+  -- a fresh world stays fresh where the first request goes out, or is refused
   fresh_sent : (b : World ByNumber State) (target : ℕ) (call : Call) (deadline : ℕ) (full : Bool) → IsFresh b false
       → IsFresh (requested b target call (number_send b.client target call deadline full)) true
   fresh_sent b target call deadline true f = record { since = f.since; count = f.count; down = f.down; executed = f.executed; settled = f.settled; sent = omega (arith, f.sent); lines = f.lines }
@@ -268,13 +284,14 @@ module _ {State : Type 0} (width : ℕ) (narrow : width ≤ 7) (ends : Ends Stat
             (record { request = r; found = get_push b.wire.sent r; small = omega arith; call = refl; text = refl }, tt);
       }
 
+  -- in a fresh world no reply is under way
   nothing_down : (a : World ById State) (b : World ByNumber State) (out : Bool) (x : Numbered (List ℕ)) (rest : List (Numbered (List ℕ))) → Both width narrow ends Good ex kept a b
       → IsFresh b out → a.wire.down ≡ x ∷ rest → ⊥
   nothing_down a b out x rest h f e =
       let none : [] ≡ x ∷ rest = sym f.down ∙ sym (ap (λ (w : Wire State). w.down) h.agree.wire) ∙ e in
       cc
 
-  -- behind possible moves whose first request goes out alone the answers are vouched for, whatever the instrument kept before
+  -- after possible moves whose first request goes out alone the answers are vouched for, whatever the instrument kept before
   pub early_all : (ms : List (Move State)) (out : Bool) (a : World ById State) (b : World ByNumber State) → Both width narrow ends Good ex kept a b
       → ArePossible ends Good kept (by_ids width ends) ms a → IsFirstAlone out ms → AreOn ms b → IsFresh b out → IsVouchedFor (moved ends (by_numbers width) ms b).wire
   early_all [] out a b h p l on f =
@@ -291,11 +308,13 @@ module _ {State : Type 0} (width : ℕ) (narrow : width ≤ 7) (ends : Ends Stat
       early_all ms out _ _ (both_move width narrow ends Good ex kept a b (Tells now) p.0 h) p.1 (alone_tells out l) (are_on_behind (Tells now) ms b on)
       (record { since = f.since; count = f.count; down = f.down; executed = f.executed; settled = f.settled; sent = f.sent; lines = f.lines })
     where
+      -- a moment that is told changes nothing in whether the first request goes out alone
       alone_tells : (out : Bool) → IsFirstAlone out (Tells now ∷ ms) → IsFirstAlone out ms
       alone_tells true l = l
       alone_tells false l = l
   early_all (Comes line ∷ ms) out a b h p l on f = absurd (nothing_down a b out _ p.0.1 h f p.0.2)
   early_all (Foreign line ∷ ms) out a b h p l on f = early_all ms out a b h p.1 (alone_foreign out l) (are_on_behind (Foreign line) ms b on) f where
+    -- a line without an id changes nothing in whether the first request goes out alone
     alone_foreign : (out : Bool) → IsFirstAlone out (Foreign line ∷ ms) → IsFirstAlone out ms
     alone_foreign true l = l
     alone_foreign false l = l
@@ -306,6 +325,7 @@ module _ {State : Type 0} (width : ℕ) (narrow : width ≤ 7) (ends : Ends Stat
         | inr t ↦ whole_all ms _ _ both p.1 (are_on_behind (OnLine step) ms b on) t
       ]
     where
+      -- a step of the line changes nothing in whether the first request goes out alone
       alone_line : (out : Bool) → IsFirstAlone out (OnLine step ∷ ms) → IsFirstAlone out ms
       alone_line true l = l
       alone_line false l = l
@@ -313,6 +333,7 @@ module _ {State : Type 0} (width : ℕ) (narrow : width ≤ 7) (ends : Ends Stat
       early_all ms out _ _ (both_move width narrow ends Good ex kept a b Anew p.0 h) p.1 (alone_anew out l) (are_on_behind Anew ms b on)
       (record { since = f.since; count = f.count; down = f.down; executed = f.executed; settled = f.settled; sent = f.sent; lines = f.lines })
     where
+      -- a start of the instrument changes nothing in whether the first request goes out alone
       alone_anew : (out : Bool) → IsFirstAlone out (Anew ∷ ms) → IsFirstAlone out ms
       alone_anew true l = l
       alone_anew false l = l
@@ -320,6 +341,7 @@ module _ {State : Type 0} (width : ℕ) (narrow : width ≤ 7) (ends : Ends Stat
       early_all ms out _ _ (both_move width narrow ends Good ex kept a b (Changes state) p.0 h) p.1 (alone_changes out l) (are_on_behind (Changes state) ms b on)
       (record { since = f.since; count = f.count; down = f.down; executed = f.executed; settled = f.settled; sent = f.sent; lines = f.lines })
     where
+      -- a change of the instrument's state changes nothing in whether the first request goes out alone
       alone_changes : (out : Bool) → IsFirstAlone out (Changes state ∷ ms) → IsFirstAlone out ms
       alone_changes true l = l
       alone_changes false l = l

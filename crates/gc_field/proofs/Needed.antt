@@ -1,4 +1,4 @@
--- Instruments that lack something, by computing.
+-- Each clause on instruments is needed: the instruments and runs of `specs/Needed.antt`, computed.
 use Rattle.std.proofs.Common.{◌≡◌, ℕ, ◌<◌, inl, inr, Bool, true, false, cond, List, [], ◌∷◌, Option, Some, None, refl, ◌∙◌, ap, arith, lit<}
 use Rattle.std.proofs.lemmas.Bool.{eqb-true}
 use Rattle.std.specs.Prelude.{nat_eq}
@@ -18,7 +18,7 @@ use Rattle.gc_field.specs.Laws.{WasExecuted}
 use Rattle.gc_field.specs.Needed.{Keeper, IsAllNeeded, InOrder, value, refusal, kept, keeper, held, again_or, refuses_or, answers_in, deals_anew, sound, forgets}
 use Rattle.gc_field.specs.Once.{ActsOnce}
 
--- a number that is kept for an id is kept with that id
+-- where n is held for an id, the reply with that id and n is kept
 pub kept_own : (k : Keeper) (id n : ℕ) → held k id ≡ Some n → kept k ≡ Some (record { id = id; line = value id n })
 kept_own None id n e = let never : ⊥ = cc in absurd never
 kept_own (Some x) id n e = chosen (nat_eq x.0 id) refl e where
@@ -34,6 +34,7 @@ reads_value id n small = ap id_in (reply_back (record { rc_com = 0; id = Some id
 reads_refusal : (id : ℕ) → id < 8 → heard (refusal id) ≡ Some id
 reads_refusal id small = ap id_in (reply_back (record { rc_com = 3081; id = Some id; rc = 0; params = [] }) (record { rc_com = lit< tt; id = small; rc = lit< tt }))
 
+-- true isn't false
 true_is_not : true ≡ false → ⊥
 true_is_not e = cc
 
@@ -47,7 +48,7 @@ again_repeats : (k : Keeper) (id : ℕ) (o : Option ℕ) → held k id ≡ o →
 again_repeats k id (Some n) e not = kept_own k id n e
 again_repeats k id None e not = absurd (true_is_not not)
 
--- behind a request `again_or` keeps the request's reply
+-- after a request `again_or` keeps its reply to that request
 again_keeps : (k : Keeper) (id : ℕ) (o : Option ℕ) → held k id ≡ o → kept (again_or id k o).state ≡ Some (record { id = id; line = (again_or id k o).reply })
 again_keeps k id (Some n) e = kept_own k id n e
 again_keeps k id None e = refl
@@ -66,7 +67,7 @@ refuses_repeats false k id not = absurd (true_is_not not)
 above : (n : ℕ) (xs : List ℕ) → Each (λ m. m < n) xs → WasExecuted xs n → ⊥
 above n xs low h = omega (arith, each_get (λ m. m < n) xs h.0 n low h.1)
 
--- the ninth request of the client wasn't executed here
+-- where only requests 8 to 15 were executed, request 16 wasn't
 ninth : WasExecuted (8 ∷ 9 ∷ 10 ∷ 11 ∷ 12 ∷ 13 ∷ 14 ∷ 15 ∷ []) 16 → ⊥
 ninth h = above 16 (8 ∷ 9 ∷ 10 ∷ 11 ∷ 12 ∷ 13 ∷ 14 ∷ 15 ∷ []) (lit< tt, (lit< tt, (lit< tt, (lit< tt, (lit< tt, (lit< tt, (lit< tt, (lit< tt, tt)))))))) h
 
@@ -143,25 +144,31 @@ sound_is =
       starts_good = λ b good. good;
     }
 
--- what keeps nothing has begun cleanly
+-- an instrument that keeps nothing keeps no reply with another id than 7
 none_kept : {State : Type 0} (state : State) (k : KeptReply) → nothing state ≡ Some k → k.id ≡ 7
 none_kept state k e = let never : ⊥ = cc in absurd never
 
+-- a `Keeper` that has nothing keeps no reply with another id than 7
 none_of : (k : KeptReply) → kept None ≡ Some k → k.id ≡ 7
 none_of k e = let never : ⊥ = cc in absurd never
 
+-- with nothing under way and nothing kept, a beginning is clean
 clean_any : IsClean AnyState nothing (none_under_way false)
 clean_any = record { good = tt; up = tt; down = tt; keeps = none_kept false }
 
+-- with nothing under way and nothing kept, a beginning is clean, over an instrument in order
 clean_order : IsClean InOrder nothing (none_under_way false)
 clean_order = record { good = refl; up = tt; down = tt; keeps = none_kept false }
 
+-- with nothing under way, and a `Keeper` that has nothing, a beginning is clean
 clean_kept : IsClean AnyState kept (none_under_way None)
 clean_kept = record { good = tt; up = tt; down = tt; keeps = none_of }
 
+-- with nothing under way, a beginning is clean over an instrument that has a `Keeper` but is taken to keep nothing
 clean_key : IsClean {State = Keeper} AnyState nothing (none_under_way None)
 clean_key = record { good = tt; up = tt; down = tt; keeps = none_kept {State = Keeper} None }
 
+-- each clause on instruments is needed
 pub all_needed : IsAllNeeded
 unfolding header_at reply_at digits
 all_needed =

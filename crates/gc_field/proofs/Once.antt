@@ -1,4 +1,5 @@
--- Between two starts what is executed climbs: an instrument that keeps a reply is handed the last request again or a later one.
+-- The numbers of the requests that an instrument executes never fall (`IsOrdered`), and between two of its starts they rise, if
+-- it keeps its reply (`IsClimbing`): it is handed the last request again, which it doesn't execute then, or a later one.
 use Rattle.std.proofs.Common.{◌≡◌, ℕ, zero, suc, ◌+◌, ◌-◌, ◌%◌, ◌<◌, ◌≤◌, ◌⊎◌, inl, inr, Bool, true, false, List, [], ◌∷◌, ◌++◌, length, Option, Some, None, cond, refl, sym, ◌∙◌, ap, subst, arith, ltb}
 use Rattle.std.proofs.lemmas.Bool.{ltb-true, ltb-false}
 use Rattle.std.specs.Prelude.{slice_get}
@@ -11,10 +12,12 @@ use Rattle.gc_field.specs.Once.{HasNoStart, ActsOnce, IsInOrder}
 
 -- Lists.
 
+-- what each element of two joined lists has, each element of the first has
 each_front : {A : Type 0} (P : A → Type 0) (xs ys : List A) → Each P (xs ++ ys) → Each P xs
 each_front P [] ys h = tt
 each_front P (x ∷ xs) ys h = (h.0, each_front P xs ys h.1)
 
+-- what each element has, the last one has
 each_last : {A : Type 0} (P : A → Type 0) (xs : List A) (y : A) → Each P (xs ++ y ∷ []) → P y
 each_last P [] y h = h.0
 each_last P (x ∷ xs) y h = each_last P xs y h.1
@@ -36,13 +39,14 @@ get_pushed (z ∷ xs) x (suc i) y e =
 abbrev pub IsIdle : List ℕ → List ℕ → Type 0
 IsIdle executed starts = (executed ≡ []) ⊎ ((earlier : List ℕ) × (starts ≡ earlier ++ length executed ∷ []))
 
--- what was executed acts once and is below this number; and where nothing is kept, nothing was executed since the last start
+-- what was executed acts once, and each number is below `top`; and where the instrument keeps no reply (`k` is what it keeps),
+-- nothing was executed since the last start
 pub record IsClimbing (top : ℕ) (executed starts : List ℕ) (k : Option KeptReply) : Type 0 where
   pub once : ActsOnce executed starts
   pub below : Each (λ n. n < top) executed
   pub idle : k ≡ None → IsIdle executed starts
 
--- what was executed is in order and below this number
+-- what was executed is in order, and each number is below `top`
 pub record IsOrdered (top : ℕ) (executed : List ℕ) : Type 0 where
   pub order : IsInOrder executed
   pub below : Each (λ n. n < top) executed
@@ -53,7 +57,7 @@ order_few executed few j k m n lt a b =
     let size : k < length executed = below executed k n b in
     absurd (omega (arith, size, few, lt))
 
--- where a request is executed that isn't before the last, the order stays
+-- `IsOrdered` lasts where request n is executed, and no request that was sent later was executed before
 pub ordered_acted : (top n : ℕ) (executed : List ℕ) → top ≤ n + 1 → IsOrdered top executed → IsOrdered (n + 1) (executed ++ n ∷ [])
 ordered_acted top n executed le h =
     record {
@@ -98,7 +102,8 @@ pub climbing_kept : (top : ℕ) (executed starts : List ℕ) (k after : Option K
 climbing_kept top executed starts k after r e h =
     record { once = h.once; below = h.below; idle = λ none. let same : None ≡ Some r = sym none ∙ e in let never : ⊥ = cc in absurd never }
 
--- where nothing was executed since the last start, that start is between an earlier execution and the next one
+-- where nothing was executed since the last start, that start is between an earlier execution, j, and the next one, k: so it
+-- can't be that no start is between them
 never_idle : (executed starts : List ℕ) (j k m : ℕ) → IsIdle executed starts → HasNoStart starts j k → slice_get executed j ≡ Some m → k ≡ length executed → ⊥
 never_idle executed starts j k m (inl none) run a e = none_is_not m (subst (λ l. slice_get l j ≡ Some m) none a)
 never_idle executed starts j k m (inr h) run a e =
@@ -108,7 +113,8 @@ never_idle executed starts j k m (inr h) run a e =
       | inr l ↦ omega (arith, l, e)
     ]
 
--- `IsClimbing` lasts where a request is executed that is none of those before, or the first one since a start
+-- `IsClimbing` lasts where request n is executed, if nothing was kept, or if n is later than each request that was executed
+-- before
 pub climbing_acted : (top n : ℕ) (executed starts : List ℕ) (k : Option KeptReply) (kept : KeptReply) → top ≤ n + 1 → (k ≡ None) ⊎ (top ≤ n)
     → IsClimbing top executed starts k → IsClimbing (n + 1) (executed ++ n ∷ []) starts (Some kept)
 climbing_acted top n executed starts k kept le why h =
@@ -128,6 +134,7 @@ climbing_acted top n executed starts k kept le why h =
       idle = λ e. let never : ⊥ = cc in absurd never;
     }
   where
+    -- an earlier execution, with no start between it and this one, is of a request before n
     later : (i j x : ℕ) → i < j → HasNoStart starts i j → slice_get executed i ≡ Some x → j ≡ length executed → (k ≡ None) ⊎ (top ≤ n) → x < n
     later i j x lt run first e (inl none) = absurd (never_idle executed starts i j x (h.idle none) run first e)
     later i j x lt run first e (inr above) = let l : x < top = each_get (λ m. m < top) executed i x h.below first in omega (arith, l, above)
@@ -139,7 +146,8 @@ climbing_first n executed starts acted kept none nought = subst (λ l. IsClimbin
   chosen true = record { once = once_few (n ∷ []) starts (omega arith); below = (omega (arith, nought), tt); idle = λ e. let never : ⊥ = cc in absurd never }
   chosen false = record { once = once_few [] starts (omega arith); below = tt; idle = λ e. let never : ⊥ = cc in absurd never }
 
--- a request whose id isn't the kept one is later than the last
+-- where the kept reply is to request top - 1, and request n isn't before that request and has another id than the kept reply, n
+-- is later than top - 1. The id of a request is its number less `since`, modulo 8
 pub newer : (since top n id : ℕ) (k : KeptReply) → k.id ≡ (top - 1 - since) % 8 → since < top → id ≡ (n - since) % 8 → top ≤ n + 1 → (k.id ≡ id → ⊥) → top ≤ n
 newer since top n id k own recent mine le other = chosen (ltb n top) refl where
   chosen : (b : Bool) → ltb n top ≡ b → top ≤ n

@@ -1,4 +1,5 @@
--- What goes out behind an answer is executed behind the request that was answered.
+-- What goes out after an answer is executed after the request that was answered. A *stretch* is a run once it has begun: what
+-- is under way then, and its moves.
 use Rattle.std.proofs.Common.{◌≡◌, ◌⊎◌, inl, inr, ℕ, zero, suc, ◌+◌, ◌<◌, ◌≤◌, List, [], ◌∷◌, ◌++◌, length, Option, Some, refl, sym, ◌∙◌, ap, subst, arith, append_assoc}
 use Rattle.std.specs.Prelude.{slice_get}
 use Rattle.std.proofs.lemmas.List.{length-append}
@@ -22,9 +23,11 @@ use Rattle.gc_field.proofs.Possible.{moved_append, possible_behind, possible_fro
 
 -- Lists.
 
+-- the first elements of equal lists are equal
 cons_head : {State : Type 0} (x y : Move State) (xs ys : List (Move State)) → x ∷ xs ≡ y ∷ ys → x ≡ y
 cons_head x y xs ys e = cc
 
+-- the rests of equal lists, after their first elements, are equal
 cons_tail : {State : Type 0} (x y : Move State) (xs ys : List (Move State)) → x ∷ xs ≡ y ∷ ys → xs ≡ ys
 cons_tail x y xs ys e = cc
 
@@ -39,21 +42,24 @@ fronts (x ∷ xs) ys (f ∷ fs) gs e =
       | inr h ↦ inr (h.0, ap (λ y. y ∷ xs) head ∙ ap (λ l. f ∷ l) h.1)
     ]
 
+-- what is at place i of the second list is at place length xs + i of the joined list
 get_behind : (xs ys : List ℕ) (i j x : ℕ) → j ≡ length xs + i → slice_get ys i ≡ Some x → slice_get (xs ++ ys) j ≡ Some x
 get_behind [] ys i j x e got = let same : i ≡ j = omega (arith, e) in subst (λ k. slice_get ys k ≡ Some x) same got
 get_behind (y ∷ xs) ys i zero x e got = absurd (omega (arith, e))
 get_behind (y ∷ xs) ys i (suc j) x e got = get_behind xs ys i j x (omega (arith, e)) got
 
+-- what is at a place of the first list is at that place of the joined list
 get_front : (xs ys : List ℕ) (i x : ℕ) → slice_get xs i ≡ Some x → slice_get (xs ++ ys) i ≡ Some x
 get_front [] ys i x got = cc
 get_front (y ∷ xs) ys zero x got = got
 get_front (y ∷ xs) ys (suc i) x got = get_front xs ys i x got
 
+-- what holds of the element at each place holds of each element
 each_at : (P : ℕ → Type 0) (xs : List ℕ) → ((i x : ℕ) → slice_get xs i ≡ Some x → P x) → Each P xs
 each_at P [] f = tt
 each_at P (x ∷ xs) f = (f 0 x refl, each_at P xs (λ i y got. f (suc i) y got))
 
--- Among numbers that were executed, those between one and a later one.
+-- The requests that were executed between a request m and a later one, n.
 
 module _ (e : List ℕ) (m n : ℕ) (numbers : List ℕ) where
   -- all executions: those before request m, m, those between, and n
@@ -78,7 +84,7 @@ module _ (e : List ℕ) (m n : ℕ) (numbers : List ℕ) where
   pub in_turn : IsInOrder all → IsInOrder numbers
   in_turn rises j k x y lt a b = rises (length e + (1 + j)) (length e + (1 + k)) x y (omega (arith, lt)) (at_x j x a) (at_x k y b)
 
-  -- the executions between are of no request before m and of none behind n
+  -- the executions between are of no request before m and of none after n
   pub upto : IsInOrder all → Each (λ x. (m ≤ x) × (x ≤ n)) numbers
   upto rises =
       each_at (λ x. (m ≤ x) × (x ≤ n)) numbers
@@ -98,6 +104,7 @@ module _ (e : List ℕ) (m n : ℕ) (numbers : List ℕ) where
         once (length e + (1 + i)) (length e + (1 + length numbers)) x n (omega (arith, small)) (none (length e + (1 + i)) (length e + (1 + length numbers)) (omega arith)) (at_x i x got) at_n,
       ))
     where
+      -- no start is between two executions from that of request m on
       none : (j k : ℕ) → length e ≤ j → HasNoStart starts j k
       none j k le = each_more (λ s. s ≤ length e) (λ s. (s ≤ j) ⊎ (k < s)) (λ s l. inl (omega (arith, l, le))) starts early
 
@@ -105,12 +112,15 @@ module _ (e : List ℕ) (m n : ℕ) (numbers : List ℕ) where
 
 module _ {State : Type 0} (ends : Ends State) (Good : State → Type 0) (kept : State → Option KeptReply) (is : IsAnInstrument ends Good kept)
     (s : Stretch State) (clean : IsClean Good kept s.from) (field : ArePossible ends Good kept (by_ids 7 ends) s.moves (ids_begun s.from)) where
+  -- the world after these moves of the stretch
   abbrev at : List (Move State) → World ById State
   at ms = behind 7 ends s.from ms
 
+  -- the front of the stretch's moves is possible
   possible_to : (front later : List (Move State)) → s.moves ≡ front ++ later → ArePossible ends Good kept (by_ids 7 ends) front (ids_begun s.from)
   possible_to front later e = front_of ends Good kept is s.from s.moves front later e field
 
+  -- the later moves of the stretch are possible in the world that the front leaves
   possible_from : (front later : List (Move State)) → s.moves ≡ front ++ later → ArePossible ends Good kept (by_ids 7 ends) later (at front)
   possible_from front later e = possible_behind 7 ends Good kept front later (ids_begun s.from) (subst (λ xs. ArePossible ends Good kept (by_ids 7 ends) xs (ids_begun s.from)) e field)
 
@@ -121,7 +131,7 @@ module _ {State : Type 0} (ends : Ends State) (Good : State → Type 0) (kept : 
       let known = (subst (λ l. Each (λ (x : Numbered Request). (r : _) × (slice_get (at h.front).wire.sent x.number ≡ Some r) × (r.call ≡ x.line.call)) l) h.reaches stands.known).0 in
       below (at h.front).wire.sent n known.0 known.1
 
-  -- behind further moves as much was sent, or more
+  -- further moves only add to what was sent
   sent_more : (front more later : List (Move State)) → s.moves ≡ (front ++ more) ++ later → (extra : List _) × ((at (front ++ more)).wire.sent ≡ (at front).wire.sent ++ extra)
   sent_more front more later e =
       let split : s.moves ≡ front ++ (more ++ later) = e ∙ append_assoc front more later in
@@ -129,7 +139,7 @@ module _ {State : Type 0} (ends : Ends State) (Good : State → Type 0) (kept : 
       let did = did_all ends Good kept more (at front) possible (stands_all ends Good kept front s.from clean (possible_to front (more ++ later) split)) in
       (did.more, ap (λ (w : World ById State). w.wire.sent) (moved_append 7 ends front more (ids_begun s.from)) ∙ did.sent)
 
-  -- a request that wasn't sent by the moves before, and was executed, was executed behind them
+  -- a request that wasn't sent by the moves before, and was executed, was executed after them
   behind_front : (before later : List (Move State)) → s.moves ≡ before ++ later → (n : ℕ) → length (at before).wire.sent ≤ n
       → (call : Call) (line : List ℕ) (h : WasMadeOn 7 ends s.from s.moves n call line)
       → (more : List (Move State)) × (h.front ≡ before ++ more)
@@ -142,7 +152,7 @@ module _ {State : Type 0} (ends : Ends State) (Good : State → Type 0) (kept : 
             absurd (omega (arith, size, sum, was_sent n call line h, unsent)))
       ]
 
-  -- where request n was executed behind request m, both are `IsExecutedAfter`
+  -- where request n was executed after request m, `IsExecutedAfter` holds of them: it says what was executed between the two
   both_made : (m n : ℕ) (call_m call_n : Call) (line_m line_n : List ℕ) (f : WasMadeOn 7 ends s.from s.moves m call_m line_m)
       (h : WasMadeOn 7 ends s.from s.moves n call_n line_n) (between : List (Move State)) → h.front ≡ f.front ++ OnLine Up_deliver ∷ between
       → IsExecutedAfter ends Good kept s m n call_m call_n line_m line_n
@@ -198,11 +208,12 @@ module _ {State : Type 0} (ends : Ends State) (Good : State → Type 0) (kept : 
             (moved ends (by_ids 7 ends) between w).wire.state (call_m ∷ []) did.calls one.1 (did.state still) apart effect has;
       }
     where
+      -- a list with nothing after it is the same list
       nil : (ms : List (Move State)) → ms ++ [] ≡ ms
       nil [] = refl
       nil (x ∷ ms) = ap (λ l. x ∷ l) (nil ms)
 
-  -- a request that goes out behind the answer to another one, and is executed, is executed behind the other one
+  -- a request that goes out after the answer to another one, and is executed, is executed after the other one
   pub executed_behind : (before later : List (Move State)) → s.moves ≡ before ++ later → (m n : ℕ) (x : Settlement) (line_m : List ℕ) → 8 ≤ m
       → slice_get (at before).wire.settled m ≡ Some x → x.outcome ≡ Answered line_m
       → length (at before).wire.sent ≤ n → (call : Call) (line_n : List ℕ) → WasMadeOn 7 ends s.from s.moves n call line_n → IsExecutedAfter ends Good kept s m n x.call call line_m line_n

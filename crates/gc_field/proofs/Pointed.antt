@@ -47,14 +47,16 @@ use Rattle.gc_field.proofs.Joining.{run_faithful}
 exec_bare : (s : State) (asked : Call) → behind_call (bare s) asked ≡ bare (behind_call s asked)
 exec_bare s asked = ap (λ (x : Executed). x.state) (executes_apart s None asked)
 
+-- true isn't false
 true_is_not : true ≡ false → ⊥
 true_is_not e = cc
 
--- a line that is sent again leaves the simulator's state
+-- where the simulator sends a line again, its state stays as it was
 handed_same : (s : State) (id : ℕ) (asked : Call) (o : Option (List ℕ)) → kept_line s.kept (Some id) ≡ o → (handed s id asked).executed ≡ false → (handed s id asked).state ≡ s
 handed_same s id asked (Some line) e not = ap (λ (x : Handed State). x.state) (handed_again s id asked line e)
 handed_same s id asked None e not = absurd (true_is_not (sym (ap (λ (x : Handed State). x.executed) (handed_new s id asked e)) ∙ not))
 
+-- executing a call has the effect `behind_call` on the simulator
 pub has_effect : SimulatorHasItsEffect
 has_effect =
     record {
@@ -91,7 +93,7 @@ told_same : (s : State) (answer_with : Decimal → Answer) (d : Option Decimal) 
 told_same s answer_with None = (refl, refl)
 told_same s answer_with (Some d) = (refl, refl)
 
--- what executing a command to measure does, by which of its cases it is
+-- what executing a command to measure does: nothing (a), a measurement (b), the last measurement is dropped (c), or a refusal
 abbrev rows : State → Bool → Bool → Bool → Executed
 rows t a b c = cond a (done t Nothing) (cond b (done (measured t) Nothing) (cond c (done (unmeasured t) Nothing) (refused t 2)))
 
@@ -104,7 +106,7 @@ commanded_same s command = by_tests (int_eq command (pos 0)) (int_eq command (po
   by_tests false false true = (refl, refl)
   by_tests false false false = (refl, refl)
 
--- a call that turns no telescope leaves where it points
+-- a call that turns no telescope leaves its direction and its face as they were
 call_same : (s : State) (asked : Call) → turns asked ≡ false → IsSame s (exec s asked).state
 unfolding exec
 call_same s (call.SetPrecision n) e = set_same _ s _ (refl, refl)
@@ -119,13 +121,13 @@ call_same s (call.ChangeFace pos_mode atr_mode dummy) e = cc
 call_same s (call.FineAdjust area_hz area_v dummy) e = cc
 call_same s asked e = (refl, refl)
 
--- a positioning leaves the telescope in its direction, in the same face
+-- a positioning leaves the telescope in the direction that it commands, in the same face as before
 position_points : (s : State) (hz v : Decimal) (pos_mode atr_mode dummy : _) → let t = (exec s (call.Position hz v pos_mode atr_mode dummy)).state in
     (t.pointing ≡ record { hz = hz; v = v }) × (t.face ≡ s.face)
 unfolding exec
 position_points s hz v pos_mode atr_mode dummy = (refl, refl)
 
--- calls that turn no telescope leave where it points
+-- calls that turn no telescope leave its direction and its face as they were
 executing_same : (calls : List Call) (s : State) → Each (λ x. turns x ≡ false) calls → IsSame s (executing behind_call s calls)
 executing_same [] s h = (refl, refl)
 executing_same (x ∷ calls) s h =
@@ -145,7 +147,7 @@ all_still sent m n (k ∷ ns) [] h g f = absurd h
 all_still sent m n (k ∷ ns) (x ∷ calls) h g f =
     (ap turns (sym h.0.2) ∙ f k h.0.0 g.0.0 g.0.1 h.0.1, all_still sent m n ns calls h.1 g.1 f)
 
--- an element at place k + n of a list is behind its first k at place n
+-- an element at place k + n of a list is after its first k at place n
 get_own : (k n j : ℕ) (xs : List Sent) (x : Sent) → j ≡ k + n → slice_get xs j ≡ Some x → slice_get (drop k xs) n ≡ Some x
 get_own zero n j xs x e got = let same : j ≡ n = omega (arith, e) in subst (λ i. slice_get xs i ≡ Some x) same got
 get_own (suc k) n j [] x e got = absurd (none_is_not x got)
@@ -158,11 +160,14 @@ null_still a r e f = ap (λ (o : Asked). turns o.call) (e ∙ f)
 
 module _ (plan : Plan) (commands : List Task) (scope : Scope) (acts : List Act) (u : UnderWay State) (rs : List (Run State))
     (field : IsInField ends IsFittingState kept_of plan commands scope acts u rs) where
+  -- the stretches of the run
   abbrev ss : List (Stretch State)
   ss = stretches ends u rs
 
-  module _ (b : Record) (line : List ℕ) (a : ℕ) (h : IsChainedTo ends IsFittingState kept_of scope.reads (parts plan commands scope acts) ss
+  module _ (b : Record) (line : List ℕ) (a : ℕ) (h : IsChainedTo ends IsFittingState kept_of scope.reads commands (parts plan commands scope acts) ss
       (stood plan commands scope acts).records a b line) (still : AreStill commands a b.place) where
+    -- a request between those of the chain's two commands turns no telescope, by its mark: it is a null procedure, or for a
+    -- command between them
     still_by : (x : ℕ) (r : Sent) (o : Option _) (above : h.m < x) (under : x < h.n) → slice_get h.part.marks x ≡ Some o → (y : Asked) → asked r ≡ y → IsOf commands o y → turns r.call ≡ false
     still_by x r None above under at y e is = null_still y r e is
     still_by x r (Some mark) above under at y e is =
@@ -170,6 +175,7 @@ module _ (plan : Plan) (commands : List Task) (scope : Scope) (acts : List Act) 
         let quiet = still mark.place is.0 there.1 there.2 is.1 in
         ap (λ (o : Asked). turns o.call) (e ∙ is.2) ∙ quiet
 
+    -- a request of the client between those of the chain's two commands turns no telescope
     still_at : (x : ℕ) (r : Sent) → h.m < x → x < h.n → slice_get (own_sent ends h.stretch) x ≡ Some r → turns r.call ≡ false
     still_at x r above under got =
         let f = run_faithful ends IsFittingState kept_of simulator.is plan commands scope acts u rs field in
@@ -180,12 +186,13 @@ module _ (plan : Plan) (commands : List Task) (scope : Scope) (acts : List Act) 
         let same : asked r ≡ y.0 = some_is (asked r) y.0 (sym (get_map asked (own_sent ends h.stretch) x r got) ∙ y.1) in
         still_by x r mark.0 above under mark.1 y.0 same y.2
 
-    -- by the number of the request
+    -- the same by the request's number in the stretch, where the eight null procedures come first
     still_number : (k : ℕ) (r : Sent) → 8 + h.m < k → k < 8 + h.n → slice_get (world ends h.stretch).wire.sent k ≡ Some r → turns r.call ≡ false
     still_number k r above under got =
         still_at (k - 8) r (omega (arith, above)) (omega (arith, above, under)) (get_own 8 (k - 8) k (world ends h.stretch).wire.sent r (omega (arith, above)) got)
 
-    pointed_there : IsUndisturbed h.executed.between → IsMeasuredWhereItPointed scope.reads (parts plan commands scope acts) ss (stood plan commands scope acts).records a b line h
+    -- where nothing disturbs the simulator between the two executions, the telescope points as the earlier one left it
+    pointed_there : IsUndisturbed h.executed.between → IsMeasuredWhereItPointed scope.reads commands (parts plan commands scope acts) ss (stood plan commands scope acts).records a b line h
     pointed_there quiet =
         let x = h.executed in
         let s = (behind ends h.stretch x.first.front).state in
@@ -203,11 +210,13 @@ module _ (plan : Plan) (commands : List Task) (scope : Scope) (acts : List Act) 
               (pointing ∙ at.0, face ∙ at.1);
         }
 
+  -- where P implies Q, and all elements have P, all have Q
   all_so : {A : Type 0} (P Q : A → Type 0) → ((x : A) → P x → Q x) → (xs : List A) → AllByRecursion P xs → AllByRecursion Q xs
   all_so P Q f [] h = tt
   all_so P Q f (x ∷ xs) h = (f x h.0, all_so P Q f xs h.1)
 
-  -- where parts of a run go on as the laws of stations say, each record of a run over the simulator is `IsPointedInChain`
+  -- where the laws of stations `ChainsStay`, `MarksGoOn` and `RecordsStay` hold, each record of a run over the simulator is
+  -- `IsPointedInChain`
   pub pointed : ChainsStay → MarksGoOn → RecordsStay → AllByRecursion (IsPointedInChain plan commands scope acts u rs) (stood plan commands scope acts).records
   pointed stay go_on records_stay =
       all_so (IsExecutedInChain ends IsFittingState kept_of plan commands scope acts u rs) (IsPointedInChain plan commands scope acts u rs)

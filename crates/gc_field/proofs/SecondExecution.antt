@@ -1,4 +1,4 @@
--- A request that is executed again behind a start, computed.
+-- A request that is executed again after a start, computed.
 use Rattle.std.proofs.Common.{[], refl}
 use Rattle.std.specs.Fmt.{digits}
 use Rattle.gc_lines.specs.Readers.{header_at, reply_at}
@@ -6,6 +6,7 @@ use Rattle.gc_instrument.specs.Execution.{exec}
 use Rattle.gc_instrument.specs.Replying.{handed}
 use Rattle.gc_field.specs.SecondExecution.{IsExecutedAgain}
 
+-- the third request is executed twice, and the second execution's reply is its answer
 pub again : IsExecutedAgain
 unfolding header_at reply_at handed exec digits
 again =

@@ -1,4 +1,5 @@
--- What a station's client settles is what the world's client settles.
+-- What a station's client settles is what the world's client settles: over any moves, its course has the requests, the
+-- settlements and the client of the world (`SameAs`).
 use Rattle.std.proofs.Common.{◌≡◌, ℕ, Bool, true, false, List, [], ◌∷◌, ◌++◌, length, map, Option, Some, None, refl, sym, ◌∙◌, ap, subst, ltb}
 use Rattle.std.proofs.lemmas.List.{map-append, append-nil}
 use Rattle.gc_catalogue.specs.declared.call.Call.{Call}
@@ -18,7 +19,7 @@ module _ {State : Type 0} (width : ℕ) (ends : Ends State) (same_heard : (line 
     pub settled : x.settlements ≡ w.wire.settled
     pub client : x.client ≡ w.client
 
-  -- `SameAs` lasts over a send, refused or not
+  -- `SameAs` lasts where a request is sent, or refused
   same_option : (x : Course) (w : World ById State) (target : ℕ) (call : Call) (o : Option (Sending ById)) → SameAs x w → SameAs (sent_on x target call o) (requested w target call o)
   same_option x w target call None h = record { sent = h.sent; settled = h.settled; client = h.client }
   same_option x w target call (Some s) h =
@@ -26,7 +27,7 @@ module _ {State : Type 0} (width : ℕ) (ends : Ends State) (same_heard : (line 
       ++ record { target = target; call = call } ∷ [] = map-append of_sent w.wire.sent _ in
       record { sent = ap (λ l. l ++ record { target = target; call = call } ∷ []) h.sent ∙ sym last; settled = h.settled; client = refl }
 
-  -- `SameAs` lasts over a send by the rule
+  -- `SameAs` lasts where the rule of the client decides on a send
   same_send : (x : Course) (w : World ById State) (target : ℕ) (call : Call) (deadline : ℕ) → SameAs x w
       → SameAs (sent_on x target call (sends width x.client target call deadline)) (requested w target call (sends width w.client target call deadline))
   same_send x w target call deadline h =
@@ -82,7 +83,7 @@ module _ {State : Type 0} (width : ℕ) (ends : Ends State) (same_heard : (line 
   same_line x w Restart_instrument p h = absurd p
   same_line x w Nothing p h = record { sent = h.sent; settled = h.settled; client = h.client }
 
-  -- `SameAs` lasts over moves, with the steps that the client sees of them
+  -- `SameAs` lasts over moves: the course takes the steps that the client sees of them
   pub same_all : (ms : List (Move State)) (x : Course) (w : World ById State) → ArePossible ends Good kept (by_ids width ends) ms w → SameAs x w
       → SameAs (course width x (seen ms)) (moved ends (by_ids width ends) ms w)
   same_all [] x w p h = h

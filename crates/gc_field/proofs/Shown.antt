@@ -1,4 +1,5 @@
--- What a beginning's turns show, and what they leave of the word: the lines that are heard leave the same.
+-- The turns of a beginning leave of the word the same ids as the lines that these turns show to the station. The *word* is the
+-- list of the ids of a beginning's null procedures; a reply that answers one takes its id off.
 use Rattle.std.proofs.Common.{◌≡◌, ℕ, List, [], ◌∷◌, refl, sym, ◌∙◌, ap}
 use Rattle.gc_station.specs.Beginnings.{left_behind}
 use Rattle.gc_station.specs.Begun.{heard_in}
@@ -9,7 +10,7 @@ use Rattle.gc_field.specs.Shown.{first_heard, shown, shows}
 
 -- turns leave of the word what the lines leave that they show
 module _ {State : Type 0} (ends : Ends State) where
-  -- asking leaves what is left of the word
+  -- a null procedure that goes out changes nothing in what is left of the word
   left_asks : (s : Model State) (word : List ℕ) → s.left ≡ word → (asks s word).left ≡ s.left
   left_asks s [] e = refl
   left_asks s (asked ∷ rest) e = refl
@@ -19,12 +20,12 @@ module _ {State : Type 0} (ends : Ends State) where
   left_comes s [] = refl
   left_comes s (x ∷ rest) = refl
 
-  -- a request that reaches the instrument leaves what is left of the word
+  -- a request that reaches the instrument changes nothing in what is left of the word
   left_reaches : (s : Model State) (q : List _) → (reaches ends s q).left ≡ s.left
   left_reaches s [] = refl
   left_reaches s (x ∷ rest) = refl
 
-  -- what a turn leaves of the word is what the lines leave that it shows
+  -- a turn leaves of the word what the line that it shows to the station, if it shows one, leaves of it
   left_turn : (s : Model State) (t : Turn State) → (turns ends s t).left ≡ left_behind s.left (heard_in (shows s t))
   left_turn s Asks = left_asks s s.left refl
   left_turn s Comes = left_comes s s.down
@@ -37,7 +38,7 @@ module _ {State : Type 0} (ends : Ends State) where
   left_turn s Anew = refl
   left_turn s (Changes state) = refl
 
-  -- what turns leave of the word is what the lines leave that they show
+  -- turns leave of the word what the lines that they show to the station leave of it
   pub left_is : (ts : List (Turn State)) (s : Model State) → (turned ends ts s).left ≡ left_behind s.left (heard_in (shown ends ts s))
   left_is [] s = refl
   left_is (t ∷ ts) s =

@@ -1,5 +1,8 @@
 -- Each line that comes was made for its request as its call was executed, whatever is repeated or lost, and however often the
--- instrument starts anew: but those of the first few requests.
+-- instrument starts anew. Replies to requests below the number `low` are excepted. M n call line stands for any property that
+-- the reply to each request has that is executed. The client is the one that is given the number of each reply's request:
+-- `count` of its requests are settled, and the id of request n is n - `since`, modulo 8. `True` is the invariant of a world: each
+-- reply under way, the kept reply and each answer was made so.
 use Rattle.std.proofs.Common.{◌≡◌, ℕ, ◌+◌, ◌-◌, ◌%◌, ◌<◌, ◌≤◌, ◌⊎◌, inl, inr, Bool, true, false, List, [], ◌∷◌, ◌++◌, length, drop, Option, Some, None, refl, sym, ◌∙◌, ap, subst, arith, ltb, eqb}
 use Rattle.std.proofs.lemmas.List.{length_push}
 use Rattle.std.proofs.lemmas.Bool.{ltb-false}
@@ -29,52 +32,60 @@ pub rising_each : (low : ℕ) (xs : List (Numbered Request)) → Rising low (num
 rising_each low [] h = tt
 rising_each low (x ∷ xs) h = (h.0, each_more (λ y. x.number + 1 ≤ y.number + 1) (λ y. low ≤ y.number + 1) (λ y k. omega (arith, k, h.0)) xs (rising_each (x.number + 1) xs h.1))
 
--- behind one of numbers that never fall, the others don't either, and none is below that one
+-- of numbers that never fall, those after n never fall either, and none of them is below n
 pub rising_tail : (low n : ℕ) (xs ys : List ℕ) → Rising low (xs ++ n ∷ ys) → (low ≤ n + 1) × Rising (n + 1) ys
 rising_tail low n [] ys h = h
 rising_tail low n (x ∷ xs) ys h = let r = rising_tail (x + 1) n xs ys h.1 in (omega (arith, h.0, r.0), r.1)
 
+-- true isn't false
 true_is_not : true ≡ false → ⊥
 true_is_not e = cc
 
 module _ {State : Type 0} (width : ℕ) (narrow : width ≤ 7) (ends : Ends State) (Good : State → Type 0) (ex : IsExchange ends Good)
     (kept : State → Option KeptReply) (keeper : IsAnInstrument ends Good kept) (low : ℕ) (M : ℕ → Call → List ℕ → Type 0) where
-  -- the line was made for this request, as its call was executed; and M is so of it, as it is of the reply to each request that is executed
+  -- the line was made for request n, as its call was executed, and has the property M
   pub record IsVouched (sent : List Sent) (executed : List ℕ) (made : List (Numbered (List ℕ))) (n : ℕ) (line : List ℕ) : Type 0 where
     pub among : Has (record { number = n; line = line }) made
     pub acted : Has n executed
     pub answer : IsAnswerAt ends Good ex sent (record { number = n; line = line })
     pub on : M n answer.request.call line
 
+  -- request n is one of those that are excepted, or the line is vouched for as its reply
   abbrev pub Vouched : List Sent → List ℕ → List (Numbered (List ℕ)) → ℕ → List ℕ → Type 0
   Vouched sent executed made n line = (n < low) ⊎ IsVouched sent executed made n line
 
+  -- what answers one of the requests that were sent still does so when more are sent
   abbrev answer_more : (sent more : List Sent) (m : Numbered (List ℕ)) → IsAnswerAt ends Good ex sent m → IsAnswerAt ends Good ex (sent ++ more) m
   answer_more sent more m h = record { request = h.request; found = get_more sent more m.number h.request h.found; reply = h.reply }
 
-  -- further requests, executions and entries change nothing
+  -- `Vouched` lasts where further requests are sent
   vouched_sent : (sent more : List Sent) (executed : List ℕ) (made : List (Numbered (List ℕ))) (n : ℕ) (line : List ℕ) → Vouched sent executed made n line → Vouched (sent ++ more) executed made n line
   vouched_sent sent more executed made n line (inl l) = inl l
   vouched_sent sent more executed made n line (inr h) = inr (record { among = h.among; acted = h.acted; answer = answer_more sent more (record { number = n; line = line }) h.answer; on = h.on })
 
+  -- `Vouched` lasts where further lines are made
   vouched_made : (sent : List Sent) (executed : List ℕ) (made more : List (Numbered (List ℕ))) (n : ℕ) (line : List ℕ) → Vouched sent executed made n line → Vouched sent executed (made ++ more) n line
   vouched_made sent executed made more n line (inl l) = inl l
   vouched_made sent executed made more n line (inr h) = inr (record { among = has_more _ made more h.among; acted = h.acted; answer = h.answer; on = h.on })
 
+  -- `Vouched` lasts where further requests are executed
   vouched_acted : (sent : List Sent) (executed others : List ℕ) (made : List (Numbered (List ℕ))) (n : ℕ) (line : List ℕ) → Vouched sent executed made n line
       → Vouched sent (executed ++ others) made n line
   vouched_acted sent executed others made n line (inl l) = inl l
   vouched_acted sent executed others made n line (inr h) = inr (record { among = h.among; acted = has_more n executed others h.acted; answer = h.answer; on = h.on })
 
-  -- what is kept is the line of the last request but one below top
+  -- what the instrument keeps, if anything, is a line for request top - 1, with that request's id, and the line has the
+  -- property P
   abbrev pub KeptIs : (ℕ → List ℕ → Type 0) → ℕ → ℕ → Option KeptReply → Type 0
   KeptIs P since top None = Unit {0}
   KeptIs P since top (Some k) = (since < top) × (k.id ≡ (top - 1 - since) % 8) × P (top - 1) k.line
 
+  -- where P implies Q, `KeptIs` of P gives `KeptIs` of Q
   kept_more : (P Q : ℕ → List ℕ → Type 0) → ((n : ℕ) (line : List ℕ) → P n line → Q n line) → (since top : ℕ) (k : Option KeptReply) → KeptIs P since top k → KeptIs Q since top k
   kept_more P Q f since top None h = tt
   kept_more P Q f since top (Some k) h = (h.0, h.1, f (top - 1) k.line h.2)
 
+  -- where nothing is kept, `KeptIs` holds
   kept_none : (P : ℕ → List ℕ → Type 0) (since top : ℕ) (k : Option KeptReply) → k ≡ None → KeptIs P since top k
   kept_none P since top k e = subst (λ k. KeptIs P since top k) (sym e) tt
 
@@ -89,13 +100,16 @@ module _ {State : Type 0} (width : ℕ) (narrow : width ≤ 7) (ends : Ends Stat
   kept_still P since top k after (inl none) h = kept_none P since top after none
   kept_still P since top k after (inr same) h = subst (λ k. KeptIs P since top k) (sym same) h
 
-  -- where an instrument that keeps its reply executes a request, that request is a later one than the last, or nothing was kept
+  -- where no reply with the id of request n is kept, nothing is kept, or request n is later than all that the instrument was
+  -- handed
   later_or_none : (P : ℕ → List ℕ → Type 0) (since top n id : ℕ) (k : Option KeptReply) → KeptIs P since top k → id ≡ (n - since) % 8 → top ≤ n + 1
       → ((line : List ℕ) → k ≡ Some (record { id = id; line = line }) → ⊥) → (k ≡ None) ⊎ (top ≤ n)
   later_or_none P since top n id None h mine le other = inl refl
   later_or_none P since top n id (Some k) h mine le other =
       inr (newer since top n id k h.1 h.0 mine le (λ same. other k.line (ap (λ i. Some (record { id = i; line = k.line })) same)))
 
+  -- the invariant, over the fields of a world: each reply under way, the kept reply `k`, and each answer is vouched for;
+  -- executions are in order, and each request acts once where the instrument keeps its reply
   pub record IsTrue (since count : ℕ) (sent : List Sent) (executed starts : List ℕ) (made : List (Numbered (List ℕ))) (settled : List Settlement)
       (up : List (Numbered Request)) (down : List (Numbered (List ℕ))) (k : Option KeptReply) : Type 0 where
     -- the number of the last request that the instrument was handed is one less than this
@@ -111,6 +125,7 @@ module _ {State : Type 0} (width : ℕ) (narrow : width ≤ 7) (ends : Ends Stat
     pub order : IsOrdered top executed
     pub once : KeepsItsReply ends Good kept → IsClimbing top executed starts k
 
+  -- the invariant of a world
   abbrev pub True : World ByNumber State → Type 0
   True w = IsTrue w.client.since w.client.count w.wire.sent w.wire.executed w.wire.starts w.wire.made w.wire.settled w.wire.up w.wire.down (kept w.wire.state)
 
@@ -139,6 +154,7 @@ module _ {State : Type 0} (width : ℕ) (narrow : width ≤ 7) (ends : Ends Stat
         once = h.once;
       }
 
+  -- `True` lasts where the client sends a request
   true_send : (w : World ByNumber State) (target : ℕ) (call : Call) (deadline : ℕ) (full : Bool) (x : Sending ByNumber)
       → number_send w.client target call deadline full ≡ Some x → True w → True (requested w target call (Some x))
   true_send w target call deadline true x e h = cc
@@ -149,7 +165,7 @@ module _ {State : Type 0} (width : ℕ) (narrow : width ≤ 7) (ends : Ends Stat
       subst (λ z. True (requested w target call (Some z))) (some_is y x e)
       (true_sent c.since c.count w.wire.sent w.wire.executed w.wire.starts w.wire.made w.wire.settled w.wire.up w.wire.down (kept w.wire.state) target id call (omega arith) h)
 
-  -- `IsTrue` lasts over a further entry
+  -- `IsTrue` lasts where a further line is made
   true_made : (since count : ℕ) (sent : List Sent) (executed starts : List ℕ) (made : List (Numbered (List ℕ))) (settled : List Settlement)
       (up : List (Numbered Request)) (down : List (Numbered (List ℕ))) (k : Option KeptReply) (m : Numbered (List ℕ))
       → IsTrue since count sent executed starts made settled up down k → IsTrue since count sent executed starts (made ++ m ∷ []) settled up down k
@@ -171,7 +187,7 @@ module _ {State : Type 0} (width : ℕ) (narrow : width ≤ 7) (ends : Ends Stat
         once = h.once;
       }
 
-  -- `True` lasts where the last request comes again, and has the kept line
+  -- `True` lasts where the request in front isn't executed, and the kept line is sent again for it
   true_again : (w : World ByNumber State) (x : Numbered Request) (rest : List (Numbered Request)) (hd : Handed State) (k : Option KeptReply)
       → kept w.wire.state ≡ k → w.wire.up ≡ x ∷ rest → k ≡ Some (record { id = x.line.id; line = hd.reply })
       → (kept hd.state ≡ None) ⊎ (kept hd.state ≡ Some (record { id = x.line.id; line = hd.reply }))
@@ -207,7 +223,7 @@ module _ {State : Type 0} (width : ℕ) (narrow : width ≤ 7) (ends : Ends Stat
         once = λ keeps. climbing_kept h.top v.executed v.starts (kept v.state) (kept hd.state) (record { id = x.line.id; line = line }) (always keeps) (h.once keeps);
       }
 
-  -- `True` lasts where a request is executed
+  -- `True` lasts where the request in front is executed
   true_new : (w : World ByNumber State) (x : Numbered Request) (rest : List (Numbered Request)) (hd : Handed State) → w.wire.up ≡ x ∷ rest
       → ends.handed w.wire.state x.line.id x.line.call ≡ hd → hd.executed ≡ true → M x.number x.line.call hd.reply → Sound width ends Good w → True w
       → True (on_wire w (replied w.wire x.number rest (record hd { executed = true })))
@@ -265,6 +281,7 @@ module _ {State : Type 0} (width : ℕ) (narrow : width ≤ 7) (ends : Ends Stat
             (later_or_none P c.since h.top n x.line.id (kept v.state) h.holds g.0.id a.0 (other keeps)) (h.once keeps));
       }
 
+  -- `True` lasts where the request in front is handed to the instrument, whether that executes the request (`b`) or not
   true_handed : (w : World ByNumber State) (x : Numbered Request) (rest : List (Numbered Request)) (hd : Handed State) (b : Bool) → w.wire.up ≡ x ∷ rest
       → ends.handed w.wire.state x.line.id x.line.call ≡ hd → hd.executed ≡ b → (hd.executed ≡ true → M x.number x.line.call hd.reply)
       → Sound width ends Good w → True w → True (on_wire w (replied w.wire x.number rest (record hd { executed = b })))
@@ -280,6 +297,7 @@ module _ {State : Type 0} (width : ℕ) (narrow : width ≤ 7) (ends : Ends Stat
       true_again w x rest hd (kept v.state) refl q same now always s h
   true_handed w x rest hd true q is exe on s h = true_new w x rest hd q is exe (on exe) s h
 
+  -- `True` lasts where the reply in front comes, be its request settled already (`old`) or not
   true_reply : (w : World ByNumber State) (x : Numbered (List ℕ)) (rest : List (Numbered (List ℕ))) (old : Bool) → ltb x.number w.client.count ≡ old
       → w.wire.down ≡ x ∷ rest → length w.wire.settled ≡ w.client.count → True w
       → True (with_settled (record w.wire { down = rest }) (number_reply w.client x old))
@@ -360,6 +378,7 @@ module _ {State : Type 0} (width : ℕ) (narrow : width ≤ 7) (ends : Ends Stat
         once = λ keeps. subst (λ k. IsClimbing h.top v.executed v.starts k) (sym same) (h.once keeps);
       }
 
+  -- `True` lasts where the lines under way change, if those that are under way now still have what the invariant says of each
   true_queues : (w : World ByNumber State) (up : List (Numbered Request)) (down : List (Numbered (List ℕ))) (h : True w)
       → Each (λ x. h.top ≤ x.number + 1) up → Each (IsOf w.wire.sent) up → Each (λ x. x.number < h.top) down
       → Each (λ x. Vouched w.wire.sent w.wire.executed w.wire.made x.number x.line) down → True (on_wire w (record w.wire { up = up; down = down }))
@@ -378,13 +397,13 @@ module _ {State : Type 0} (width : ℕ) (narrow : width ≤ 7) (ends : Ends Stat
     once = h.once;
   }
 
-  -- `True` lasts where nothing but a count changes
+  -- `True` lasts over a step that does nothing but count itself
   true_idle : (w : World ByNumber State) → True w → True (on_wire w (idle w.wire))
   true_idle w h = h
 
   -- A move of the line, and a reply that comes.
 
-  -- the front request reaches the instrument: where that executes it, M is so of its reply
+  -- where the instrument executes the front request, when that is handed to it, its reply has the property M
   abbrev pub IsOn : World ByNumber State → Numbered Request → Type 0
   IsOn w x =
       (ends.handed w.wire.state x.line.id x.line.call).executed ≡ true → M x.number x.line.call (ends.handed w.wire.state x.line.id x.line.call).reply
@@ -402,11 +421,14 @@ module _ {State : Type 0} (width : ℕ) (narrow : width ≤ 7) (ends : Ends Stat
   true_down w [] e s h = true_idle w h
   true_down w (x ∷ rest) e s h = true_reply w x rest (ltb x.number w.client.count) refl e s.booked h
 
+  -- `True` lasts over a loss or a repeat of a request under way; where there is none at that place (`b` is false), nothing
+  -- happens
   true_with_up : (w : World ByNumber State) (up : List (Numbered Request)) (b : Bool) (h : True w)
       → Each (λ x. h.top ≤ x.number + 1) up → Each (IsOf w.wire.sent) up → True (on_wire w (with_up w.wire up b))
   true_with_up w up false h a l = true_idle w h
   true_with_up w up true h a l = true_queues w up w.wire.down h a l h.below h.coming
 
+  -- `True` lasts over a loss or a repeat of a reply under way; where there is none at that place (`b` is false), nothing happens
   true_with_down : (w : World ByNumber State) (down : List (Numbered (List ℕ))) (b : Bool) (h : True w)
       → Each (λ x. x.number < h.top) down → Each (λ x. Vouched w.wire.sent w.wire.executed w.wire.made x.number x.line) down
       → True (on_wire w (with_down w.wire down b))

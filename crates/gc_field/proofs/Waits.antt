@@ -12,7 +12,7 @@ use Rattle.gc_world.proofs.Rows.{length-settle}
 use Rattle.gc_field.specs.Field.{Move, Sends, Tells, Comes, Foreign, OnLine, Anew, Changes, Joins, IsOfLine, moves, moved, ArePossible}
 use Rattle.gc_field.specs.Runs.{gives_up}
 
--- a request that waits, behind these moves: given up by a moment at or past its deadline
+-- what these moves make of a request that waits: a moment at or past its deadline gives it up, and nothing else changes it
 abbrev pub after_moves : {State : Type 0} → Pending → List (Move State) → Pending
 after_moves p [] = p
 after_moves p (Tells now ∷ ms) = after_moves (expired now p) ms
@@ -24,15 +24,17 @@ after_moves p (Anew ∷ ms) = after_moves p ms
 after_moves p (Changes state ∷ ms) = after_moves p ms
 after_moves p (Joins line ∷ ms) = after_moves p ms
 
+-- "or" is associative
 or_assoc : (a b c : Bool) → ((a || b) || c) ≡ (a || (b || c))
 or_assoc true b c = refl
 or_assoc false b c = refl
 
+-- "or false" changes nothing
 or_none : (a : Bool) → a ≡ (a || false)
 or_none true = refl
 or_none false = refl
 
--- a request is given up behind moves if it was before, or if a moment at or past its deadline is told
+-- a request is given up after moves if it was before, or if a moment at or past its deadline is told
 pub after_is : {State : Type 0} (p : Pending) (ms : List (Move State)) → after_moves p ms ≡ record p { given_up = p.given_up || gives_up p.deadline ms }
 after_is p [] = ap (λ b. record p { given_up = b }) (or_none p.given_up)
 after_is p (Tells now ∷ ms) = after_is (expired now p) ms ∙ ap (λ b. record p { given_up = b }) (or_assoc p.given_up (nat_le p.deadline now) (gives_up p.deadline ms))
@@ -44,25 +46,29 @@ after_is p (Anew ∷ ms) = after_is p ms
 after_is p (Changes state ∷ ms) = after_is p ms
 after_is p (Joins line ∷ ms) = after_is p ms
 
--- request n, if it isn't settled yet, waits at its place as this
+-- where request n isn't settled yet (the first `size` requests are), it waits as `p`, at its place in the list of those that
+-- wait
 abbrev pub WaitsAt : ℕ → List Pending → ℕ → Pending → Type 0
 WaitsAt size waiting n p = size ≤ n → slice_get waiting (n - size) ≡ Some p
 
--- in this world, request n, if it isn't settled yet, waits at its place as this
+-- in this world request n, if it isn't settled yet, waits as `p`, at its place
 abbrev pub Waits : {State : Type 0} → World ById State → ℕ → Pending → Type 0
 Waits w n p = WaitsAt (length w.wire.settled) w.client.waiting n p
 
+-- what is at a place of a list is there when another list follows
 get_front : (xs ys : List Pending) (k : ℕ) (p : Pending) → slice_get xs k ≡ Some p → slice_get (xs ++ ys) k ≡ Some p
 get_front [] ys k p e = cc
 get_front (x ∷ xs) ys zero p e = e
 get_front (x ∷ xs) ys (suc k) p e = get_front xs ys k p e
 
+-- what is at place j + i of a list is at place i after its first j elements
 get_behind : (j i n : ℕ) (xs : List Pending) (p : Pending) → n ≡ j + i → slice_get xs n ≡ Some p → slice_get (drop j xs) i ≡ Some p
 get_behind zero i n xs p e got = let same : n ≡ i = omega (arith, e) in subst (λ k. slice_get xs k ≡ Some p) same got
 get_behind (suc j) i zero xs p e got = absurd (omega (arith, e))
 get_behind (suc j) i (suc n) [] p e got = cc
 get_behind (suc j) i (suc n) (x ∷ xs) p e got = get_behind j i n xs p (omega (arith, e)) got
 
+-- where a moment is told to each request of a list, the one at a place is what the moment makes of the request that was there
 get_map : (now : ℕ) (xs : List Pending) (k : ℕ) (p : Pending) → slice_get xs k ≡ Some p → slice_get (map (expired now) xs) k ≡ Some (expired now p)
 get_map now [] k p e = cc
 get_map now (x ∷ xs) zero p e = same x p e where
@@ -77,7 +83,7 @@ get_last [] (suc n) p e = absurd (omega (arith, e))
 get_last (x ∷ xs) zero p e = absurd (omega (arith, e))
 get_last (x ∷ xs) (suc n) p e = get_last xs n p (omega (arith, e))
 
--- a request that a reply leaves unsettled waits on
+-- a request that a reply with an id leaves unsettled waits on
 waits_settled : (c : ById) (line : List ℕ) (k : ℕ) (b : Bool) (before : List Settlement) (n : ℕ) (p : Pending) → nat_lt k (length c.waiting) ≡ b → WaitsAt (length before) c.waiting n p
     → WaitsAt (length (before ++ (id_settled c line k b).settlements)) (id_settled c line k b).client.waiting n p
 waits_settled c line k true before n p fits h = λ le.
@@ -90,7 +96,7 @@ waits_settled c line k false before n p fits h = λ le.
     let same : n - length before ≡ n - length (before ++ []) = omega (arith, size) in
     subst (λ i. slice_get c.waiting i ≡ Some p) same (h (omega (arith, size, le)))
 
--- a request that a line leaves unsettled waits on
+-- a request that a line leaves unsettled, with an id or without, waits on
 waits_heard : (c : ById) (line : List ℕ) (o : Option ℕ) (before : List Settlement) (n : ℕ) (p : Pending) → WaitsAt (length before) c.waiting n p
     → WaitsAt (length (before ++ (hears c line o).settlements)) (hears c line o).client.waiting n p
 waits_heard c line None before n p h = λ le.
@@ -140,7 +146,7 @@ module _ {State : Type 0} (ends : Ends State) (Good : State → Type 0) (kept : 
   waits_line w Restart_instrument n p o h = absurd o
   waits_line w Nothing n p o h = h
 
-  -- a request waits on behind moves, given up as `after_moves` says
+  -- a request that isn't settled by these moves waits on after them, as `after_moves` has it
   pub waits_all : (ms : List (Move State)) (w : World ById State) (n : ℕ) (p : Pending) → ArePossible ends Good kept (by_ids 7 ends) ms w → Waits w n p
       → Waits (moved ends (by_ids 7 ends) ms w) n (after_moves p ms)
   waits_all [] w n p o h = h

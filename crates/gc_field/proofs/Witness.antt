@@ -1,4 +1,4 @@
--- A run of one command, in the field.
+-- The run of one command of `specs/Witness.antt` is in the field, by computation.
 use Rattle.std.proofs.Common.{◌≡◌, inl, inr, ℕ, zero, suc, ◌<◌, List, [], ◌∷◌, ◌++◌, Some, refl, sym, subst, arith, lit<, None}
 use Rattle.std.proofs.lemmas.Int.{ints}
 use Rattle.std.specs.Prelude.{codes, map, take, drop}
@@ -17,6 +17,7 @@ use Rattle.gc_instrument.specs.State.{IsFittingState, simulator_opening}
 use Rattle.gc_links.specs.Acts.{Act}
 use Rattle.gc_texts.specs.Nears.{is_elsewhere}
 use Rattle.gc_texts.specs.declared.tasks.Task.{Task}
+use Rattle.gc_texts.specs.Codes.{no_codes}
 use Rattle.gc_station.specs.declared.plan.Plan.{Plan}
 use Rattle.gc_station.specs.Parts as part
 use Rattle.gc_station.specs.Parts.{Part, nothing, parts_of}
@@ -30,16 +31,17 @@ use Rattle.gc_field.specs.Witness.{IsAnsweredInField, acts, answer, before, begu
 
 -- What the runs share.
 
--- n facts that say nothing, and one more
+-- n + 1 facts without content: `ArePossible` comes to these where each of n moves is always possible
 abbrev pub Units : ℕ → Type 0
 Units zero = Unit {0}
 Units (suc n) = Unit {0} × Units n
 
+-- these facts hold
 pub units : (n : ℕ) → Units n
 units zero = tt
 units (suc n) = (tt, units n)
 
--- acts that are a run, and others that are a run behind them, are a run
+-- acts that are a run, and others that are a run after them, are a run
 pub run_on :
     (p : Plan) (tasks : List Task) (s : Model) (front later : List Act) → Runs p tasks s front → Runs p tasks (after_all p tasks s front) later
     → Runs p tasks s (front ++ later)
@@ -54,11 +56,12 @@ unfolding is_elsewhere header_at reply_at digits
 opens width tasks reads =
     (tt, (refl, (tt, (refl, (tt, (tt, (refl, (tt, (tt, (refl, (tt, (tt, (refl, (tt, (tt, (refl, (tt, (tt, (refl, (tt, (tt, (refl, (tt, (tt, (refl, (tt, (tt, tt)))))))))))))))))))))))))))
 
--- the part with these turns and steps, whose requests are of the first cycle: each by its place, and the moment before it went out
+-- the part with these turns and steps, whose requests are of the first cycle: each by its place, and the moment before it went
+-- out
 abbrev pub part_of : List part.Turn → List Step → List (ℕ × ℕ) → Part
-part_of turns steps sent = record { turns = turns; steps = steps; marks = map (λ x. Some (record { cycle = 1; place = x.0; sent = x.1; near = None })) sent }
+part_of turns steps sent = record { turns = turns; steps = steps; marks = map (λ x. Some (record { cycle = 1; place = x.0; sent = x.1; expected = record { near = None; accepted = no_codes } })) sent }
 
--- a run in one part, behind which nothing happens
+-- a run in one part, after which nothing happens
 abbrev pub one_part : List part.Turn → List Step → List (ℕ × ℕ) → List Part
 one_part turns steps sent = part_of turns steps sent ∷ nothing ∷ []
 
@@ -72,6 +75,7 @@ above b more = ((λ e. absurd (omega (arith, more, e))), (λ e. absurd (omega (a
 space : IsStringByte 32
 space = ((λ e. (cc)), (λ e. (cc)), (λ e. (cc)))
 
+-- the simulator's name is a text
 named : IsText (codes "GEOCOM SIM")
 named =
     record {
@@ -115,7 +119,7 @@ was_made : WasMadeOn WINDOW ends (leaves (turned ends turns (begins before))) mo
 unfolding is_elsewhere header_at reply_at handed exec digits
 was_made = record { front = take 3 moves; later = drop 4 moves; split = refl; id = 0; rest = []; reaches = refl; executed = refl; reply = refl }
 
--- the turns of a beginning in which a null procedure goes out, and then a line is heard, for each of these
+-- the turns of a beginning in which, for each of these lines in order, a null procedure goes out, and then the line is heard
 abbrev pub asked_each : List (List ℕ) → List part.Turn
 asked_each [] = []
 asked_each (line ∷ lines) = part.Asks ∷ part.Hears line ∷ asked_each lines
@@ -124,14 +128,18 @@ asked_each (line ∷ lines) = part.Asks ∷ part.Hears line ∷ asked_each lines
 abbrev all_turns : List part.Turn
 all_turns = part.Asks ∷ part.Hears (codes "%R1P,0,0:0,654321") ∷ part.Hears answer ∷ part.Hears (codes "%R1P,0,6:0") ∷ asked_each (drop 1 replies)
 
+-- the run has one part, with these turns and steps, and the request for the command at place 0, which went out after the moment
+-- 15
 parts_are : parts_of plan commands (opening plan scope) acts ≡ one_part all_turns (seen moves) ((0, 15) ∷ [])
 unfolding is_elsewhere header_at reply_at digits
 parts_are = refl
 
+-- what the line does while the station begins shows these turns
 shown_are : shown ends turns (begins before) ≡ all_turns
 unfolding is_elsewhere header_at reply_at handed exec digits
 shown_are = refl
 
+-- this run is in the field, and its command is answered
 pub answered : IsAnsweredInField
 unfolding is_elsewhere header_at reply_at handed exec digits
 answered =

@@ -1,5 +1,5 @@
--- Why the first request goes out alone, this project's own: an instrument that keeps an older reply takes a second request with the id of that
--- for a repeat.
+-- Why the first request goes out alone, this project's own: an instrument that keeps an older reply takes a second request with
+-- that reply's id for a repeat of the older request.
 use Rattle.std.specs.Prelude.{◌≡◌, ℕ, List, [], ◌∷◌, Some}
 use Rattle.gc_catalogue.specs.declared.call.Call.TheVariants.{NullProc}
 use Rattle.gc_client.specs.declared.window.TheConstants.{WINDOW}

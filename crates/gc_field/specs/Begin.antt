@@ -1,6 +1,8 @@
--- A beginning in the field, this project's own: a beginner, an instrument, and a line between them that keeps order, loses lines whole, and
--- repeats one directly behind it. What is under way from before may be anything. Connections aren't spoken of, because a close is a loss of
--- lines. A request that is cut is lost, because a line feed arrives behind its front. The instrument may start anew at any moment.
+-- A beginning in the field, this project's own: a beginner, an instrument, and a line between them that keeps order, loses
+-- lines whole, and repeats one directly after it. The beginner sends null procedures with the ids 6 5 4 3 2 1 0 7, the word,
+-- each until it is answered. What is under way from before may be anything. Connections aren't spoken of, because a close is a
+-- loss of lines. A request that is cut is lost, because a line feed arrives after its front. The instrument may start anew at
+-- any moment.
 use Rattle.std.specs.Prelude.{◌≡◌, ℕ, ◌<◌, Bool, true, false, List, [], ◌∷◌, ◌++◌, map, Option, None}
 use Rattle.std.specs.List.{filter_map}
 use Rattle.gc_catalogue.specs.declared.call.Call.TheVariants.{NullProc}
@@ -29,7 +31,7 @@ none_under_way state = record { up = []; down = []; state = state }
 abbrev pub ids_under_way : {State : Type 0} → UnderWay State → List ℕ
 ids_under_way u = filter_map heard u.down ++ map (λ x. x.id) u.up
 
--- the id of each request is one digit from 0 to 7, and the instrument is in a good state
+-- the id of each request under way is one digit from 0 to 7, and the instrument's state is good (`Good`)
 pub record AreLines {State : Type 0} (Good : State → Type 0) (u : UnderWay State) : Type 0 where
   pub ids : Each (λ x. x.id < IDS) u.up
   pub good : Good u.state
@@ -82,12 +84,13 @@ module _ {State : Type 0} where
   asks s [] = s
   asks s (asked ∷ rest) = record s { up = s.up ++ record { old = false; line = record { id = asked; call = NullProc } } ∷ [] }
 
-  -- the state once the reply in front came: it answers where it has the first id that isn't answered, and else it is dropped
+  -- the state once the reply in front came: where it has the first id of the word that isn't answered, it answers that id; else
+  -- it is dropped
   abbrev pub comes : Model State → List (Aged (List ℕ)) → Model State
   comes s [] = s
   comes s (x ∷ rest) = record s { down = rest; left = left_by s.left (heard x.line) }
 
-  -- the state once the request in front was handed to the instrument, whose reply goes out, and is as old as the request
+  -- the state once the request in front was handed to the instrument. The reply goes out, marked old where the request was
   abbrev pub reaches : Ends State → Model State → List (Aged Request) → Model State
   reaches ends s [] = s
   reaches ends s (x ∷ rest) =
@@ -107,7 +110,7 @@ module _ {State : Type 0} where
   turns ends s Anew = record s { state = ends.restarted s.state }
   turns ends s (Changes state) = record s { state = state }
 
-  -- the state behind these turns, in order
+  -- the state after these turns, in order
   abbrev pub turned : Ends State → List (Turn State) → Model State → Model State
   turned ends [] s = s
   turned ends (t ∷ ts) s = turned ends ts (turns ends s t)

@@ -16,7 +16,7 @@ use Rattle.gc_field.specs.Witness.{replies}
 
 -- Some runs.
 
--- in flight before the first run: a reply with id 6, and behind it two requests, with ids 7 and 0
+-- in flight before the first run: a reply with id 6, and after it two requests, with ids 7 and 0
 abbrev pub before : UnderWay State
 before =
     record {
@@ -25,13 +25,14 @@ before =
       state = simulator_opening;
     }
 
--- the first run: it begins, hears the old reply as the answer to its first null procedure, and is killed behind its second
+-- the first run: it begins, hears the old reply as the answer to its first null procedure, and is killed after its second
 abbrev pub killed : Run State
 killed = record { turns = Asks ∷ Comes ∷ Asks ∷ []; moves = [] }
 
--- the next run begins. The two old requests are answered, and both replies dropped. The replies to null procedures 6 and 5 of the run before
--- answer two of its own, and then the replies to its own ones do; the instrument starts anew, one is lost and goes out again, and the eighth
--- comes twice. Then two commands go out at once
+-- the next run begins. The two old requests are answered, and both replies dropped. Its null procedures 6 and 5 are answered by
+-- the replies to those of the run before, and the six others by their own replies. Meanwhile the instrument starts anew, the
+-- request of null procedure 0 is lost and goes out again, and the line repeats that of null procedure 7. Then two commands go
+-- out at once, and the replies to both come
 abbrev pub next : Run State
 next =
     record {
@@ -69,9 +70,9 @@ pub record AreSomeRuns : Type 0 where
       ∷ record { target = 8; call = InstrumentNo; outcome = Answered (codes "%R1P,0,1:0,123456") } ∷ []
   pub made_on : WasMadeOn WINDOW ends clean next.moves 8 InstrumentNo (codes "%R1P,0,0:0,123456")
 
--- The word.
+-- The word: the ids of the eight null procedures of a beginning, in order: 6 down to 0, and then 7.
 
--- in flight are replies with the ids of the word, and one with id 0 behind them
+-- in flight are replies with the ids of the word, and one with id 0 after them
 abbrev pub with_the_word : UnderWay State
 with_the_word =
     record {
@@ -80,15 +81,15 @@ with_the_word =
       state = simulator_opening;
     }
 
--- the turns of a beginning that hears these eight replies, with nothing sent
+-- the turns of a beginning that sends nothing, and hears the eight replies of `with_the_word` that have the ids of the word
 abbrev pub eight_come : List (Turn State)
 eight_come = Comes ∷ Comes ∷ Comes ∷ Comes ∷ Comes ∷ Comes ∷ Comes ∷ Comes ∷ []
 
--- the moves behind that beginning: the first command goes out, and the reply behind the eight comes
+-- the moves after that beginning: the first command goes out, and the reply after the eight comes
 abbrev pub one_more : List (Move State)
 one_more = Sends 7 InstrumentNo 100 ∷ field.Comes (codes "%R1P,0,0:0,654321") ∷ []
 
--- those replies answer the whole word, and the one behind them is booked for the first command, though nothing was executed
+-- those replies answer the whole word, and the one after them is booked for the first command, though nothing was executed
 pub record IsBookedFromBefore : Type 0 where
   pub begun : (turned ends eight_come (begins with_the_word)).left ≡ []
   pub possible : ArePossible ends IsFittingState kept_of (by_ids WINDOW ends) one_more (ids_begun (leaves (turned ends eight_come (begins with_the_word))))

@@ -1,5 +1,7 @@
--- One run after the other over a line that outlives them, this project's own: each begins by its null procedures, then sends commands, and is
--- killed at any moment, also while it begins; and one may begin anew within itself. Nothing here depends on a clock.
+-- One run after the other over a line that outlives them, this project's own: each begins by its null procedures, then sends
+-- commands, and is killed at any moment, also while it begins; and one may begin anew within itself. Nothing here depends on a
+-- clock. The word of a beginning has the ids of its null procedures, 6 5 4 3 2 1 0 7; what is left of it are those that aren't
+-- answered.
 use Rattle.std.specs.Prelude.{◌≡◌, ℕ, ◌+◌, ◌%◌, ◌<◌, ◌≤◌, List, [], ◌∷◌, map, Option}
 use Rattle.gc_client.specs.Beginning.{IsSubsequence, the_word}
 use Rattle.gc_client.specs.declared.window.TheConstants.{WINDOW}
@@ -27,12 +29,12 @@ pub record IsRow {State : Type 0} (u : UnderWay State) : Type 0 where
   pub few : Each (λ n. n < low + WINDOW) numbers
   pub ids : ids_under_way u ≡ map (λ n. n % 8) numbers
 
--- the word is no subsequence of the ids of an `IsRow`: eight ids that rise modulo 8 don't contain even the first three ids of
--- the word
+-- where `IsRow` holds of what is under way, the word is no subsequence of the ids under way: eight ids that rise modulo 8 don't
+-- contain even the first three ids of the word
 abbrev pub RowsHaveNotTheWord : Type 0 → Type 0
 RowsHaveNotTheWord State = (u : UnderWay State) → IsRow u → IsSubsequence the_word (ids_under_way u) → ⊥
 
--- once a beginning has begun cleanly, what is under way is `IsRow` at any time
+-- once a run has begun cleanly, `IsRow` holds of what is under way at any time
 abbrev pub RunsLeaveRows : Type 0 → Type 0
 RunsLeaveRows State =
     (ends : Ends State) (kept : State → Option KeptReply) → IsAnInstrument ends AnyState kept →
@@ -51,28 +53,31 @@ module _ {State : Type 0} (width : ℕ) (ends : Ends State) where
   abbrev pub stood : UnderWay State → Run State → Model State
   stood u r = turned ends r.turns (begins u)
 
-  -- what is under way behind a run, by what is left of its word: nothing, and it had begun; or some ids, and it was killed while it began
+  -- what is under way after a run, by the ids of its word that are left. None: it had begun, and its moves followed. Some: it
+  -- was killed while it began
   abbrev pub left_if : List ℕ → Model State → List (Move State) → UnderWay State
   left_if [] s ms = on_line (behind width ends (leaves s) ms).wire
   left_if (asked ∷ rest) s ms = leaves s
 
-  -- what is under way behind a run
+  -- what is under way after a run
   abbrev pub left_by_run : UnderWay State → Run State → UnderWay State
   left_by_run u r = left_if (stood u r).left (stood u r) r.moves
 
-  -- how many runs in a row were killed while they began, up to a run of whose word these ids are left, where `n` were before
-  -- it: none where the run has begun
+  -- how many runs in a row were killed while they began, counted at the end of a run, where `n` were before it. No id of its
+  -- word is left: none, because the run has begun. Some ids are left: one more
   abbrev pub killed_if : List ℕ → ℕ → ℕ
   killed_if [] n = 0
   killed_if (asked ∷ rest) n = n + 1
 
-  -- no more than five runs in a row are killed while they begin, up to each of these, where `n` were before
+  -- at the end of each of these runs, at most five in a row have been killed while they began, counted with the `n` before the
+  -- first
   abbrev pub AreFewKilled : ℕ → UnderWay State → List (Run State) → Type 0
   AreFewKilled n u [] = Unit {0}
   AreFewKilled n u (r ∷ rs) = (killed_if (stood u r).left n ≤ 5) × AreFewKilled (killed_if (stood u r).left n) (left_by_run u r) rs
 
   module _ (Good : State → Type 0) (kept : State → Option KeptReply) where
-    -- the moves of a run are possible: those of a client, once the run has begun, and none before the eighth answer
+    -- the moves of a run are possible, by the ids of its word that are left. None: they are possible moves of a client. Some:
+    -- the run has none
     abbrev pub ArePossibleIf : List ℕ → Model State → List (Move State) → Type 0
     ArePossibleIf [] s ms = ArePossible ends Good kept (by_ids width ends) ms (ids_begun (leaves s))
     ArePossibleIf (asked ∷ rest) s ms = ms ≡ []
@@ -82,7 +87,7 @@ module _ {State : Type 0} (width : ℕ) (ends : Ends State) where
     AreRuns u [] = Unit {0}
     AreRuns u (r ∷ rs) = (AreTurns ends Good kept r.turns (begins u) × ArePossibleIf (stood u r).left (stood u r) r.moves) × AreRuns (left_by_run u r) rs
 
-    -- where a run has begun, it has begun cleanly, and its moves are faithful
+    -- where a run has begun (no id of its word is left), it has begun cleanly, and its moves are faithful
     abbrev pub IsOwnIf : List ℕ → Model State → List (Move State) → Type 0
     IsOwnIf [] s ms = HasBegunCleanly kept s × IsFaithful width ends (leaves s) ms Good kept
     IsOwnIf (asked ∷ rest) s ms = Unit {0}
@@ -92,8 +97,8 @@ module _ {State : Type 0} (width : ℕ) (ends : Ends State) where
     AreOwn u [] = Unit {0}
     AreOwn u (r ∷ rs) = IsOwnIf (stood u r).left (stood u r) r.moves × AreOwn (left_by_run u r) rs
 
--- for any instrument, behind a run that measured, or over a line with nothing under way: as long as fewer than six runs in a row end while they
--- begin, each run that has begun has begun cleanly, and each of its answers is its own
+-- for any instrument, after a run that measured, or over a line with nothing under way: as long as fewer than six runs in a row
+-- end while they begin, each run that has begun has begun cleanly, and each of its answers is its own
 abbrev pub RunsAreTheirOwn : Type 0 → Type 0
 RunsAreTheirOwn State =
     (ends : Ends State) (kept : State → Option KeptReply) → IsAnInstrument ends AnyState kept →

@@ -1,6 +1,6 @@
--- Some run begins anew within itself, this project's own. Seven requests go out at once, and are given up. The reply to the first is under
--- way then, and the seventh request: both come while the station begins again, on the same connection. The eighth command goes out behind
--- that, with the first one's id, and has the answer that was made for it.
+-- Some run begins anew within itself, this project's own. Seven requests go out at once, and are given up. The reply to the
+-- first is under way then, and the seventh request: both come while the station begins again, on the same connection. The
+-- eighth command goes out after that, with the first one's id, and has the answer that was made for it.
 use Rattle.std.specs.Prelude.{◌≡◌, ℕ, true, false, List, [], ◌∷◌, ◌++◌, codes, drop, map, pos, Some, None}
 use Rattle.gc_lines.specs.Lines.{with_end}
 use Rattle.gc_catalogue.specs.declared.answer.Answer.TheVariants.{Long}
@@ -10,6 +10,8 @@ use Rattle.gc_client.specs.declared.window.TheConstants.{WINDOW}
 use Rattle.gc_texts.specs.declared.commands.Command.{Command}
 use Rattle.gc_texts.specs.declared.tasks.Task.{Task}
 use Rattle.gc_texts.specs.Endings as end
+use Rattle.gc_texts.specs.Codes.{no_codes}
+use Rattle.gc_texts.specs.declared.quality.Quality.TheVariants.{Fine}
 use Rattle.gc_station.specs.declared.plan.Plan.{Plan}
 use Rattle.gc_links.specs.Acts.{Act, Told, Put, Gave, Silent, Closed}
 use Rattle.gc_station.specs.Beginnings.{IsAnew}
@@ -38,7 +40,7 @@ command target = record { target = target; call = InstrumentNo }
 
 -- the eight commands of this run, with a deadline of 100 ms each
 abbrev pub commands : List Task
-commands = map (λ target. record { command = command target; deadline = 100; chained = false; near = None }) (1 ∷ 2 ∷ 3 ∷ 4 ∷ 5 ∷ 6 ∷ 7 ∷ 8 ∷ [])
+commands = map (λ target. record { command = command target; deadline = 100; chained = false; near = None; accepted = no_codes }) (1 ∷ 2 ∷ 3 ∷ 4 ∷ 5 ∷ 6 ∷ 7 ∷ 8 ∷ [])
 
 -- the scope of this run: at most a hundred acts; every reply is taken to say what the reply to the last command says
 abbrev pub scope : Scope
@@ -58,8 +60,8 @@ first = codes "%R1P,0,0:0,36"
 abbrev pub seventh : List ℕ
 seventh = codes "%R1P,0,6:0,37"
 
--- the replies to the null procedures behind the first. The first null procedure has the seventh request's id, so the reply to that request
--- answers it, and is all that the instrument sends for it
+-- the replies to the null procedures after the first. The first null procedure has the seventh request's id, so the reply to
+-- that request answers it, and is all that the instrument sends for it
 abbrev pub replies : List (List ℕ)
 replies =
     codes "%R1P,0,5:0,38" ∷ codes "%R1P,0,4:0,39" ∷ codes "%R1P,0,3:0,40" ∷ codes "%R1P,0,2:0,41" ∷ codes "%R1P,0,1:0,42" ∷ codes "%R1P,0,0:0,43"
@@ -69,7 +71,7 @@ replies =
 abbrev pub answer : List ℕ
 answer = codes "%R1P,0,0:0,45"
 
--- the acts by which each of these texts goes out at this moment
+-- the acts by which each of these lines goes out at the moment `now`; and then `acts`
 abbrev pub put_all : ℕ → List (List ℕ) → List Act → List Act
 put_all now [] acts = acts
 put_all now (line ∷ others) acts = Put (with_end line) ∷ Told (at now) ∷ put_all now others acts
@@ -104,12 +106,12 @@ anew =
 abbrev pub acts : List Act
 acts = given_up ++ anew
 
--- the moves by which a request goes out for each of these targets, at this moment
+-- the moves by which a request goes out for each of these targets, at the moment `now`; and then the moves `ms`
 abbrev pub send_all : ℕ → List ℕ → List (Move Counter) → List (Move Counter)
 send_all now [] ms = ms
 send_all now (target ∷ others) ms = Sends target InstrumentNo 115 ∷ Tells now ∷ send_all now others ms
 
--- what the line does meanwhile: the first of the seven reaches the instrument, the five behind it are lost, and the last
+-- what the line does meanwhile: the first of the seven reaches the instrument, the five after it are lost, and the last
 -- stays in flight
 abbrev pub moves : List (Move Counter)
 moves =
@@ -139,7 +141,7 @@ moves_anew = Sends 8 InstrumentNo 220 ∷ Tells 120 ∷ OnLine Up_deliver ∷ Te
 abbrev pub run : Run Counter
 run = record { turns = eight; moves = moves }
 
--- the whole run: until it begins anew, and from there on; behind the end nothing happens
+-- the whole run: until it begins anew, and from there on; after the end nothing happens
 abbrev pub runs : List (Run Counter)
 runs = run ∷ record { turns = turns; moves = moves_anew } ∷ record { turns = []; moves = [] } ∷ []
 
@@ -165,10 +167,10 @@ records =
     ∷ lost 4 5
     ∷ lost 5 6
     ∷ lost 6 7
-    ∷ record { sent = Some 120; utc = 125; cycle = 1; place = 7; command = command 8; end = end.Answered (Some (Long (pos 45))) answer }
+    ∷ record { sent = Some 120; utc = 125; cycle = 1; place = 7; command = command 8; end = end.Answered Fine (Some (Long (pos 45))) answer }
     ∷ []
 
--- this is a run in the field, over an instrument, behind which no act follows. It begins anew where seven are given up. Two
+-- this is a run in the field, over an instrument, after which no act follows. It begins anew where seven are given up. Two
 -- old lines are in flight then, of which the reply has the last command's id; and that command's answer was made on
 -- executing its request
 pub record IsAnsweredAnew : Type 0 where

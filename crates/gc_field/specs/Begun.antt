@@ -1,5 +1,5 @@
 -- What holds once a station has begun, this project's own: nothing from before is under way; and each answer of the client that sends then is
--- its own, from its first request on.
+-- its own, from its first request on. The word of a beginning has the ids of its null procedures: 6 5 4 3 2 1 0 7.
 use Rattle.std.specs.Prelude.{◌≡◌, ℕ, ◌-◌, ◌≤◌, true, false, List, [], ◌∷◌, ◌++◌, length, map, Option, Some, slice_get}
 use Rattle.gc_catalogue.specs.declared.call.Call.{Call}
 use Rattle.gc_catalogue.specs.declared.call.Call.TheVariants.{NullProc}
@@ -45,7 +45,7 @@ BeginsCleanly State =
     (u : UnderWay State) (ts : List (Turn State)) → AreLines AnyState u → AreTurns ends AnyState kept ts (begins u) →
     (IsSubsequence the_word (ids_under_way u) → ⊥) → (turned ends ts (begins u)).left ≡ [] → HasBegunCleanly kept (turned ends ts (begins u))
 
--- The client behind it.
+-- The client after a beginning.
 
 -- what a beginning leaves once it has begun cleanly: the instrument in a good state, copies of the eighth null procedure, replies to it,
 -- and a kept reply with its id, or none
@@ -63,7 +63,8 @@ nulls = map (λ id. record { target = 0; call = NullProc; line = request_line (S
 abbrev pub nulls_settled : List Settlement
 nulls_settled = map (λ id. record { target = 0; call = NullProc; outcome = Lost }) the_word
 
--- requests 0 to 7 are the null procedures, which are settled, and a new client sends from request 8 on; what is under way is of request 7
+-- the wire at the end of a beginning: requests 0 to 7 are the null procedures, which are settled, and a new client sends from
+-- request 8 on; what is under way belongs to request 7
 abbrev pub begun_wire : {State : Type 0} → UnderWay State → Wire State
 begun_wire u =
     record {
@@ -79,7 +80,7 @@ begun_wire u =
       idle = 0;
     }
 
--- the world behind a beginning, with a new client that knows ids
+-- the world at the end of a beginning, with a new client that knows ids
 abbrev pub ids_begun : {State : Type 0} → UnderWay State → World ById State
 ids_begun u = record { wire = begun_wire u; client = fresh }
 
@@ -87,16 +88,16 @@ ids_begun u = record { wire = begun_wire u; client = fresh }
 abbrev pub nulls_pending : List Pending
 nulls_pending = map (λ id. record { target = 0; call = NullProc; deadline = 0; given_up = false }) the_word
 
--- the world behind a beginning, with the client that is given the numbers
+-- the world at the end of a beginning, with the client that is given the number of each reply's request
 abbrev pub numbers_begun : {State : Type 0} → UnderWay State → World ByNumber State
 numbers_begun u = record { wire = begun_wire u; client = record { count = 8; requests = nulls_pending; since = 0 } }
 
 module _ {State : Type 0} (width : ℕ) (ends : Ends State) (u : UnderWay State) where
-  -- the world behind the moves, with the client that knows ids
+  -- the world after the moves, with the client that knows ids
   abbrev pub behind : List (Move State) → World ById State
   behind ms = moved ends (by_ids width ends) ms (ids_begun u)
 
-  -- the wire behind the moves, with the client that is given the numbers
+  -- the wire after the moves, with the client that is given the numbers
   abbrev pub behind_by_numbers : List (Move State) → Wire State
   behind_by_numbers ms = (moved ends (by_numbers width) ms (numbers_begun u)).wire
 
@@ -112,7 +113,7 @@ module _ {State : Type 0} (width : ℕ) (ends : Ends State) (u : UnderWay State)
     pub executed : (ends.handed (behind front).wire.state id call).executed ≡ true
     pub reply : line ≡ (ends.handed (behind front).wire.state id call).reply
 
-  -- what holds behind these moves, for an instrument whose states are good ones. Settlement 8 + n is the client's settlement n
+  -- what holds after these moves, for an instrument whose states are good ones. Settlement 8 + n is the client's settlement n
   pub record IsFaithful (ms : List (Move State)) (Good : State → Type 0) (kept : State → Option KeptReply) : Type 0 where
     -- a client that takes the steps of the moves settles what the world's client settled, and ends in the same state
     pub settled : (behind ms).wire.settled ≡ nulls_settled ++ (course width begun (seen ms)).settlements
@@ -124,7 +125,7 @@ module _ {State : Type 0} (width : ℕ) (ends : Ends State) (u : UnderWay State)
     -- its own, from the first request on: an answer is among the lines that the instrument made for that request, and is its reply to that
     -- very call
     pub booked : (m : ℕ) (s : Settlement) → 8 ≤ m → slice_get (behind ms).wire.settled m ≡ Some s → IsBooked ends Good (behind ms).wire.made m s
-    -- and it was executed here, and not before the client began
+    -- and the instrument executed request m at one of these moves, not before the client began
     pub executed :
         (m : ℕ) (s : Settlement) (line : List ℕ) → 8 ≤ m → slice_get (behind ms).wire.settled m ≡ Some s → s.outcome ≡ Answered line → WasExecuted (behind ms).wire.executed m
     -- made on it: its line was made on executing request m. At one of these moves that request, with this call, reached the instrument,
@@ -140,13 +141,13 @@ module _ {State : Type 0} (width : ℕ) (ends : Ends State) (u : UnderWay State)
     pub once : KeepsItsReply ends Good kept → ActsOnce (behind ms).wire.executed (behind ms).wire.starts
     -- agreement: all is as with a client that is told the number of each reply's request
     pub agrees : (behind ms).wire ≡ behind_by_numbers ms
-    -- in time: a reply whose request isn't settled settles it, and those before it as lost; where it isn't given up, it is answered with
-    -- that line
+    -- in time: a reply whose request isn't settled settles that request, and those before it as lost. The request is answered
+    -- with that line, or late where it was given up
     pub first_reply :
         (n : ℕ) (line : List ℕ) (rest : List (Numbered (List ℕ))) → (behind ms).wire.down ≡ record { number = n; line = line } ∷ rest → length (behind ms).wire.settled ≤ n →
         (moves ends (by_ids width ends) (behind ms) (Comes line)).wire.settled ≡ (behind ms).wire.settled ++ settle (n - length (behind ms).wire.settled) line (behind ms).client.waiting
 
--- moves behind a clean beginning are faithful, for any instrument, whenever the client sends; no request has to go out alone
+-- moves after a clean beginning are faithful, for any instrument, whenever the client sends; no request has to go out alone
 abbrev pub AnswersAreTheirOwnOnceBegun : Type 0 → Type 0
 AnswersAreTheirOwnOnceBegun State =
     (ends : Ends State) (kept : State → Option KeptReply) → IsAnInstrument ends AnyState kept →

@@ -13,15 +13,15 @@ use Rattle.gc_field.specs.Instrument.{IsAnInstrument, AnyState}
 use Rattle.gc_field.specs.Laws.{kept_of}
 use Rattle.gc_field.specs.Meaning.{Amount, client_after}
 
--- behind a beginning that has begun cleanly, whose last piece left these bytes of a line, these acts go with these moves of the line and of
--- an instrument, whenever the station sends
+-- acts of a station, and the moves of the line and of an instrument that go with them. The beginning before these acts has
+-- begun cleanly, and left `u` under way; `rest` are the bytes of an unfinished line that the last piece of the beginning left
 pub record IsCarried {State : Type 0} (ends : Ends State) (Good : State → Type 0) (kept : State → Option KeptReply) (u : UnderWay State) (rest : List ℕ)
     (acts : List Act) (ms : List (Move State)) : Type 0 where
   pub clean : IsClean Good kept u
   pub steps : Amount fresh rest acts (seen ms)
   pub possible : ArePossible ends Good kept (by_ids WINDOW ends) ms (ids_begun u)
 
--- `IsFaithful` holds of these moves, and the station's client is in the state of the world's
+-- `IsFaithful` holds of these moves, and the station's client ends in the same state as the world's client
 pub record IsStationFaithful {State : Type 0} (ends : Ends State) (Good : State → Type 0) (kept : State → Option KeptReply) (u : UnderWay State) (ms : List (Move State)) : Type 0 where
   pub faithful : IsFaithful WINDOW ends u ms Good kept
   pub client : client_after fresh (seen ms) ≡ (behind WINDOW ends u ms).client

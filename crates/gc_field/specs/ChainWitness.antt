@@ -11,6 +11,8 @@ use Rattle.gc_catalogue.specs.declared.call.Call.TheVariants.{Position, DoMeasur
 use Rattle.gc_instrument.specs.State.{State, IsFittingState, simulator_opening}
 use Rattle.gc_texts.specs.declared.tasks.Task.{Task}
 use Rattle.gc_texts.specs.Endings as end
+use Rattle.gc_texts.specs.Codes.{no_codes}
+use Rattle.gc_texts.specs.declared.quality.Quality.TheVariants.{Fine}
 use Rattle.gc_links.specs.Acts.{Act, Told, Put, Gave, Closed}
 use Rattle.gc_station.specs.Links.{AreChained}
 use Rattle.gc_station.specs.Records.{Record}
@@ -51,9 +53,9 @@ reads_all = SimpleMea (pos 3000) (pos 1)
 -- the three commands, as one chain
 abbrev pub commands : List Task
 commands =
-    record { command = record { target = 7; call = points }; deadline = 100; chained = false; near = None }
-    ∷ record { command = record { target = 7; call = measures }; deadline = 100; chained = true; near = None }
-    ∷ record { command = record { target = 7; call = reads_all }; deadline = 100; chained = true; near = None }
+    record { command = record { target = 7; call = points }; deadline = 100; chained = false; near = None; accepted = no_codes }
+    ∷ record { command = record { target = 7; call = measures }; deadline = 100; chained = true; near = None; accepted = no_codes }
+    ∷ record { command = record { target = 7; call = reads_all }; deadline = 100; chained = true; near = None; accepted = no_codes }
     ∷ []
 
 -- the scope of this run: at most a hundred acts; every reply is taken to say a value, whichever
@@ -72,8 +74,8 @@ second = codes "%R1P,0,1:0"
 abbrev pub third : List ℕ
 third = codes "%R1P,0,2:0,2.25,1.625,110.0625"
 
--- the acts of the run, with these replies: the station begins; then one command goes out after the other, each once the one
--- before it is answered; and the connection is closed
+-- the acts of the run: the station begins, with `answers` as the replies to its null procedures; then the three commands go out
+-- one after the other, each once the one before it is answered, with the replies a, b and c; and the connection is closed
 abbrev pub acts_with : List (List ℕ) → List ℕ → List ℕ → List ℕ → List Act
 acts_with answers a b c =
     begun_with answers (
@@ -91,7 +93,8 @@ acts_with answers a b c =
     ∷ []
     )
 
--- what the line does meanwhile: each request reaches the instrument, and each reply comes
+-- what the line does once the station has begun: each of the three requests reaches the instrument, and its reply (a, b, c)
+-- comes
 abbrev pub moves_with : {S : Type 0} → List ℕ → List ℕ → List ℕ → List (Move S)
 moves_with a b c =
     Tells 15
@@ -112,12 +115,12 @@ moves_with a b c =
     ∷ Comes c
     ∷ []
 
--- the records of the run, with these replies: all three are answered
+-- the records of the run, in which the three commands are answered by the lines a, b and c
 abbrev pub records_with : List ℕ → List ℕ → List ℕ → List Record
 records_with a b c =
-    record { sent = Some 15; utc = 20; cycle = 1; place = 0; command = record { target = 7; call = points }; end = end.Answered (Some (Long (pos 0))) a }
-    ∷ record { sent = Some 20; utc = 25; cycle = 1; place = 1; command = record { target = 7; call = measures }; end = end.Answered (Some (Long (pos 0))) b }
-    ∷ record { sent = Some 25; utc = 30; cycle = 1; place = 2; command = record { target = 7; call = reads_all }; end = end.Answered (Some (Long (pos 0))) c }
+    record { sent = Some 15; utc = 20; cycle = 1; place = 0; command = record { target = 7; call = points }; end = end.Answered Fine (Some (Long (pos 0))) a }
+    ∷ record { sent = Some 20; utc = 25; cycle = 1; place = 1; command = record { target = 7; call = measures }; end = end.Answered Fine (Some (Long (pos 0))) b }
+    ∷ record { sent = Some 25; utc = 30; cycle = 1; place = 2; command = record { target = 7; call = reads_all }; end = end.Answered Fine (Some (Long (pos 0))) c }
     ∷ []
 
 -- the acts of the run over the simulator
@@ -136,12 +139,12 @@ before = none_under_way simulator_opening
 abbrev pub stretch : Stretch State
 stretch = record { from = leaves (turned ends eight (begins before)); moves = moves }
 
--- the whole run, with nothing behind the end
+-- what happens on the line: in this run, and after its end in one more, in which nothing happens
 abbrev pub runs : List (Run State)
 runs = record { turns = eight; moves = moves } ∷ record { turns = []; moves = [] } ∷ []
 
 -- this is a run in the field that wrote all three answers down; the third command is of the first one's chain, no command
--- between the two turns the telescope, and nothing disturbs the instrument. So when the third is executed, behind both
+-- between the two turns the telescope, and nothing disturbs the instrument. So when the third is executed, after both
 -- others, the telescope points where the first pointed it
 pub record IsPointedInField : Type 0 where
   pub field : IsInField ends IsFittingState kept_of plan commands scope acts before runs

@@ -1,6 +1,7 @@
--- Chains in the field, this project's own: what the instrument had executed when it executed a command of a chain. Each one before it was
--- executed first, with the reply that was booked; between the two nothing but what was sent between them; and the instrument was what
--- these had made of it.
+-- Chains in the field, this project's own: what the instrument had executed when it executed a command of a chain. Each earlier
+-- command of the chain had been executed before, with the reply that was booked for it; between the two only what was sent
+-- between them was executed; and the instrument's state was what these executions had made of it. A part is what a station sees
+-- of its run from one beginning to the next, and a stretch what happens on the line meanwhile, once it has begun.
 use Rattle.std.specs.Prelude.{◌≡◌, ℕ, ◌+◌, ◌<◌, ◌≤◌, true, false, List, [], ◌∷◌, ◌++◌, Option, Some, slice_get}
 use Rattle.std.specs.List.{AllByRecursion}
 use Rattle.gc_catalogue.specs.declared.answer.Answer.{Answer}
@@ -10,12 +11,14 @@ use Rattle.gc_client.specs.declared.window.TheConstants.{WINDOW}
 use Rattle.gc_instrument.specs.State.{KeptReply}
 use Rattle.gc_links.specs.Acts.{Act}
 use Rattle.gc_texts.specs.Endings.{Answered}
-use Rattle.gc_texts.specs.declared.near.Near.{Near}
+use Rattle.gc_texts.specs.Qualities.{is_good}
+use Rattle.gc_texts.specs.declared.near.Expected.{Expected}
+use Rattle.gc_texts.specs.declared.quality.Quality.{Quality}
 use Rattle.gc_texts.specs.declared.tasks.Task.{Task}
 use Rattle.gc_station.specs.Answers.{answer_of}
 use Rattle.gc_station.specs.Links.{AreChained}
-use Rattle.gc_station.specs.Marks.{is_value}
 use Rattle.gc_station.specs.Parts.{Part, mark_of, parts_of}
+use Rattle.gc_station.specs.Qualities.{IsOfQuality, accepted_at}
 use Rattle.gc_station.specs.Records.{Record}
 use Rattle.gc_station.specs.Runs.{stood}
 use Rattle.gc_station.specs.Scopes.{Scope}
@@ -65,19 +68,20 @@ AreCalls sent [] [] = Unit {0}
 AreCalls sent (n ∷ ns) (call ∷ calls) = ((r : Sent) × (slice_get sent n ≡ Some r) × (r.call ≡ call)) × AreCalls sent ns calls
 AreCalls sent _ _ = ⊥
 
--- the instrument's state behind these calls, one after the other, where one call changes it by this function
+-- the instrument's state after these calls, one after the other, where one call changes it by this function
 abbrev pub executing : {State : Type 0} → (State → Call → State) → State → List Call → State
 executing effect s [] = s
 executing effect s (call ∷ calls) = executing effect (effect s call) calls
 
--- executing a call has this effect on an instrument, whatever id its request has; a line that is sent again has none. Both are said of the
--- state apart from what is kept
+-- executing a call changes an instrument's state by `effect`, whatever id the request has, and a reply that is sent again
+-- changes nothing. Both are said of the state without what the instrument keeps, which `apart` gives; and by `alike` the effect
+-- doesn't depend on what is kept
 pub record HasEffect {State : Type 0} (ends : Ends State) (apart : State → State) (effect : State → Call → State) : Type 0 where
   pub executes : (state : State) (id : ℕ) (call : Call) → (ends.handed state id call).executed ≡ true → apart (ends.handed state id call).state ≡ apart (effect state call)
   pub repeats : (state : State) (id : ℕ) (call : Call) → (ends.handed state id call).executed ≡ false → apart (ends.handed state id call).state ≡ apart state
   pub alike : (s t : State) (call : Call) → apart s ≡ apart t → apart (effect s call) ≡ apart (effect t call)
 
--- the wire behind these moves of a stretch
+-- the wire after these moves of a stretch
 abbrev pub behind : {State : Type 0} → Ends State → Stretch State → List (Move State) → Wire State
 behind ends s ms = (begun.behind WINDOW ends s.from ms).wire
 
@@ -90,15 +94,16 @@ module _ {State : Type 0} (ends : Ends State) (Good : State → Type 0) (kept : 
     pub second : WasMadeOn WINDOW ends s.from s.moves n call_n line_n
     pub between : List (Move State)
     pub order : second.front ≡ first.front ++ OnLine Up_deliver ∷ between
-    -- the requests that were executed between them, by their numbers: in the order of sending, none sent before m, and none behind n
+    -- the requests that were executed between them, by their numbers: in the order of sending, none sent before m, and none
+    -- after n
     pub numbers : List ℕ
     pub executed : (behind ends s second.front).executed ≡ (behind ends s first.front).executed ++ m ∷ numbers
     pub in_order : IsInOrder numbers
     pub within : Each (λ x. (m ≤ x) × (x ≤ n)) numbers
-    -- where the instrument keeps its reply and didn't start between, each was sent behind m and before n
+    -- where the instrument keeps its reply and didn't start between, each was sent after m and before n
     pub strictly : KeepsItsReply ends Good kept → HasNoStartBetween between → Each (λ x. (m < x) × (x < n)) numbers
-    -- where it neither started nor changed by itself between, its state, when n reached it, was what executing m and these made of its state
-    -- when m did
+    -- where the instrument neither started nor changed by itself between, its state when n reached it is the state in which m
+    -- reached it, changed by executing m and then the requests between
     pub calls : List Call
     pub asked : AreCalls (behind ends s s.moves).sent numbers calls
     pub state :
@@ -107,19 +112,24 @@ module _ {State : Type 0} (ends : Ends State) (Good : State → Type 0) (kept : 
 
   -- A chain of a run.
 
-  -- in a run the command of record b was executed behind the command at place a of the same cycle
-  pub record IsChainedTo (reads : Call → List ℕ → Reading) (ps : List Part) (ss : List (Stretch State)) (records : List Record) (a : ℕ) (b : Record) (line_b : List ℕ) : Type 0 where
-    -- that has a record, too, which is an answer, with both codes 0 and values that read
+  -- in a run with the parts `ps` and the stretches `ss`, the command of record b was executed after the command at place a of
+  -- the same cycle
+  pub record IsChainedTo (reads : Call → List ℕ → Reading) (commands : List Task) (ps : List Part) (ss : List (Stretch State)) (records : List Record) (a : ℕ) (b : Record) (line_b : List ℕ) : Type 0 where
+    -- the command at place a has a record, too, which is an answer of a good quality: with both codes 0 and values that read, or with a return code that is
+    -- accepted of that command
     pub k : ℕ
     pub record_a : Record
     pub among : slice_get records k ≡ Some record_a
     pub cycle : record_a.cycle ≡ b.cycle
     pub place : record_a.place ≡ a
     pub line_a : List ℕ
+    pub quality : Quality
     pub said : Option Answer
-    pub answered : record_a.end ≡ Answered said line_a
-    pub well : is_value (reads record_a.command.call line_a) ≡ true
-    -- both are requests of the client in one part of the run, and so in one stretch, that of a before that of b
+    pub answered : record_a.end ≡ Answered quality said line_a
+    pub well : is_good quality ≡ true
+    pub says : IsOfQuality reads (accepted_at commands a) record_a.command.call quality said line_a
+    -- both are requests of the client in one part of the run, number i, and so in one stretch: request m for place a, and
+    -- request n, which was sent later, for record b
     pub i : ℕ
     pub part : Part
     pub stretch : Stretch State
@@ -128,20 +138,20 @@ module _ {State : Type 0} (ends : Ends State) (Good : State → Type 0) (kept : 
     pub m : ℕ
     pub n : ℕ
     pub goes_on : m < n
-    pub near_a : Option Near
-    pub near_b : Option Near
-    pub mark_a : slice_get part.marks m ≡ Some (Some (mark_of near_a record_a))
-    pub mark_b : slice_get part.marks n ≡ Some (Some (mark_of near_b b))
+    pub expected_a : Expected
+    pub expected_b : Expected
+    pub mark_a : slice_get part.marks m ≡ Some (Some (mark_of expected_a record_a))
+    pub mark_b : slice_get part.marks n ≡ Some (Some (mark_of expected_b b))
     -- the commands that went out between them are those of the places between them, of the same cycle
     pub between : (x : ℕ) (mark : _) → m < x → x < n → slice_get part.marks x ≡ Some (Some mark) → (mark.cycle ≡ b.cycle) × (a < mark.place) × (mark.place < b.place)
     -- and they were executed in this order, with these replies
     pub executed : IsExecutedAfter stretch (8 + m) (8 + n) record_a.command.call b.command.call line_a line_b
 
-  -- if the command of record b was answered, it was executed behind each one from which it is chained
+  -- if the command of record b was answered, each command before it in its chain was executed before it
   abbrev pub IsExecutedInChain : Plan → List Task → Scope → List Act → UnderWay State → List (Run State) → Record → Type 0
   IsExecutedInChain plan commands scope acts u rs b =
       (line : List ℕ) (a : ℕ) → answer_of b.end ≡ Some line → a < b.place → AreChained commands a b.place
-      → IsChainedTo scope.reads (parts_of plan commands (opening plan scope) acts) (stretches ends u rs) (stood plan commands scope acts).records a b line
+      → IsChainedTo scope.reads commands (parts_of plan commands (opening plan scope) acts) (stretches ends u rs) (stood plan commands scope acts).records a b line
 
   -- each record of a run is `IsExecutedInChain`
   abbrev pub AreExecutedInChain : Plan → List Task → Scope → List Act → UnderWay State → List (Run State) → Type 0

@@ -84,7 +84,7 @@ before = none_under_way (record { count = 27; keeps = None })
 abbrev pub stretch : Stretch Counter
 stretch = record { from = leaves (turned counting eight (begins before)); moves = moves }
 
--- the whole run, with nothing behind the end
+-- what happens on the line: in this run, and after its end in one more, in which nothing happens
 abbrev pub runs : List (Run Counter)
 runs = record { turns = eight; moves = moves } ∷ record { turns = []; moves = [] } ∷ []
 

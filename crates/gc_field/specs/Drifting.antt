@@ -12,6 +12,8 @@ use Rattle.gc_client.specs.declared.window.TheConstants.{WINDOW}
 use Rattle.gc_client.specs.Rule.{heard}
 use Rattle.gc_texts.specs.declared.tasks.Task.{Task}
 use Rattle.gc_texts.specs.Endings as end
+use Rattle.gc_texts.specs.Codes.{no_codes}
+use Rattle.gc_texts.specs.declared.quality.Quality.TheVariants.{Fine}
 use Rattle.gc_station.specs.declared.plan.Plan.{Plan}
 use Rattle.gc_links.specs.Acts.{Act, Told, Put, Gave, Silent, Broke, Closed, Opened}
 use Rattle.gc_station.specs.Progressing.{is_over}
@@ -41,11 +43,11 @@ drifting =
 abbrev pub plan : Plan
 plan = record { width = 1; deadline = 100; every = 0; cycles = 1; quiet = 10; retries = 3 }
 
--- two requests for a number
+-- the two commands of this run, which ask for the instrument's number
 abbrev pub commands : List Task
 commands =
-    record { command = record { target = 7; call = InstrumentNo }; deadline = 100; chained = false; near = None }
-    ∷ record { command = record { target = 8; call = InstrumentNo }; deadline = 100; chained = false; near = None }
+    record { command = record { target = 7; call = InstrumentNo }; deadline = 100; chained = false; near = None; accepted = no_codes }
+    ∷ record { command = record { target = 8; call = InstrumentNo }; deadline = 100; chained = false; near = None; accepted = no_codes }
     ∷ []
 
 -- the scope of this run: at most a hundred acts; every reply is taken to say what the reply to the second command says
@@ -108,7 +110,7 @@ abbrev pub turns : List (Turn ℕ)
 turns = Asks ∷ Reaches ∷ turn.Down_lose 0 ∷ Asks ∷ turn.Up_lose 0 ∷ turn.Changes 12 ∷ eight
 
 -- what the line does once the station has begun: the first command is answered, and that reply is lost; the second command
--- reaches the instrument behind a start, and is answered with what it measures by then, over another connection
+-- reaches the instrument after a start, and is answered with what it measures by then, over another connection
 abbrev pub moves : List (Move ℕ)
 moves =
     Tells 220
@@ -131,12 +133,12 @@ moves =
     ∷ Comes answer
     ∷ []
 
--- the whole run, with nothing behind the end
+-- what happens on the line: in this run, and after its end in one more, in which nothing happens
 abbrev pub runs : List (Run ℕ)
 runs = record { turns = turns; moves = moves } ∷ record { turns = []; moves = [] } ∷ []
 
--- `drifting` is an instrument, and this is a run in the field, behind which no act follows. The run wrote the first command down as
--- lost, and the second one's answer, which was made on executing the second command's request
+-- `drifting` is an instrument, and this is a run in the field, after which no act follows. The run wrote the first command down
+-- as lost, and the second one's answer, which was made on executing the second command's request
 pub record IsAnsweredByDrifting : Type 0 where
   pub is : IsAnInstrument drifting AnyState nothing
   pub field : IsInField drifting AnyState nothing plan commands scope acts (none_under_way 5) runs
@@ -144,6 +146,6 @@ pub record IsAnsweredByDrifting : Type 0 where
   pub records :
       (stood plan commands scope acts).records
       ≡ record { sent = Some 220; utc = 360; cycle = 1; place = 0; command = record { target = 7; call = InstrumentNo }; end = end.Lost }
-      ∷ record { sent = Some 320; utc = 360; cycle = 1; place = 1; command = record { target = 8; call = InstrumentNo }; end = end.Answered (Some (Long (pos 31))) answer }
+      ∷ record { sent = Some 320; utc = 360; cycle = 1; place = 1; command = record { target = 8; call = InstrumentNo }; end = end.Answered Fine (Some (Long (pos 31))) answer }
       ∷ []
   pub made_on : WasMadeOn WINDOW drifting (leaves (turned drifting turns (begins (none_under_way 5)))) moves 9 InstrumentNo answer

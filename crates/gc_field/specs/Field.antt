@@ -1,6 +1,7 @@
--- The field, this project's own: what happens between a client and an instrument over any number of connections, and what may happen to
--- the lines meanwhile. Between the two is the world's line, which keeps order, loses lines whole and repeats a line directly behind it.
--- Connections aren't spoken of, because a close is a loss of lines. The instrument may start anew at any moment.
+-- The field, this project's own: what happens between a client and an instrument over any number of connections, and what may
+-- happen to the lines meanwhile. Between the two is the world's line, which keeps order, loses lines whole and repeats a line
+-- directly after it. Connections aren't spoken of, because a close is a loss of lines. The instrument may start anew at any
+-- moment.
 use Rattle.std.specs.Prelude.{◌≡◌, ℕ, Bool, true, false, List, [], ◌∷◌, ◌++◌, Option, None}
 use Rattle.gc_catalogue.specs.declared.call.Call.{Call}
 use Rattle.gc_client.specs.OneForOne as client
@@ -41,7 +42,8 @@ IsOfLine Restart_client = ⊥
 IsOfLine Restart_instrument = ⊥
 IsOfLine Nothing = Unit {0}
 
--- the wire once two requests reached the instrument as one line, which has this reply
+-- the wire once the two front requests reached the instrument as one line, which has this reply: it counts as the reply to the
+-- first of them. Where fewer than two are under way, nothing happens
 abbrev pub joined : {State : Type 0} → Wire State → List (Numbered Request) → List ℕ → Wire State
 joined w (x ∷ y ∷ rest) line =
     let reply : Numbered (List ℕ) = record { number = x.number; line = line } in
@@ -60,7 +62,7 @@ module _ {Client State : Type 0} where
   moves ends rule w (Changes state) = on_wire w (record w.wire { state = state })
   moves ends rule w (Joins line) = on_wire w (joined w.wire w.wire.up line)
 
-  -- the world behind these moves, in order
+  -- the world after these moves, in order
   abbrev pub moved : Ends State → Rule Client → List (Move State) → World Client State → World Client State
   moved ends rule [] w = w
   moved ends rule (m ∷ ms) w = moved ends rule ms (moves ends rule w m)
@@ -75,7 +77,7 @@ module _ {Client State : Type 0} where
   IsPossible Good kept w (OnLine step) = IsOfLine step
   IsPossible Good kept w Anew = Unit {0}
   IsPossible Good kept w (Changes state) = MayBecome Good kept w.wire.state state
-  -- a line feed arrives behind the front of a request, before the next request does
+  -- a line feed arrives after the front of a request, before the next request does
   IsPossible Good kept w (Joins line) = ⊥
 
   -- each of these moves is possible when its turn comes
@@ -95,7 +97,8 @@ seen (Anew ∷ ms) = seen ms
 seen (Changes state ∷ ms) = seen ms
 seen (Joins line ∷ ms) = seen ms
 
--- the first request goes out alone: no other one before a reply came. `out` says whether the first one went out already
+-- no other request goes out between the first one and the first reply that comes. `out` says whether the first request went out
+-- already
 abbrev pub IsFirstAlone : {State : Type 0} → Bool → List (Move State) → Type 0
 IsFirstAlone out [] = Unit {0}
 IsFirstAlone false (Sends target call deadline ∷ ms) = IsFirstAlone true ms

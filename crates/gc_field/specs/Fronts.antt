@@ -1,5 +1,6 @@
--- Requests that are cut, this project's own. Where only the front of one got through, with a line feed behind it, or only its tail, as
--- behind a start of the instrument, no request got through. So a request that was cut reaches the instrument whole or not at all.
+-- Requests that are cut, this project's own. Where only the front of one got through, with a line feed after it, or only its
+-- tail, as after a start of the instrument, no request got through. So a request that was cut reaches the instrument whole or
+-- not at all.
 use Rattle.std.specs.Prelude.{◌≡◌, ℕ, ◌+◌, ◌<◌, ◌≤◌, List, [], ◌∷◌, ◌++◌, length, take, drop, Some}
 use Rattle.gc_lines.specs.Frames.{lines}
 use Rattle.gc_lines.specs.Lines.{with_end}
@@ -15,7 +16,8 @@ request_bytes id call = with_end (request_line (Some id) call)
 
 -- a front or a tail of a request with this id and call is no request, unless it is the whole one
 pub record IsWholeOrNothing (id : ℕ) (call : Call) : Type 0 where
-  -- a front without its CR, and a line feed, are no line; with its CR they are the request itself
+  -- a front without the CR, followed by a line feed, gives no line; the front with the CR, followed by a line feed, is the
+  -- whole request
   pub front : (count : ℕ) → count ≤ length (request_line (Some id) call) → lines (take count (request_bytes id call) ++ 10 ∷ []) ≡ []
   pub whole : take (length (request_line (Some id) call) + 1) (request_bytes id call) ++ 10 ∷ [] ≡ request_bytes id call
   -- no line of a tail is a request
@@ -25,7 +27,7 @@ pub record IsWholeOrNothing (id : ℕ) (call : Call) : Type 0 where
 abbrev pub CutRequestsAreWholeOrNothing : Type 0
 CutRequestsAreWholeOrNothing = (id : ℕ) (call : Call) → IsFitting call → IsWholeOrNothing id call
 
--- where the line feed behind the front of a request is lost, the front and the next request are one line. If that line is a
+-- where the line feed after the front of a request is lost, the front and the next request are one line. If that line is a
 -- request at all, it has the front's id and procedure
 abbrev pub JoinedRequestsHaveTheFrontsId : Type 0
 JoinedRequestsHaveTheFrontsId =

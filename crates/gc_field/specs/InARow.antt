@@ -27,7 +27,7 @@ pub record Program (State : Type 0) : Type 0 where
   pub runs : List (Run State)
 
 module _ {State : Type 0} (ends : Ends State) where
-  -- what is under way behind these runs
+  -- what is under way after these runs
   abbrev pub left_over : UnderWay State → List (Run State) → UnderWay State
   left_over u [] = u
   left_over u (r ∷ rs) = left_over (left_by_run WINDOW ends u r) rs
@@ -43,7 +43,8 @@ module _ {State : Type 0} (ends : Ends State) where
   killed_over n u [] = n
   killed_over n u (r ∷ rs) = killed_over (killed_by n u r r.turns) (left_by_run WINDOW ends u r) rs
 
-  -- no more than five runs in a row are killed while they begin, up to each of these, where `n` were before
+  -- at the end of each of these runs, at most five in a row have been killed while they began, counted with the `n` before the
+  -- first
   abbrev pub AreFew : ℕ → UnderWay State → List (Run State) → Type 0
   AreFew n u [] = Unit {0}
   AreFew n u (r ∷ rs) = (killed_by n u r r.turns ≤ 5) × AreFew (killed_by n u r r.turns) (left_by_run WINDOW ends u r) rs
@@ -66,7 +67,7 @@ module _ {State : Type 0} (ends : Ends State) where
     AreFaithful u [] = Unit {0}
     AreFaithful u (x ∷ xs) = IsRunFaithful ends Good kept x.plan x.commands x.scope x.acts u x.runs × AreFaithful (left_over u x.runs) xs
 
--- for any instrument, behind a run that measured, or over a line with nothing under way: as long as fewer than six runs in a
+-- for any instrument, after a run that measured, or over a line with nothing under way: as long as fewer than six runs in a
 -- row end while they begin, each program is a faithful run
 abbrev pub StationsInARowAreFaithful : Type 0 → Type 0
 StationsInARowAreFaithful State =

@@ -11,33 +11,36 @@ use Rattle.gc_instrument.specs.State.{KeptReply}
 use Rattle.gc_world.specs.World.{Ends}
 
 module _ {State : Type 0} (ends : Ends State) (Good : State → Type 0) (kept : State → Option KeptReply) where
-  -- an instrument, with its good states, and with what it keeps in each: the line that it sent for a request, with the request's id, or nothing
+  -- `ends` is an instrument: what it does with a request (`handed`) and at a start (`restarted`), and how its lines are read
+  -- (`heard`). `Good` says which of its states are good, and `kept` what it keeps in each: the line that it sent for a request,
+  -- with that request's id, or nothing
   pub record IsAnInstrument : Type 0 where
     -- a client reads its lines by the grammar of replies
     pub hears : (line : List ℕ) → ends.heard line ≡ heard line
     -- its line for a request is a reply with the request's id
     pub replies : (state : State) (id : ℕ) (call : Call) → Good state → id < IDS → heard (ends.handed state id call).reply ≡ Some id
-    -- where its line wasn't made now, for this request, it is the line that it keeps, of a request with that very id
+    -- where it sends an older line again (`executed` is false), that line is the one that it keeps, and it keeps it for this
+    -- very id
     pub repeats :
         (state : State) (id : ℕ) (call : Call) → Good state → id < IDS → (ends.handed state id call).executed ≡ false →
         kept state ≡ Some (record { id = id; line = (ends.handed state id call).reply })
-    -- behind a request it keeps that one's line, or nothing
+    -- after a request it keeps its reply to that request, or nothing
     pub keeps :
         (state : State) (id : ℕ) (call : Call) → Good state → id < IDS →
         (kept (ends.handed state id call).state ≡ None) ⊎ (kept (ends.handed state id call).state ≡ Some (record { id = id; line = (ends.handed state id call).reply }))
-    -- behind a start it keeps what it kept, or nothing
+    -- after a start it keeps what it kept before, or nothing
     pub starts : (state : State) → Good state → (kept (ends.restarted state) ≡ None) ⊎ (kept (ends.restarted state) ≡ kept state)
     -- a good state stays one
     pub stays_good : (state : State) (id : ℕ) (call : Call) → Good state → id < IDS → Good (ends.handed state id call).state
     pub starts_good : (state : State) → Good state → Good (ends.restarted state)
 
-  -- an instrument that keeps its line behind each request, and sends it again where the next request has its id
+  -- an instrument that keeps its reply to each request, and sends that reply again where the next request has the same id
   pub record KeepsItsReply : Type 0 where
-    -- it doesn't deal anew with a request that has the id of the line that it keeps
+    -- it doesn't execute a request that has the id of the line that it keeps
     pub again :
         (state : State) (id : ℕ) (call : Call) (line : List ℕ) → Good state → id < IDS → kept state ≡ Some (record { id = id; line = line }) →
         (ends.handed state id call).executed ≡ false
-    -- behind each request it keeps that one's line
+    -- after each request it keeps its reply to that request
     pub always :
         (state : State) (id : ℕ) (call : Call) → Good state → id < IDS →
         kept (ends.handed state id call).state ≡ Some (record { id = id; line = (ends.handed state id call).reply })
@@ -55,7 +58,7 @@ AnyState state = Unit {0}
 abbrev pub nothing : {State : Type 0} → State → Option KeptReply
 nothing state = None
 
--- what keeps no reply, and deals with each request anew, is an instrument, if only each reply has its request's id
+-- what keeps no reply and executes each request is an instrument, if each of its replies reads as one with its request's id
 abbrev pub KeepingNothingSuffices : Type 0 → Type 0
 KeepingNothingSuffices State =
     (ends : Ends State) → ((line : List ℕ) → ends.heard line ≡ heard line) →

@@ -1,4 +1,4 @@
--- Some run in the field writes a late record down, this project's own: a command is given up, and its reply comes behind that.
+-- Some run in the field writes a late record down, this project's own: a command is given up, and its reply comes after that.
 use Rattle.std.specs.Prelude.{◌≡◌, ℕ, true, false, List, [], ◌∷◌, codes, pos, Some, None}
 use Rattle.gc_lines.specs.Lines.{with_end}
 use Rattle.gc_catalogue.specs.declared.answer.Answer.TheVariants.{Long}
@@ -7,6 +7,8 @@ use Rattle.gc_client.specs.declared.window.TheConstants.{WINDOW}
 use Rattle.gc_instrument.specs.State.{State, IsFittingState, simulator_opening}
 use Rattle.gc_texts.specs.declared.tasks.Task.{Task}
 use Rattle.gc_texts.specs.Endings as end
+use Rattle.gc_texts.specs.Codes.{no_codes}
+use Rattle.gc_texts.specs.declared.quality.Quality.TheVariants.{Fine}
 use Rattle.gc_links.specs.Acts.{Act, Told, Put, Gave, Silent, Closed}
 use Rattle.gc_station.specs.Progressing.{is_over}
 use Rattle.gc_station.specs.Runs.{stood}
@@ -23,8 +25,8 @@ use Rattle.gc_field.specs.Witness.{plan, scope, at, begun_with, eight, replies}
 -- two requests for the instrument's number
 abbrev pub commands : List Task
 commands =
-    record { command = record { target = 7; call = InstrumentNo }; deadline = 100; chained = false; near = None }
-    ∷ record { command = record { target = 8; call = InstrumentNo }; deadline = 100; chained = false; near = None }
+    record { command = record { target = 7; call = InstrumentNo }; deadline = 100; chained = false; near = None; accepted = no_codes }
+    ∷ record { command = record { target = 8; call = InstrumentNo }; deadline = 100; chained = false; near = None; accepted = no_codes }
     ∷ []
 
 -- the reply to the first request, which comes too late
@@ -52,7 +54,7 @@ acts =
     ∷ []
     )
 
--- what the line does meanwhile: each request reaches the simulator, and each reply comes, that of the first command behind
+-- what the line does meanwhile: each request reaches the simulator, and each reply comes, that of the first command after
 -- its deadline
 abbrev pub moves : List (Move State)
 moves =
@@ -70,7 +72,7 @@ moves =
     ∷ Comes answer
     ∷ []
 
--- the whole run, with nothing behind the end
+-- what happens on the line: in this run, and after its end in one more, in which nothing happens
 abbrev pub runs : List (Run State)
 runs = record { turns = eight; moves = moves } ∷ record { turns = []; moves = [] } ∷ []
 
@@ -82,7 +84,7 @@ before = none_under_way simulator_opening
 abbrev pub from : UnderWay State
 from = leaves (turned ends eight (begins before))
 
--- this is a run in the field, behind which no act follows. It wrote the first command down as late, and the second one's
+-- this is a run in the field, after which no act follows. It wrote the first command down as late, and the second one's
 -- answer; and each of these lines was made on executing its own request
 pub record IsLateInField : Type 0 where
   pub field : IsInField ends IsFittingState kept_of plan commands scope acts before runs
@@ -90,7 +92,7 @@ pub record IsLateInField : Type 0 where
   pub records :
       (stood plan commands scope acts).records
       ≡ record { sent = Some 15; utc = 120; cycle = 1; place = 0; command = record { target = 7; call = InstrumentNo }; end = end.Late }
-      ∷ record { sent = Some 115; utc = 125; cycle = 1; place = 1; command = record { target = 8; call = InstrumentNo }; end = end.Answered (Some (Long (pos 123456))) answer }
+      ∷ record { sent = Some 115; utc = 125; cycle = 1; place = 1; command = record { target = 8; call = InstrumentNo }; end = end.Answered Fine (Some (Long (pos 123456))) answer }
       ∷ []
   pub late_made_on : WasMadeOn WINDOW ends from moves 8 InstrumentNo late
   pub answer_made_on : WasMadeOn WINDOW ends from moves 9 InstrumentNo answer

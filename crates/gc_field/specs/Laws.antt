@@ -1,4 +1,6 @@
--- What holds in the field, whenever a client sends: this project's own.
+-- What holds in the field, whenever a client sends: this project's own. Requests are numbered from 0 on, in the order of
+-- sending. The client that knows ids finds a reply's request by the reply's id; the one that is given numbers is told the
+-- request's number, and serves for comparison alone.
 use Rattle.std.specs.Prelude.{◌≡◌, ℕ, ◌-◌, ◌<◌, ◌≤◌, List, ◌∷◌, ◌++◌, length, map, Option, Some, slice_get}
 use Rattle.gc_client.specs.declared.window.TheConstants.{WINDOW}
 use Rattle.gc_client.specs.OneForOne.{Asked, begun, course, of_settled, of_pending}
@@ -21,15 +23,15 @@ abbrev pub WasExecuted : List ℕ → ℕ → Type 0
 WasExecuted executed m = (j : ℕ) × (slice_get executed j ≡ Some m)
 
 module _ {State : Type 0} (width : ℕ) (ends : Ends State) (state : State) (ms : List (Move State)) where
-  -- the world behind the moves, with the client that knows ids
+  -- the world after the moves, with the client that knows ids
   abbrev pub left : World ById State
   left = moved ends (by_ids width ends) ms (ids_open state)
 
-  -- the wire behind the moves, with the client that is given the number of each reply's request
+  -- the wire after the moves, with the client that is given the number of each reply's request
   abbrev pub left_by_numbers : Wire State
   left_by_numbers = (moved ends (by_numbers width) ms (numbers_open state)).wire
 
-  -- what holds behind the moves, for an instrument whose states are good ones
+  -- what holds after the moves, for an instrument whose states are good ones
   pub record IsFaithful (Good : State → Type 0) (kept : State → Option KeptReply) : Type 0 where
     -- a client that takes the steps of the moves settles what the world's client settled, and ends in the same state
     pub settled : (course width begun (seen ms)).settlements ≡ left.wire.settled
@@ -42,7 +44,7 @@ module _ {State : Type 0} (width : ℕ) (ends : Ends State) (state : State) (ms 
     -- the first request, which an instrument that kept an older reply with its id may have answered with that
     pub booked :
         (m : ℕ) (s : Settlement) → 0 < m → slice_get left.wire.settled m ≡ Some s → IsBooked ends Good left.wire.made m s
-    -- and it was executed here, and not before the client began
+    -- and the instrument executed request m at one of these moves, not before the client began
     pub executed :
         (m : ℕ) (s : Settlement) (line : List ℕ) → 0 < m → slice_get left.wire.settled m ≡ Some s → s.outcome ≡ Answered line → WasExecuted left.wire.executed m
     -- made on it: its line was made on executing request m. At one of these moves that request, with this call, reached the instrument,
@@ -58,8 +60,8 @@ module _ {State : Type 0} (width : ℕ) (ends : Ends State) (state : State) (ms 
     pub once : KeepsItsReply ends Good kept → ActsOnce left.wire.executed left.wire.starts
     -- agreement: all is as with a client that is told the number of each reply's request
     pub agrees : left.wire ≡ left_by_numbers
-    -- in time: a reply whose request isn't settled settles it, and those before it as lost; where it isn't given up, it is answered with
-    -- that line
+    -- in time: a reply whose request isn't settled settles that request, and those before it as lost. The request is answered
+    -- with that line, or late where it was given up
     pub first_reply :
         (n : ℕ) (line : List ℕ) (rest : List (Numbered (List ℕ))) → left.wire.down ≡ record { number = n; line = line } ∷ rest → length left.wire.settled ≤ n →
         (moves ends (by_ids width ends) left (Comes line)).wire.settled ≡ left.wire.settled ++ settle (n - length left.wire.settled) line left.client.waiting

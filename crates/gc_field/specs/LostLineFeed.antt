@@ -17,7 +17,7 @@ use Rattle.gc_field.specs.Begun.{ids_begun}
 use Rattle.gc_field.specs.Field.{Move, Sends, Comes, OnLine, Joins, ArePossible}
 use Rattle.gc_field.specs.Laws.{kept_of}
 
--- the reply to a line that doesn't read, with the id of the request that was cut
+-- the reply to a line whose parameters don't read (communication code 3080), with the id of the request that was cut
 abbrev pub refusal : List ℕ
 refusal = codes "%R1P,3080,1:0"
 
@@ -25,17 +25,17 @@ refusal = codes "%R1P,3080,1:0"
 abbrev pub joint : List ℕ
 joint = codes "%R1Q,5003,1:%R1Q,0,2:"
 
--- the moves before: a client that has begun sends two requests, of which the first is cut
+-- the moves before: a client that has begun sends a null procedure, which is answered; and then two requests, of which the first is cut
 abbrev pub before : List (Move State)
 before = Sends 0 NullProc 9 ∷ OnLine Up_deliver ∷ Comes (codes "%R1P,0,0:0") ∷ Sends 7 InstrumentNo 9 ∷ Sends 8 NullProc 9 ∷ []
 
--- the moves behind: the front of the first request and the second request reach the simulator as one line, whose reply comes
+-- the moves after that: the front of the first request and the second request reach the simulator as one line, whose reply comes
 abbrev pub behind : List (Move State)
 behind = Joins refusal ∷ Comes refusal ∷ []
 
 -- the moves before are possible, and the reply to that one line is booked for the request that was cut
 pub record IsBookedJoined : Type 0 where
-  -- twelve bytes of the one and the whole of the other are one line, and a request with the id of the first
+  -- the first twelve bytes of the one request and the whole of the other are one line, and a request with the id of the first
   pub line : lines (take 12 (with_end (codes "%R1Q,5003,1:")) ++ with_end (codes "%R1Q,0,2:")) ≡ joint ∷ []
   pub reads : request_at joint ≡ Ok (record { rpc = 5003; id = Some 1; params = codes "%R1Q,0,2:" })
   pub possible : ArePossible ends IsFittingState kept_of (by_ids WINDOW ends) before (ids_begun (none_under_way simulator_opening))

@@ -13,7 +13,7 @@ module _ {State : Type 0} (width : ℕ) (ends : Ends State) (state : State) wher
   -- at one of these moves request m, with this call, reaches the instrument; it executes the call, in the state in which it is by then;
   -- and this line is its reply
   pub record WasMadeOn (ms : List (Move State)) (m : ℕ) (call : Call) (line : List ℕ) : Type 0 where
-    -- the moves before that one, and those behind it
+    -- the moves before that one, and those after it
     pub front : List (Move State)
     pub later : List (Move State)
     pub split : ms ≡ front ++ OnLine Up_deliver ∷ later

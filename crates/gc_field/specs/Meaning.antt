@@ -28,19 +28,22 @@ pub record IsRequest (client : ById) (bytes : List ℕ) (steps : List Step) : Ty
 abbrev pub IsPut : ById → List ℕ → List Step → Type 0
 IsPut client bytes steps = ((bytes ≡ 10 ∷ []) × (steps ≡ [])) ⊎ IsRequest client bytes steps
 
--- a piece that is heard: the moment gives up what has reached its deadline, and then each line that the piece completes is
--- heard, behind these bytes since the last line feed
+-- what a piece that is heard means to a client: first the moment `m` is told, at which requests past their deadline are given
+-- up; then each line that the piece completes is heard. `before` and `behind` are the bytes since the last line feed, before
+-- the piece and after it
 pub record IsHeard (before piece : List ℕ) (m : Moment) (steps : List Step) (behind : List ℕ) : Type 0 where
   pub lines : steps ≡ Expire m.elapsed ∷ map Hear (lines_behind before piece)
   pub rest : behind ≡ rest_behind before piece
 
--- a piece that is dropped, as while a connection is drained: the moment is told, and it is as if the lines that came had been lost
+-- what a piece that is dropped means, as while a connection is drained: the moment is told, and it is as if the piece had been
+-- lost
 pub record IsDropped (before : List ℕ) (m : Moment) (steps : List Step) (behind : List ℕ) : Type 0 where
   pub lines : steps ≡ Expire m.elapsed ∷ []
   pub rest : behind ≡ before
 
--- what an act is to a client: these steps, and the bytes since the last line feed, before and behind the act, which a close forgets. A
--- request of which only a part went out is a request, too, which may be lost whole on the way to the instrument
+-- what an act of the link means to a client: its steps. `before` and `behind` are the bytes since the last line feed, before
+-- and after the act; a close forgets them. A request of which only a part went out (`Cut`) is sent, too: it may be lost whole
+-- on the way to the instrument
 abbrev pub Means : ById → List ℕ → Act → List Step → List ℕ → Type 0
 Means client before (Told m) steps behind = (steps ≡ Expire m.elapsed ∷ []) × (behind ≡ before)
 Means client before Untold steps behind = (steps ≡ []) × (behind ≡ before)
@@ -54,16 +57,17 @@ Means client before Closed steps behind = (steps ≡ []) × (behind ≡ [])
 Means client before Opened steps behind = (steps ≡ []) × (behind ≡ before)
 Means client before Unopened steps behind = (steps ≡ []) × (behind ≡ before)
 
--- a client behind a step, by its rule with the window of seven
+-- a client after a step, by its rule with the window of seven
 abbrev pub stepped : ById → Step → ById
 stepped client step = (goes WINDOW (record { sent = []; settlements = []; client = client }) step).client
 
--- a client behind several steps, in order
+-- a client after several steps, in order
 abbrev pub client_after : ById → List Step → ById
 client_after client [] = client
 client_after client (step ∷ steps) = client_after (stepped client step) steps
 
--- these acts mean these steps of the client, one behind the other, from this client and these bytes since the last line feed on
+-- these acts, in order, mean these steps, in order: for a client that begins in this state, with these bytes since the last
+-- line feed
 abbrev pub Amount : ById → List ℕ → List Act → List Step → Type 0
 Amount client before [] steps = steps ≡ []
 Amount client before (act ∷ acts) steps =

@@ -46,8 +46,8 @@ pub record IsAllBut {State : Type 0} (x : Clause) (ends : Ends State) (Good : St
   pub stays_good : (x ≡ StaysGood) ⊎ ((state : State) (id : ℕ) (call : Call) → Good state → id < IDS → Good (ends.handed state id call).state)
   pub starts_good : (x ≡ StartsGood) ⊎ ((state : State) → Good state → Good (ends.restarted state))
 
--- behind a clean beginning, with nothing under way, these moves are possible, and the client's request m, with this call, is answered with this
--- line though it wasn't executed
+-- after a clean beginning, with nothing under way, these moves are possible, and the client's request m, with this call, is
+-- answered with this line though it wasn't executed
 pub record IsBookedUnexecuted {State : Type 0} (ends : Ends State) (Good : State → Type 0) (kept : State → Option KeptReply) (state : State)
     (ms : List (Move State)) (m : ℕ) (call : Call) (line : List ℕ) : Type 0 where
   pub beyond : 8 ≤ m
@@ -105,8 +105,8 @@ again_or id k None = record { state = Some (id, 0); reply = value id 0; executed
 abbrev pub keeper : Ends Keeper
 keeper = record { handed = λ k id call. again_or id k (held k id); restarted = λ k. None; heard = heard; joint = true }
 
--- what an instrument does with a request that it knows, or refuses because it doesn't: behind a refusal it still keeps an older
--- reply
+-- what an instrument does with a request that it knows (true), or refuses because it doesn't (false): after a refusal it still
+-- keeps an older reply
 abbrev pub refuses_or : Bool → Keeper → ℕ → Handed Keeper
 refuses_or true k id = again_or id k (held k id)
 refuses_or false k id = record { state = k; reply = refusal id; executed = true }
@@ -121,7 +121,7 @@ nine =
     asks NullProc (value 0 0) (asks InstrumentNo (refusal 1) (asks InstrumentNo (refusal 2) (asks InstrumentNo (refusal 3) (asks InstrumentNo (refusal 4)
     (asks InstrumentNo (refusal 5) (asks InstrumentNo (refusal 6) (asks InstrumentNo (refusal 7) (asks NullProc (value 0 0) []))))))))
 
--- an instrument that keeps an old reply, with id 1, behind each start
+-- an instrument that keeps an old reply, with id 1, after each start
 abbrev pub remembers : Ends Keeper
 remembers = record keeper { restarted = λ k. Some (1, 27) }
 
@@ -145,8 +145,8 @@ abbrev pub id_of : Bool → ℕ → ℕ
 id_of false id = id
 id_of true id = turned id
 
--- what an instrument that may be out of order does with a request: it executes the request, whose reply has another id where it
--- is out of order
+-- what an instrument that may be out of order does with a request: it executes the request, and its reply has another id where
+-- it is out of order (`broken`). `behind` is its state afterwards
 abbrev pub answers_in : Bool → ℕ → Bool → Handed Bool
 answers_in broken id behind = record { state = behind; reply = value (id_of broken id) 0; executed = true }
 
@@ -192,7 +192,8 @@ deals_anew = record keeper { handed = λ k id call. again_or id k None }
 abbrev pub forgets : Ends Bool
 forgets = record mistaken { handed = λ b id call. answers_in false id b }
 
--- this is an instrument, and it executes a request that comes twice, with no start between, twice
+-- `ends` is an instrument that meets every clause, and yet, where one request reaches it twice without a start between (the moves
+-- `comes_twice`), it executes that request both times
 pub record IsExecutedTwice {State : Type 0} (ends : Ends State) (Good : State → Type 0) (kept : State → Option KeptReply) (state : State) : Type 0 where
   pub is : IsAnInstrument ends Good kept
   pub good : Good state
@@ -209,13 +210,14 @@ pub record IsAllNeeded : Type 0 where
   pub starts : IsNeeded Starts remembers AnyState kept None started 9 InstrumentNo (value 1 27)
   pub stays_good : IsNeeded StaysGood wears_out InOrder nothing false (asks NullProc (value 0 0) (asks_two (value 2 0))) 10 InstrumentNo (value 2 0)
   pub starts_good : IsNeeded StartsGood starts_broken InOrder nothing false (asks NullProc (value 0 0) (Anew ∷ asks_two (value 2 0))) 10 InstrumentNo (value 2 0)
-  -- what may change by itself: not what is kept, which another client changes; and not into a state that isn't a good one
+  -- two limits of what may change by itself are needed: what is kept may not change, as it does where another client sends; and the
+  -- new state has to be a good one
   pub shared_is : IsAnInstrument keeper AnyState kept
   pub changes_kept : IsBookedUnexecuted keeper AnyState nothing None shared 9 InstrumentNo (value 1 27)
   pub sound_is : IsAnInstrument sound InOrder nothing
   pub changes_good : IsBookedUnexecuted sound AnyState nothing false (asks NullProc (value 0 0) (Changes true ∷ asks_two (value 2 0))) 10 InstrumentNo (value 2 0)
-  -- and for acts once the two clauses of an instrument that keeps its reply: one that lacks the first and has the second, and one that lacks
-  -- the second and has the first
+  -- an instrument that keeps its reply executes a request that comes twice only once (`ActsOnce`), and both clauses on that are needed:
+  -- here are an instrument that lacks the first clause and has the second, and one that lacks the second and has the first
   pub again : IsExecutedTwice deals_anew AnyState kept None
   pub again_keeps : (state : Keeper) (id : ℕ) (call : Call) → kept (deals_anew.handed state id call).state ≡ Some (record { id = id; line = (deals_anew.handed state id call).reply })
   pub always : IsExecutedTwice forgets AnyState nothing false

@@ -1,5 +1,6 @@
--- Acts once, this project's own: between two of its starts an instrument executes each request at most once, in the order in which they
--- were sent.
+-- Acts once, this project's own: between two of its starts an instrument executes each request at most once, in the order in
+-- which they were sent. `executed` has the numbers of the requests that were executed, in order; `starts` has, for each start,
+-- how many executions came before it.
 use Rattle.std.specs.Prelude.{◌≡◌, ℕ, ◌<◌, ◌≤◌, ◌⊎◌, List, Some, slice_get}
 use Rattle.gc_world.specs.Order.{Each}
 
@@ -7,12 +8,12 @@ use Rattle.gc_world.specs.Order.{Each}
 abbrev pub HasNoStart : List ℕ → ℕ → ℕ → Type 0
 HasNoStart starts j k = Each (λ s. (s ≤ j) ⊎ (k < s)) starts
 
--- executions keep their order over starts, too: of two of them the later one is of the same request, or of one that was sent later
+-- executions are in the order of sending, also over starts: of any two, the later one is of the same request, or of one that
+-- was sent later
 abbrev pub IsInOrder : List ℕ → Type 0
 IsInOrder executed = (j k m n : ℕ) → j < k → slice_get executed j ≡ Some m → slice_get executed k ≡ Some n → m ≤ n
 
--- of two executions with no start between them the later one is of a request that was sent later. `executed` has the numbers of the
--- requests that were executed, and `starts` how many executions were before each start
+-- of two executions with no start between them the later one is of a request that was sent later
 abbrev pub ActsOnce : List ℕ → List ℕ → Type 0
 ActsOnce executed starts =
     (j k m n : ℕ) → j < k → HasNoStart starts j k → slice_get executed j ≡ Some m → slice_get executed k ≡ Some n → m < n

@@ -1,4 +1,6 @@
--- Where the telescope pointed when a command of a chain was executed, of the simulated instrument: this project's own.
+-- Where the telescope pointed when a command of a chain was executed, of the simulated instrument: this project's own. A part
+-- is what a station sees of its run from one beginning to the next, and a stretch what happens on the line meanwhile, once it
+-- has begun.
 use Rattle.std.specs.Prelude.{◌≡◌, ℕ, ◌<◌, Bool, true, false, List, Some, None, slice_get}
 use Rattle.std.specs.List.{AllByRecursion}
 use Rattle.gc_values.specs.declared.decimal.Decimal.{Decimal}
@@ -26,7 +28,7 @@ use Rattle.gc_field.specs.Laws.{kept_of}
 use Rattle.gc_field.specs.Runs.{IsInField}
 use Rattle.gc_field.specs.Shown.{Stretch, stretches}
 
--- the simulator's state behind a call
+-- the simulator's state after a call
 abbrev pub behind_call : State → Call → State
 behind_call s call = (exec s call).state
 
@@ -50,26 +52,26 @@ pub record PointsAs (s t : State) : Type 0 where
   pub pointing : s.pointing ≡ t.pointing
   pub face : s.face ≡ t.face
 
--- when the command of record b was executed, behind the command at place a, the telescope pointed where executing the latter
+-- when the command of record b was executed, after the command at place a, the telescope pointed where executing the latter
 -- had left it; and where the latter was a positioning, in the direction that it commanded, in the face in which the telescope
 -- was before
-pub record IsMeasuredWhereItPointed (reads : Call → List ℕ → Reading) (ps : List Part) (ss : List (Stretch State)) (records : List Record) (a : ℕ) (b : Record) (line : List ℕ)
-    (h : IsChainedTo ends IsFittingState kept_of reads ps ss records a b line) : Type 0 where
+pub record IsMeasuredWhereItPointed (reads : Call → List ℕ → Reading) (commands : List Task) (ps : List Part) (ss : List (Stretch State)) (records : List Record) (a : ℕ) (b : Record) (line : List ℕ)
+    (h : IsChainedTo ends IsFittingState kept_of reads commands ps ss records a b line) : Type 0 where
   pub as_left : PointsAs (behind ends h.stretch h.executed.second.front).state (behind_call (behind ends h.stretch h.executed.first.front).state h.record_a.command.call)
   pub as_commanded :
       (hz v : Decimal) (pos_mode atr_mode dummy : _) → h.record_a.command.call ≡ Position hz v pos_mode atr_mode dummy
       → ((behind ends h.stretch h.executed.second.front).state.pointing ≡ record { hz = hz; v = v })
       × ((behind ends h.stretch h.executed.second.front).state.face ≡ (behind ends h.stretch h.executed.first.front).state.face)
 
--- if the command of record b was answered, and is chained to the command at place a, it was executed behind the latter. Where
+-- if the command of record b was answered, and is chained to the command at place a, it was executed after the latter. Where
 -- no command of the places between turns the telescope, and the instrument neither started anew nor changed by itself between
 -- the two executions, it was executed with the telescope as the latter had left it
 abbrev pub IsPointedInChain : Plan → List Task → Scope → List Act → UnderWay State → List (Run State) → Record → Type 0
 IsPointedInChain plan commands scope acts u rs b =
     (line : List ℕ) (a : ℕ) → answer_of b.end ≡ Some line → a < b.place → AreChained commands a b.place
-    → (h : IsChainedTo ends IsFittingState kept_of scope.reads (parts_of plan commands (opening plan scope) acts) (stretches ends u rs) (stood plan commands scope acts).records a b line)
+    → (h : IsChainedTo ends IsFittingState kept_of scope.reads commands (parts_of plan commands (opening plan scope) acts) (stretches ends u rs) (stood plan commands scope acts).records a b line)
     × (AreStill commands a b.place → IsUndisturbed h.executed.between
-    → IsMeasuredWhereItPointed scope.reads (parts_of plan commands (opening plan scope) acts) (stretches ends u rs) (stood plan commands scope acts).records a b line h)
+    → IsMeasuredWhereItPointed scope.reads commands (parts_of plan commands (opening plan scope) acts) (stretches ends u rs) (stood plan commands scope acts).records a b line h)
 
 -- each record is `IsPointedInChain`: for every plan, all commands, every run of the station over the simulator, and all that the line and
 -- the simulator may do meanwhile

@@ -1,5 +1,7 @@
--- A station in the field, this project's own: its runs, the line over all of its connections, and an instrument. Each answer that it writes
--- down was made on executing the very request of that cycle and place.
+-- A station in the field, this project's own: its runs, the line over all of its connections, and an instrument. Each answer
+-- that it writes down was made on executing the very request of that cycle and place. A part is what the station sees of its
+-- run from one beginning to the next; a stretch is what happens on the line meanwhile, once it has begun. The word has the ids
+-- of a beginning's null procedures.
 use Rattle.std.specs.Prelude.{◌≡◌, ℕ, ◌+◌, ◌<◌, ◌≤◌, Bool, true, false, ◌||◌, if◌then◌else◌, nat_le, List, [], ◌∷◌, ◌++◌, drop, length, map, Option, Some, slice_get}
 use Rattle.std.specs.List.{AllByRecursion}
 use Rattle.gc_catalogue.specs.declared.answer.Reading.{Reading}
@@ -8,7 +10,7 @@ use Rattle.gc_client.specs.Beginning.{IsSubsequence, the_word}
 use Rattle.gc_client.specs.declared.window.TheConstants.{WINDOW}
 use Rattle.gc_client.specs.Rule.{ById, Answered, Late, Settlement, lost}
 use Rattle.gc_instrument.specs.State.{KeptReply, State, IsFittingState}
-use Rattle.gc_texts.specs.declared.near.Near.{Near}
+use Rattle.gc_texts.specs.declared.near.Expected.{Expected}
 use Rattle.gc_texts.specs.declared.tasks.Task.{Task}
 use Rattle.gc_texts.specs.Endings as end
 use Rattle.gc_station.specs.declared.plan.Plan.{Plan}
@@ -44,7 +46,7 @@ gives_up deadline (Tells now ∷ ms) = nat_le deadline now || gives_up deadline 
 gives_up deadline (_ ∷ ms) = gives_up deadline ms
 
 module _ {State : Type 0} (ends : Ends State) where
-  -- the world behind a stretch. Its requests 0 to 7 are the null procedures of the beginning, and the client's come behind them
+  -- the world after a stretch. Its requests 0 to 7 are the null procedures of the beginning, and the client's come after them
   abbrev pub world : Stretch State → World ById State
   world s = behind WINDOW ends s.from s.moves
 
@@ -62,8 +64,9 @@ module _ {State : Type 0} (ends : Ends State) where
   AreSentAs commands (p ∷ ps) (s ∷ ss) = AreOf commands p.marks (map asked (own_sent s)) × AreSentAs commands ps ss
   AreSentAs commands _ _ = ⊥
 
-  -- in time: where a request goes out, and later a reply to it comes while it isn't settled, that reply settles it. The request is answered by
-  -- that line where no moment at or past its deadline was told before, and else it is late
+  -- in time: where a request goes out, and later a reply to it comes while it isn't settled, that reply settles it. The request
+  -- is answered by that line where no moment at or past its deadline was told before, and else it is late. `before` are the
+  -- moves before it goes out, and `between` those from then on until the reply comes
   abbrev pub IsInTime : Stretch State → Type 0
   IsInTime s =
       (before between later : List (Move State)) (target : ℕ) (call : Call) (deadline : ℕ) (line : List ℕ) (rest : List (Numbered (List ℕ)))
@@ -82,14 +85,14 @@ module _ {State : Type 0} (ends : Ends State) where
       records_of reads 0 p.marks (own_settled s ++ map lost (world s).client.waiting) ++ written_over reads (q ∷ ps) (t ∷ ss)
   written_over reads _ _ = []
 
--- an act means its part. While the station begins (`false`) these are turns, and the next null procedure takes its turn exactly
--- where the one before it is answered. Once it has begun (`true`) they are steps of the client, as `Means` has them: a request
--- that goes out is one whose line the bytes are
+-- the part p is what an act means, which takes the station from the model s to t. While the station begins (`false`) the part
+-- has turns, and the turn of the next null procedure comes exactly where the one before it is answered. Once it has begun
+-- (`true`) the part has steps of the client, as `Means` says: a request that goes out is one whose line the bytes are
 abbrev pub IsMeant : Bool → Model → Act → Part → Model → Type 0
 IsMeant true s act p t = (p.turns ≡ []) × Means s.client s.rest act p.steps t.rest
 IsMeant false s act p t = (p.steps ≡ []) × MeansTurns s.progress.word s.rest act p.turns t.rest × (t.progress.word ≡ left_behind s.progress.word (heard_in p.turns))
 
--- each act of a run means the part that the run's parts have of it
+-- each act of a run means what the parts of the run count for it (`acting`)
 abbrev pub AreMeant : Plan → List Task → Model → List Act → Type 0
 AreMeant plan commands s [] = Unit {0}
 AreMeant plan commands s (act ∷ acts) =
@@ -98,7 +101,7 @@ AreMeant plan commands s (act ∷ acts) =
 module _ {State : Type 0} (ends : Ends State) (Good : State → Type 0) (kept : State → Option KeptReply) where
   -- a run of a station, and for each of its parts what happens on the line and to an instrument: first while it begins, then once it has
   -- begun. Under way at its start may be anything, in which the word isn't a subsequence of the ids; and each part is over what the one before
-  -- it left. What the station and its client see of it is the run itself
+  -- it left. What these happenings show to the station and its client are the turns and steps of its acts
   pub record IsInField (plan : Plan) (commands : List Task) (scope : Scope) (acts : List Act) (u : UnderWay State) (rs : List (Run State)) : Type 0 where
     pub runs : Runs plan commands (opening plan scope) acts
     pub lines : AreLines Good u
@@ -106,8 +109,9 @@ module _ {State : Type 0} (ends : Ends State) (Good : State → Type 0) (kept : 
     pub shown : AreShownAs ends u rs (parts_of plan commands (opening plan scope) acts)
     pub possible : AreRuns WINDOW ends Good kept u rs
 
-  -- where an answer comes from: in one of the stretches, the client's request m is the command of the record's cycle and place; this line, which the
-  -- instrument made on executing that very request, settled it; and that is the record
+  -- where the answer `line` of record `r` comes from, in a run with the parts `ps` and the stretches `ss`: in stretch k, the
+  -- client's request m is the command of the record's cycle and place; the instrument made this line on executing that very
+  -- request; and the line settled the request
   pub record IsItsOwn (commands : List Task) (ps : List Part) (ss : List (Stretch State)) (r : Record) (line : List ℕ) : Type 0 where
     pub k : ℕ
     pub part : Part
@@ -115,8 +119,8 @@ module _ {State : Type 0} (ends : Ends State) (Good : State → Type 0) (kept : 
     pub of_parts : slice_get ps k ≡ Some part
     pub of_stretches : slice_get ss k ≡ Some stretch
     pub m : ℕ
-    pub near : Option Near
-    pub mark : slice_get part.marks m ≡ Some (Some (mark_of near r))
+    pub expected : Expected
+    pub mark : slice_get part.marks m ≡ Some (Some (mark_of expected r))
     pub request : Sent
     pub sent : slice_get (own_sent ends stretch) m ≡ Some request
     pub task : Task
@@ -134,8 +138,9 @@ module _ {State : Type 0} (ends : Ends State) (Good : State → Type 0) (kept : 
   abbrev pub IsOwnAnswer : List Task → List Part → List (Stretch State) → Record → Type 0
   IsOwnAnswer commands ps ss r = (line : List ℕ) → answer_of r.end ≡ Some line → IsItsOwn commands ps ss r line
 
-  -- the instrument dealt with the command of a late record: in one of the stretches the client's request m is the command of the record's cycle
-  -- and place, and the instrument made a line on executing that request
+  -- the instrument dealt with the command of a late record `r`, in a run with the parts `ps` and the stretches `ss`: in stretch
+  -- k, the client's request m is the command of the record's cycle and place, and the instrument made a line on executing that
+  -- request
   pub record WasDealtWith (commands : List Task) (ps : List Part) (ss : List (Stretch State)) (r : Record) : Type 0 where
     pub k : ℕ
     pub part : Part
@@ -143,8 +148,8 @@ module _ {State : Type 0} (ends : Ends State) (Good : State → Type 0) (kept : 
     pub of_parts : slice_get ps k ≡ Some part
     pub of_stretches : slice_get ss k ≡ Some stretch
     pub m : ℕ
-    pub near : Option Near
-    pub mark : slice_get part.marks m ≡ Some (Some (mark_of near r))
+    pub expected : Expected
+    pub mark : slice_get part.marks m ≡ Some (Some (mark_of expected r))
     pub task : Task
     pub listed : slice_get commands r.place ≡ Some task
     pub line : List ℕ
@@ -154,7 +159,7 @@ module _ {State : Type 0} (ends : Ends State) (Good : State → Type 0) (kept : 
   abbrev pub IsDealtWith : List Task → List Part → List (Stretch State) → Record → Type 0
   IsDealtWith commands ps ss r = r.end ≡ end.Late → WasDealtWith commands ps ss r
 
-  -- a stretch is faithful behind its first moves, however many
+  -- a stretch is faithful after its first moves, however many
   abbrev pub IsFaithfulThroughout : Stretch State → Type 0
   IsFaithfulThroughout s = (front later : List (Move State)) → s.moves ≡ front ++ later → IsFaithful WINDOW ends s.from front Good kept
 

@@ -1,5 +1,5 @@
--- A request whose answer was made on its second execution, behind a start, this project's own. So between two executions of a chain there
--- may be one of either request, where the instrument starts between them.
+-- A request whose answer was made on its second execution, after a start, this project's own. So between the executions of two
+-- commands of a chain either of the two may be executed once more, if the instrument starts between.
 use Rattle.std.specs.Prelude.{◌≡◌, List, [], ◌∷◌, codes, pos, Some, slice_get}
 use Rattle.gc_catalogue.specs.declared.call.Call.TheVariants.{NullProc, SetPrism, GetPrism}
 use Rattle.gc_client.specs.declared.window.TheConstants.{WINDOW}
@@ -12,8 +12,8 @@ use Rattle.gc_field.specs.Begun.{behind, ids_begun}
 use Rattle.gc_field.specs.Field.{Move, Sends, Comes, OnLine, Anew, ArePossible}
 use Rattle.gc_field.specs.Laws.{kept_of}
 
--- the moves: the third request of a client that has begun comes twice, its first reply is lost, and the instrument starts
--- before it comes again
+-- the moves: the line repeats the third request of a client that has begun. The instrument executes it, and the reply is lost;
+-- the instrument starts; and it executes the repeated request
 abbrev pub moves : List (Move State)
 moves =
     Sends 0 NullProc 100
@@ -31,7 +31,7 @@ moves =
     ∷ Comes (codes "%R1P,0,2:0,0")
     ∷ []
 
--- the third request is executed twice, and its answer is the second execution's, in the state behind the start
+-- the third request is executed twice, and its answer is the second execution's, in the state after the start
 pub record IsExecutedAgain : Type 0 where
   pub possible : ArePossible ends IsFittingState kept_of (by_ids WINDOW ends) moves (ids_begun (none_under_way simulator_opening))
   pub executed : (behind WINDOW ends (none_under_way simulator_opening) moves).wire.executed ≡ 8 ∷ 9 ∷ 10 ∷ 10 ∷ []

@@ -46,7 +46,8 @@ module _ {State : Type 0} (ends : Ends State) where
   stretches u [] = []
   stretches u (r ∷ rs) = record { from = leaves (turned ends r.turns (begins u)); moves = r.moves } ∷ stretches (left_by_run WINDOW ends u r) rs
 
-  -- what each run shows are the turns and the steps of its part
+  -- each run goes with one part of the station's run, in order: what its beginning shows are the part's turns, and what its
+  -- moves show the client are the part's steps
   abbrev pub AreShownAs : UnderWay State → List (Run State) → List Part → Type 0
   AreShownAs u [] [] = Unit {0}
   AreShownAs u (r ∷ rs) (p ∷ ps) = (shown ends r.turns (begins u) ≡ p.turns) × (seen r.moves ≡ p.steps) × AreShownAs (left_by_run WINDOW ends u r) rs ps

@@ -1,4 +1,4 @@
--- Some run is one in the field, this project's own: the station begins over a line with an older request and an older reply under way, and a
+-- There is a run in the field, this project's own: the station begins over a line with an older request and an older reply under way, and a
 -- command is asked and answered. So what is said of all such runs is said of some.
 use Rattle.std.specs.Prelude.{◌≡◌, ℕ, true, false, List, [], ◌∷◌, codes, drop, pos, Some, None}
 use Rattle.gc_lines.specs.Lines.{with_end}
@@ -9,6 +9,8 @@ use Rattle.gc_client.specs.declared.window.TheConstants.{WINDOW}
 use Rattle.gc_instrument.specs.State.{State, IsFittingState, simulator_opening}
 use Rattle.gc_texts.specs.declared.tasks.Task.{Task}
 use Rattle.gc_texts.specs.Endings as end
+use Rattle.gc_texts.specs.Codes.{no_codes}
+use Rattle.gc_texts.specs.declared.quality.Quality.TheVariants.{Fine}
 use Rattle.gc_links.specs.declared.link.Moment.{Moment}
 use Rattle.gc_station.specs.declared.plan.Plan.{Plan}
 use Rattle.gc_links.specs.Acts.{Act, Told, Put, Gave, Closed, Opened}
@@ -25,7 +27,7 @@ use Rattle.gc_field.specs.Field.{Move, Sends, Tells, Comes, OnLine}
 use Rattle.gc_field.specs.Laws.{kept_of}
 use Rattle.gc_field.specs.Runs.{IsInField}
 
--- a plan with requests in flight up to this width, deadlines of 100 ms, one cycle, a quiet time of 10 ms, and one new try
+-- a plan with requests in flight up to this width, deadlines of 100 ms, one cycle, a quiet time of 10 ms, and one retry
 abbrev pub plan_of : ℕ → Plan
 plan_of width = record { width = width; deadline = 100; every = 0; cycles = 1; quiet = 10; retries = 1 }
 
@@ -35,13 +37,13 @@ plan = plan_of 1
 
 -- the command: a request for the instrument's number
 abbrev pub commands : List Task
-commands = record { command = record { target = 7; call = InstrumentNo }; deadline = 100; chained = false; near = None } ∷ []
+commands = record { command = record { target = 7; call = InstrumentNo }; deadline = 100; chained = false; near = None; accepted = no_codes } ∷ []
 
 -- the scope of this run: at most a hundred acts; every reply is taken to say what the reply to the command says
 abbrev pub scope : Scope
 scope = record { turns = 100; reads = λ call line. Value (Long (pos 123456)) }
 
--- the moment that is this one by both clocks
+-- the moment at which both clocks show this number
 abbrev pub at : ℕ → Moment
 at now = record { elapsed = now; utc = now }
 
@@ -53,12 +55,14 @@ asked = codes "%R1Q,0,6:" ∷ codes "%R1Q,0,5:" ∷ codes "%R1Q,0,4:" ∷ codes 
 abbrev pub replies : List (List ℕ)
 replies = codes "%R1P,0,6:0" ∷ codes "%R1P,0,5:0" ∷ codes "%R1P,0,4:0" ∷ codes "%R1P,0,3:0" ∷ codes "%R1P,0,2:0" ∷ codes "%R1P,0,1:0" ∷ codes "%R1P,0,0:0" ∷ codes "%R1P,0,7:0" ∷ []
 
--- the acts by which each of these lines goes out at this moment and has its reply
+-- the acts by which each of these lines goes out at the moment `now`, and its reply, the next of the second list, comes; and
+-- then `acts`
 abbrev pub exchanged : ℕ → List (List ℕ) → List (List ℕ) → List Act → List Act
 exchanged now (line ∷ others) (reply ∷ later) acts = Put (with_end line) ∷ Told (at now) ∷ Gave (with_end reply) (at now) ∷ exchanged now others later acts
 exchanged now _ _ acts = acts
 
--- the acts of a beginning, and these acts behind it: a connection is made and cleared, and all eight null procedures are answered at once
+-- the acts of a beginning, and these acts after it: a connection is made and cleared, and all eight null procedures are
+-- answered at once
 abbrev pub begun_with : List (List ℕ) → List Act → List Act
 begun_with answers acts = Opened ∷ Put (10 ∷ []) ∷ Told (at 0) ∷ exchanged 10 asked answers acts
 
@@ -105,18 +109,18 @@ turns = Asks ∷ turn.Comes ∷ Reaches ∷ turn.Comes ∷ Reaches ∷ turn.Come
 abbrev pub moves : List (Move State)
 moves = Tells 15 ∷ Sends 7 InstrumentNo 115 ∷ Tells 15 ∷ OnLine Up_deliver ∷ Tells 20 ∷ Comes answer ∷ []
 
--- the whole run, with nothing behind the end
+-- what happens on the line: in this run, and after its end in one more, in which nothing happens
 abbrev pub runs : List (Run State)
 runs = record { turns = turns; moves = moves } ∷ record { turns = []; moves = [] } ∷ []
 
--- this is a run in the field, behind which no act follows; it wrote the command's answer down, which was made on executing
+-- this is a run in the field, after which no act follows; it wrote the command's answer down, which was made on executing
 -- the command's request
 pub record IsAnsweredInField : Type 0 where
   pub field : IsInField ends IsFittingState kept_of plan commands scope acts before runs
   pub over : is_over (stood plan commands scope acts).progress ≡ true
   pub records :
       (stood plan commands scope acts).records
-      ≡ record { sent = Some 15; utc = 20; cycle = 1; place = 0; command = record { target = 7; call = InstrumentNo }; end = end.Answered (Some (Long (pos 123456))) answer } ∷ []
+      ≡ record { sent = Some 15; utc = 20; cycle = 1; place = 0; command = record { target = 7; call = InstrumentNo }; end = end.Answered Fine (Some (Long (pos 123456))) answer } ∷ []
   pub made_on : WasMadeOn WINDOW ends (leaves (turned ends turns (begins before))) moves 8 InstrumentNo answer
 
 -- some run is one in the field

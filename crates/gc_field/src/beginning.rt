@@ -1,19 +1,21 @@
-//! What is proved of a beginning by null procedures, whose ids alone tell what is from before. Each function does nothing: its
-//! contract is the law.
+//! What is proved of a beginning by null procedures, whose ids alone tell what is from before. A beginning sends eight null
+//! procedures, one after the other, with ids 6, 5, 4, 3, 2, 1, 0 and 7 (the word); it has begun once a reply has come for each.
+//! Each function does nothing: its contract is the law.
 
 ghost use Rattle.gc_field.specs.BeginWitness.{AreSomeRuns, IsBookedFromBefore};
 ghost use Rattle.gc_field.specs.Beginnings.{RowsHaveNotTheWord, RunsAreTheirOwn, RunsLeaveRows, SimulatorsRunsAreTheirOwn};
 ghost use Rattle.gc_field.specs.Begun.{AnswersAreTheirOwnOnceBegun, BeginsCleanly, SimulatorsAnswersAreTheirOwnOnceBegun};
 
-/// For any instrument, whatever the line loses or repeats, and whatever is under way when a beginning begins, unless the ids under way then
-/// have the word 6 5 4 3 2 1 0 7 as a subsequence: once the beginning has begun, no request from before is under way, nor a reply to one. At
-/// most copies of its eighth null procedure are, and of replies to that; and the instrument keeps a reply with that procedure's id, or nothing.
+/// For any instrument, whatever the line loses or repeats, and whatever is under way when a beginning begins, unless the ids
+/// under way then have the word 6 5 4 3 2 1 0 7 as a subsequence: once the beginning has begun, no request from before is under
+/// way, nor a reply to one. All that may be under way is copies of its eighth null procedure and of replies to that. The
+/// instrument keeps a reply with that procedure's id, or none.
 pub fn begins_cleanly<State>()
     ensures { BeginsCleanly State }
 {}
 
-/// Behind a beginning that has begun cleanly each answer that a new client settles was made on executing that very request, from its first
-/// request on, however many go out at once; and the rest of what `answers_are_their_own` says holds as well.
+/// After a beginning that has begun cleanly each answer that a new client settles was made on executing that very request, from
+/// its first request on, however many go out at once; and the rest of what `answers_are_their_own` says holds as well.
 pub fn answers_are_their_own_once_begun<State>()
     ensures { AnswersAreTheirOwnOnceBegun State }
 {}
@@ -23,21 +25,21 @@ pub fn simulators_answers_are_their_own_once_begun()
     ensures { SimulatorsAnswersAreTheirOwnOnceBegun }
 {}
 
-/// The ids of an `IsRow`, which a run has under way once it has begun, don't have the word as a subsequence. So a beginning within
-/// a run, or behind a run that had begun, needs no premise.
+/// The ids of an `IsRow`, which a run has under way once it has begun, don't have the word 6 5 4 3 2 1 0 7 as a subsequence. So
+/// a beginning within a run, or after a run that had begun, needs no premise on the word.
 pub fn rows_have_not_the_word<State>()
     ensures { RowsHaveNotTheWord State }
 {}
 
-/// After a clean beginning, what is under way at any moment is an `IsRow`: in the order of the line, its ids are numbers that never fall,
-/// modulo 8, and all of them lie within eight consecutive numbers.
+/// After a clean beginning, what is under way at any moment is an `IsRow`: in the order of the line, its ids are numbers that
+/// never fall, modulo 8, and all of them lie within eight consecutive numbers.
 pub fn runs_leave_rows<State>()
     ensures { RunsLeaveRows State }
 {}
 
 /// One run after the other, each killed at any moment. At the start nothing is under way, or what a run that had begun may leave
-/// (`IsRow`). As long as fewer than six in a row end while they begin, each run that has begun has begun cleanly, and each answer of a
-/// command was made on executing that command's request.
+/// (`IsRow`). As long as fewer than six in a row end while they begin, each run that has begun has begun cleanly, and each answer
+/// of a command was made on executing that command's request.
 pub fn runs_are_their_own<State>()
     ensures { RunsAreTheirOwn State }
 {}
@@ -47,14 +49,14 @@ pub fn simulators_runs_are_their_own()
     ensures { SimulatorsRunsAreTheirOwn }
 {}
 
-/// The premises of [`simulators_runs_are_their_own`] can be met, here by two runs: one is killed while it begins; the next one begins among
-/// replies to it and to requests from before, and sends two commands at once, both of which are answered.
+/// The premises of [`simulators_runs_are_their_own`] can be met, here by two runs: one is killed while it begins; the next one
+/// begins among replies to it and to requests from before, and sends two commands at once, both of which are answered.
 pub fn some_runs_are_their_own()
     ensures { AreSomeRuns }
 {}
 
-/// Why the word may not be under way: replies from before would answer all of it, and one behind them would be booked for the first
-/// command, with nothing executed.
+/// Why the ids 6 5 4 3 2 1 0 7 may not be under way in this order: replies from before would answer all null procedures of the
+/// beginning, and a further reply from before would be booked for the first command, which was never executed.
 pub fn the_word_under_way_is_booked_wrong()
     ensures { IsBookedFromBefore }
 {}

@@ -2,7 +2,7 @@
 use Rattle.std.proofs.Common.{◌≡◌, ℕ, List, Option, Result, Ok, Err, inl, inr, arith}
 use Rattle.std.specs.Io.KnownBytes.{Consumes}
 use Rattle.gc_measuring.specs.Measuring.{Places, Measures, IsMeasured, TellsCounts}
-use Rattle.gc_words.specs.declared.station.Station.{Station}
+use Rattle.gc_words.specs.declared.settings.Settings.{Settings}
 use Rattle.gc_measuring.specs.declared.stop.Stop.{Stop}
 use Rattle.gc_measuring.specs.declared.stop.Stop.TheVariants.{Run}
 use Rattle.gc_station.specs.declared.tally.Tally.{Tally}
@@ -13,7 +13,7 @@ never : {A : Type 0} (x : A) (stop : Stop) → ◌≡◌ {A = Result A Stop} (Ok
 never x stop is = cc
 
 -- where status 0 is reported, the source gave a text to its end, and the run over its tasks is done
-pub done_at_0 : (given : List ℕ) (station : Station) (old new : Places) (end : Result Tally Stop) (status : ℕ) (told messages : Option (List ℕ))
+pub done_at_0 : (given : List ℕ) (station : Settings) (old new : Places) (end : Result Tally Stop) (status : ℕ) (told messages : Option (List ℕ))
     → Consumes old.input.remaining new.input.remaining given → Measures given station 18446744073709551615 old new end → TellsCounts end status told messages → status ≡ 0
     → IsMeasured station old new
 done_at_0 given station old new (Ok tally) status told messages takes (inl refused) tells zero = absurd (never tally refused.0 refused.1)

@@ -25,6 +25,6 @@ sink_is_as_it_was has_log fault failed (inl linkless) =
     subst (λ e. FailsAtOutput {X = Tally} failed failed (Err e)) (sym linkless.1) (without_link linkless.0 failed)
 sink_is_as_it_was has_log fault failed (inr logless) = subst (λ e. FailsAtOutput {X = Tally} failed failed (Err e)) (sym logless.1) refl
 
--- a run that lost no log is one that may have been asked for none
+-- a run that lost no log has nothing to show of a log that was asked for: the premise that one was lost is false
 pub none_is_lost : (has_log : Bool) → false ≡ true → has_log ≡ true
 none_is_lost has_log lost = absurd (never lost)

@@ -1,4 +1,6 @@
--- What a station does with the tasks of a text, what it writes of them, and how its end is reported: this project's own.
+-- What a station does with the tasks of a text, what it writes of them, and how its end is reported: this project's own. An
+-- apostrophe (as in acts') marks what holds at the end, in place of at the start. A `Turn` is what was seen of link and sink
+-- before one act.
 use Rattle.std.specs.Prelude.{◌≡◌, ℕ, Bool, true, ◌⊎◌, List, [], ◌++◌, if◌then◌else◌, Option, Result, Ok, Err, codes}
 use Rattle.std.specs.Fmt.{decimal}
 use Rattle.std.specs.Io.KnownBytes.{Consumes, Appends}
@@ -8,7 +10,7 @@ use Rattle.gc_measuring.specs.Stops.{stop_text, end_of_run}
 use Rattle.gc_measuring.specs.TaskTexts.{Gave, GivesTasks, RefusesTasks}
 use Rattle.gc_words.specs.Stations.{begun_at}
 use Rattle.gc_words.specs.declared.layout.Layout.{Layout}
-use Rattle.gc_words.specs.declared.station.Station.{Station}
+use Rattle.gc_words.specs.declared.settings.Settings.{Settings}
 use Rattle.gc_measuring.specs.declared.stop.Stop.{Stop}
 use Rattle.gc_measuring.specs.declared.stop.Stop.TheVariants.{Text, Empty, Line, Run}
 use Rattle.gc_lines.specs.Ports.{TakesFront}
@@ -66,23 +68,25 @@ pub record Course : Type 0 where
   pub names : List Name
 
 -- what a station measures of a text with these tasks and names
-abbrev pub course_of : Station → ℕ → List Task → List Name → Course
+abbrev pub course_of : Settings → ℕ → List Task → List Name → Course
 course_of station turns tasks names =
     record { plan = plan_of station.choice tasks; tasks = tasks; turns = turns; layout = station.layout; names = names }
 
--- a run over a link wrote down what its acts say of these tasks: for every function that gives each reply's reading for its call, and there
--- is such a function
+-- a run over a link, whose acts before and after are `acts` and `acts'`, wrote down the records that its acts give of the
+-- tasks, and ended so. This holds with every function that gives each reply's reading for its call, and there is such a
+-- function
 abbrev pub RunsCourse : Course → Option (List Act) → Option (List Act) → Option (List ℕ) → Option (List ℕ) → Result Tally RunFault → Type 0
 RunsCourse course acts acts' taken taken' end = ForReadings (λ reads.
     Ran course.plan course.tasks (record { turns = course.turns; reads = reads }) (text_in course.layout course.names) acts acts' taken taken' end)
 
--- at each act of a run over these tasks what the acts before it settled was written down, and lasted
+-- at each act of a run over these tasks, all that the acts before it settled was written down, and lasted (`KeepsUp`). `seen`
+-- and `seen'` are the turns before the run and after it
 abbrev pub CourseKeepsUp : Course → Option (List Act) → Option (List Act) → Option (List ℕ) → List Turn → List Turn → Result Tally RunFault → Type 0
 CourseKeepsUp course acts acts' taken seen seen' end = ForReadings (λ reads.
     KeepsUp course.plan course.tasks (record { turns = course.turns; reads = reads }) (text_in course.layout course.names) acts acts' taken seen seen' (closing_at end))
 
--- the sink took what stands in front of the records, and then what a run over the link writes down of its tasks. Before each act what was
--- written by then lasted
+-- the sink took what stands in front of the records, and then what a run over the link writes down of its tasks. Before each
+-- act all that was written by then lasted
 pub record RunsBehind (course : Course) (old new : Places) (result : Result Tally Stop) : Type 0 where
   pub between : Option (List ℕ)
   pub front : Appends old.taken between (front_text course.layout)
@@ -98,31 +102,33 @@ pub record IsUnused (old new : Places) : Type 0 where
   pub messages : new.messages ≡ old.messages
   pub turns : new.turns ≡ old.turns
 
--- the text that a source gave was refused, and then nothing was done over the link, and nothing written; or its tasks were measured
-abbrev pub Measures : List ℕ → Station → ℕ → Places → Places → Result Tally Stop → Type 0
+-- the text that a source gave was refused, and then nothing was done over the link, and nothing written; or the sink failed in
+-- front of the records; or the text's tasks were measured
+abbrev pub Measures : List ℕ → Settings → ℕ → Places → Places → Result Tally Stop → Type 0
 Measures given station turns old new result =
     ((stop : Stop) × (result ≡ Err stop) × RefusesTasks given old.input new.input stop × IsUnused old new)
     ⊎ ((tasks : List Task) × (names : List Name) × GivesTasks given old.input new.input station.choice tasks names
     × (FailsInFront station.layout old new result ⊎ RunsBehind (course_of station turns tasks names) old new result))
 
--- a source gave bytes, by at most one read for each and one for the end, and they were measured, in at most this number of acts
-abbrev pub MeasuresText : Station → ℕ → Places → Places → Result Tally Stop → Type 0
+-- a source gave bytes, by at most one read for each and one for the end, and of these `Measures` holds, in at most this number
+-- of acts
+abbrev pub MeasuresText : Settings → ℕ → Places → Places → Result Tally Stop → Type 0
 MeasuresText station turns old new result = (given : List ℕ) × Gave given old.input new.input × Measures given station turns old new result
 
--- a source gave bytes, by any number of reads, and they were measured, in at most as many acts as a u64 counts
-abbrev pub MeasuresGiven : Station → Places → Places → Result Tally Stop → Type 0
+-- a source gave bytes, by any number of reads, and of these `Measures` holds, in at most as many acts as a u64 counts
+abbrev pub MeasuresGiven : Settings → Places → Places → Result Tally Stop → Type 0
 MeasuresGiven station old new result =
     (given : List ℕ) × Consumes old.input.remaining new.input.remaining given × Measures given station 18446744073709551615 old new result
 
 -- a source gave a text to its end, and the run over its tasks is done
-abbrev pub IsMeasured : Station → Places → Places → Type 0
+abbrev pub IsMeasured : Settings → Places → Places → Type 0
 IsMeasured station old new = (given : List ℕ) × Consumes old.input.remaining new.input.remaining given
     × ((tasks : List Task) × (names : List Name) × (tally : Tally)
     × GivesTasks given old.input new.input station.choice tasks names
     × RunsBehind (course_of station 18446744073709551615 tasks names) old new (Ok tally))
 
--- what a source gave was measured, by a run that began at some moment
-abbrev pub MeasuresBegun : Station → Places → Places → Result Tally Stop → Type 0
+-- of what a source gave `MeasuresGiven` holds, for a run that began at some moment
+abbrev pub MeasuresBegun : Settings → Places → Places → Result Tally Stop → Type 0
 MeasuresBegun station old new result = (run : ℕ) × MeasuresGiven (begun_at run station) old new result
 
 -- where the text was refused nothing was done over the link, and nothing written
@@ -132,7 +138,7 @@ IsUntouched old new (Err Empty) = IsUnused old new
 IsUntouched old new (Err (Line n trouble)) = IsUnused old new
 IsUntouched old new _ = Unit {0}
 
--- all records last; nothing is said where the text was refused or the sink failed
+-- all records last, as `is_durable` says; nothing is said where the text was refused or the sink failed
 abbrev pub AllLast : Bool → Result Tally Stop → Type 0
 AllLast is_durable (Ok _) = is_durable ≡ true
 AllLast is_durable (Err (Run fault)) = LastsBut {X = Tally} is_durable (Err fault)

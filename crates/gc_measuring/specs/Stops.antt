@@ -16,8 +16,8 @@ fault_of_stop Empty = NoCommand
 fault_of_stop (Line n trouble) = Schedule n
 fault_of_stop (Run fault) = fault
 
--- what is written of a stop: the fault's line, and a second line for a text without a command, which says so, and for a faulty line, with
--- its trouble
+-- what is written of a stop: the line of its fault, and in two cases a second line after it. Where the text has no command, that one says
+-- so; where line n of the text is faulty, it says what the trouble with that line is
 abbrev pub stop_text : Stop → List ℕ
 stop_text (Text fault) = fault_line (run_fault_text fault)
 stop_text Empty = fault_line (run_fault_text NoCommand) ++ codes "geocom: the text has no command\n"

@@ -1,4 +1,7 @@
--- What a station's status and messages report of its run, and what it measured then: this project's own.
+-- What a station's status and messages report of its run, and what it measured then: this project's own. Throughout, `shown`
+-- gives what was written on the messages, where that is known, and `lasts` says whether all that the sink took lasts. `turns`
+-- is what was seen of link and sink at each act. An apostrophe (as in acts') marks what holds at the end, in place of at the
+-- start.
 use Rattle.std.specs.Prelude.{◌≡◌, ℕ, Bool, true, ◌⊎◌, List, [], Option, Some, None, Result, Err}
 use Rattle.std.specs.Io.KnownBytes.{Appends}
 use Rattle.gc_measuring.specs.Logging.{TellsLoss}
@@ -6,7 +9,7 @@ use Rattle.gc_measuring.specs.Measuring.{Places, MeasuresGiven, MeasuresBegun, I
 use Rattle.gc_measuring.specs.Recording.{unfit_text}
 use Rattle.gc_measuring.specs.Stops.{IsWithoutLink, with_fault}
 use Rattle.gc_words.specs.Stations.{appended, begun_at}
-use Rattle.gc_words.specs.declared.station.Station.{Station}
+use Rattle.gc_words.specs.declared.settings.Settings.{Settings}
 use Rattle.gc_measuring.specs.declared.stop.Stop.{Stop}
 use Rattle.gc_measuring.specs.declared.stop.Stop.TheVariants.{Run}
 use Rattle.gc_messages.specs.declared.streams.Streams.{Streams}
@@ -33,9 +36,9 @@ abbrev pub acts_of : {L : Type 0} → Option (Telling L) → Option (List Act)
 acts_of None = None
 acts_of (Some link) = Some link.history.acts
 
--- a text was refused, or its commands were measured, over a link that told these acts, with what was seen at each; and the status and the
--- messages report how that ended
-pub record TellsMeasuring {S K E : Type 0} (source : Source S) (sink : Sink K) (lasts : K → Bool) (shown : E → Option (List ℕ)) (station : Station)
+-- a text was refused, or its commands were measured, over a link that told these acts, with what was seen at each; and the
+-- status and the messages report how that ended. `between` are the messages before this report
+pub record TellsMeasuring {S K E : Type 0} (source : Source S) (sink : Sink K) (lasts : K → Bool) (shown : E → Option (List ℕ)) (station : Settings)
     (acts acts' : Option (List Act)) (turns turns' : List Turn) (old new : Streams S K E) (status : ℕ) : Type 0 where
   pub end : Result Tally Stop
   pub between : E
@@ -45,7 +48,7 @@ pub record TellsMeasuring {S K E : Type 0} (source : Source S) (sink : Sink K) (
   pub counts : TellsCounts end status (shown between) (shown new.messages)
 
 -- a source gave a text to its end, and the run over its commands is done, over a link that told these acts
-pub record MeasuresAll {S K E : Type 0} (source : Source S) (sink : Sink K) (shown : E → Option (List ℕ)) (station : Station)
+pub record MeasuresAll {S K E : Type 0} (source : Source S) (sink : Sink K) (shown : E → Option (List ℕ)) (station : Settings)
     (acts acts' : Option (List Act)) (turns turns' : List Turn) (old new : Streams S K E) : Type 0 where
   pub between : E
   pub is : IsMeasured station (places_of source sink shown old acts turns) (places_of source sink shown (record new { messages = between }) acts' turns')
@@ -61,16 +64,17 @@ IsUnbegun has_log old new acts turns turns' end = (fault : RunFault) × (end ≡
 
 -- a text was refused, or its commands were measured, by these acts, which the link told from none on, with what was seen at each. All records
 -- last; nothing is said of that where the text was refused or the sink failed
-pub record MeasuresFromNone {S K E : Type 0} (source : Source S) (sink : Sink K) (lasts : K → Bool) (shown : E → Option (List ℕ)) (station : Station)
+pub record MeasuresFromNone {S K E : Type 0} (source : Source S) (sink : Sink K) (lasts : K → Bool) (shown : E → Option (List ℕ)) (station : Settings)
     (old new : Streams S K E) (acts : Option (List Act)) (turns turns' : List Turn) (end : Result Tally Stop) : Type 0 where
   pub told : List Act
   pub is : acts ≡ Some told
   pub measured : MeasuresBegun station (places_of source sink shown old (Some []) turns) (places_of source sink shown new (Some told) turns') end
   pub all_last : AllLast (lasts new.output) end
 
--- a run measured by these acts of its link, with what was seen at each, or it didn't begin; and the status and the messages report how it
--- ended, and behind that a log that was lost
-pub record TellsRun {S K E : Type 0} (source : Source S) (sink : Sink K) (lasts : K → Bool) (shown : E → Option (List ℕ)) (has_log : Bool) (station : Station)
+-- a run measured by these acts of its link, with what was seen at each, or it didn't begin; and the status and the messages
+-- report how it ended, and then whether the log was lost. `between` are the messages before the report of the end, and `behind`
+-- those after it
+pub record TellsRun {S K E : Type 0} (source : Source S) (sink : Sink K) (lasts : K → Bool) (shown : E → Option (List ℕ)) (has_log : Bool) (station : Settings)
     (old new : Streams S K E) (acts : Option (List Act)) (turns turns' : List Turn) (status : ℕ) : Type 0 where
   pub end : Result Tally Stop
   pub between : E
@@ -84,7 +88,7 @@ pub record TellsRun {S K E : Type 0} (source : Source S) (sink : Sink K) (lasts 
   pub loss : TellsLoss is_lost (shown behind) (shown new.messages)
 
 -- a source gave a text to its end, and the run over its commands is done, by these acts, which its link told from none on
-abbrev pub MeasuresAllFromNone : {S K E : Type 0} → Source S → Sink K → (E → Option (List ℕ)) → Station → Streams S K E → Streams S K E → Option (List Act)
+abbrev pub MeasuresAllFromNone : {S K E : Type 0} → Source S → Sink K → (E → Option (List ℕ)) → Settings → Streams S K E → Streams S K E → Option (List Act)
     → List Turn → List Turn → Type 0
 MeasuresAllFromNone source sink shown station old new acts turns turns' =
     (told : List Act) × (acts ≡ Some told) × ((run : ℕ) × MeasuresAll source sink shown (begun_at run station) (Some []) (Some told) turns turns' old new)
@@ -96,8 +100,9 @@ pub record RefusesFile {S K E : Type 0} (shown : E → Option (List ℕ)) (old n
   pub tells : Appends (shown old.messages) (shown new.messages) (unfit_text why)
   pub unread : new.input ≡ old.input
 
--- the streams of a run that appends to a file: its output is a file of rows, which had taken nothing at the start, and which is handed back
--- as the run left it. The source is the caller's, and so are the messages in the end
+-- the streams of a run that appends to a file: `begun` and `ended` are the run's own, with a file of rows as output, and `old`
+-- and `new` its caller's. The file had taken nothing at first, and is handed back as the run left it. The run reads the
+-- caller's source, and the caller gets the messages as the run left them
 pub record IsFiled {S F K E : Type 0} (sink : Sink F) (old new : Streams S K E) (begun ended : Streams S F E) (file : Option F) : Type 0 where
   pub fresh : sink.taken begun.output ≡ Some []
   pub left : file ≡ Some ended.output
@@ -105,16 +110,18 @@ pub record IsFiled {S F K E : Type 0} (sink : Sink F) (old new : Streams S K E) 
   pub read : new.input ≡ ended.input
   pub messages : new.messages ≡ ended.messages
 
--- a run that appends to a file is reported behind what was written of the file's opening, and the file has the rows of what was measured
-pub record TellsAppended {S F K E : Type 0} (source : Source S) (sink : Sink F) (lasts : F → Bool) (shown : E → Option (List ℕ)) (has_log : Bool) (station : Station)
+-- a run that appends to a file is reported after what was written of the file's opening, and the file has the rows of what was measured.
+-- `old` and `new` are the streams of the run's caller; `begun` and `ended` are the run's own, with the file as output (`IsFiled`)
+pub record TellsAppended {S F K E : Type 0} (source : Source S) (sink : Sink F) (lasts : F → Bool) (shown : E → Option (List ℕ)) (has_log : Bool) (station : Settings)
     (old new : Streams S K E) (file : Option F) (acts : Option (List Act)) (turns turns' : List Turn) (status : ℕ) : Type 0 where
   pub begun : Streams S F E
   pub ended : Streams S F E
   pub filed : IsFiled sink old new begun ended file
   pub run : TellsRun source sink lasts shown has_log (appended station) begun ended acts turns turns' status
 
--- a source gave a text to its end, and the run over its commands, which appended to a file, is done
-pub record AppendsAll {S F K E : Type 0} (source : Source S) (sink : Sink F) (shown : E → Option (List ℕ)) (station : Station)
+-- a source gave a text to its end, and the run over its commands is done, which appended to a file. `old` and `new` are the streams of
+-- the run's caller; `begun` and `ended` are the run's own, with the file as output (`IsFiled`)
+pub record AppendsAll {S F K E : Type 0} (source : Source S) (sink : Sink F) (shown : E → Option (List ℕ)) (station : Settings)
     (old new : Streams S K E) (file : Option F) (acts : Option (List Act)) (turns turns' : List Turn) : Type 0 where
   pub begun : Streams S F E
   pub ended : Streams S F E

@@ -1,11 +1,13 @@
--- Since when a station wants an answer that doesn't come: this project's own.
+-- Since when a station wants an answer that doesn't come: this project's own. A want (`Wanted`) has the moment since which an
+-- answer is wanted, if one is (`since`); whether an answer came since the last cycle ended (`heard`); and whether a message
+-- said that none comes (`told`).
 use Rattle.std.specs.Prelude.{◌≡◌, ℕ, ◌-◌, Bool, true, false, ◌&&◌, not, nat_lt, List, [], ◌∷◌, Option, None, Some, if◌then◌else◌}
 use Rattle.gc_links.specs.declared.link.Moment.{Moment}
 use Rattle.gc_station.specs.declared.book.LinkHealth.{LinkHealth}
 use Rattle.gc_station.specs.declared.book.LinkHealth.TheVariants.{Fine, Idle, Unconnected, Unquiet, Unheard}
 use Rattle.gc_measuring.specs.declared.wanted.Wanted.{Wanted}
 
--- the want behind an answer: no answer is wanted, and the cycle has one
+-- the want after an answer: no answer is wanted, and the cycle has one
 abbrev pub behind_answer : Wanted → Wanted
 behind_answer w = record { since = None; heard = true; told = false }
 
@@ -14,12 +16,12 @@ abbrev pub wanted_from : Option Moment → Moment → Option Moment
 wanted_from None moment = Some moment
 wanted_from (Some since) moment = Some since
 
--- the want behind a cycle of which nothing is left to be asked: the want is over if the cycle had an answer, and no message said that none
+-- the want after a cycle of which nothing is left to be asked: the want is over if the cycle had an answer, and no message said that none
 -- comes
 abbrev pub behind_cycle : Wanted → Wanted
 behind_cycle w = record { since = if w.heard && not w.told then None else w.since; heard = false; told = w.told }
 
--- the want behind a look at a station: an answer is wanted without a connection, while the line is to be quiet, and while a
+-- the want after a look at a station: an answer is wanted without a connection, while the line is to be quiet, and while a
 -- request has no reply. A station that is idle has ended a cycle, and one that is fine changes nothing
 abbrev pub behind_look : LinkHealth → Moment → Wanted → Wanted
 behind_look Fine moment w = w
@@ -42,12 +44,13 @@ pub record Look : Type 0 where
   pub health : LinkHealth
   pub moment : Moment
 
--- the want behind these looks, where no answer comes before any of them
+-- the want after these looks, where no answer comes before any of them
 abbrev pub behind_looks : List Look → Wanted → Wanted
 behind_looks [] w = w
 behind_looks (look ∷ later) w = behind_looks later (behind_look look.health look.moment w)
 
--- while no answer comes the moment since which one is wanted stays, whatever becomes of connections and cycles meanwhile
+-- as long as no answer comes, the moment since which one is wanted stays the same, whatever becomes of connections and cycles
+-- meanwhile
 abbrev pub WantCountsOverConnections : Type 0
 WantCountsOverConnections =
     (looks : List Look) (since : Moment) (w : Wanted) → w.heard ≡ false → w.since ≡ Some since → (behind_looks looks w).since ≡ Some since

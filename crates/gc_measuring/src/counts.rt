@@ -38,7 +38,7 @@ fn write_counts<E: Write>(tally: Tally, messages: &mut E) -> io::Result<()>
     write_others(tally, messages)
 }
 
-// Writes the front of that line: how many commands were answered, late and lost.
+// Writes the front of the line of the counts: how many commands were answered, late and lost.
 fn write_ends<E: Write>(tally: Tally, messages: &mut E) -> io::Result<()>
     ensures { OnOk result (Appends (E.contents messages.old) (E.contents messages.new) (ends_text tally)) }
 {
@@ -51,7 +51,7 @@ fn write_ends<E: Write>(tally: Tally, messages: &mut E) -> io::Result<()>
     write!(messages, "answered {answered} late {late} lost {lost} ")
 }
 
-// Writes the rest of that line: how many commands were skipped, unreadable, missed and elsewhere.
+// Writes the rest of the line of the counts: how many commands were skipped, unreadable, missed and elsewhere.
 fn write_others<E: Write>(tally: Tally, messages: &mut E) -> io::Result<()>
     ensures { OnOk result (Appends (E.contents messages.old) (E.contents messages.new) (others_text tally)) }
 {

@@ -16,7 +16,7 @@ use gc_logs::{Bounded, Logged};
 use gc_messages::{FilesSeen, LogSeen, Noticed, Spot, Streams};
 use gc_station::Kept;
 use gc_texts::RunFault;
-use gc_words::{LogPlace, Station};
+use gc_words::{LogPlace, Settings};
 use std::alloc::Global;
 use std::cell::Cell;
 use std::fs::File;
@@ -24,7 +24,7 @@ use std::io::{self, Write};
 use std::process::ExitCode;
 use std::rt::Files;
 
-// How a line of a log begins: a moment, of which each 0 stands for a digit, and behind it one of these marks.
+// How a line of a log begins: a moment, in which each 0 here stands for a digit. Behind it comes one of `MARKS`.
 const MOMENT: &[u8] = b"0000-00-00T00:00:00.000Z ";
 
 // The marks of lines of a log: what came, what went, and what became of the connection.
@@ -33,7 +33,8 @@ const MARKS: &[u8] = b"<>-";
 // The length of a moment and a mark.
 const FRONT: usize = 26;
 
-// Whether `front`, at most the first `FRONT` bytes of a file, is how a log begins. An empty file counts as a log.
+// Whether `front`, at most the first `FRONT` bytes of a file, is how a log begins: with a moment, whose digits are the zeros of
+// `MOMENT`, and the first byte of a mark. An empty file counts as a log.
 fn begins_log(front: &[u8]) -> bool {
     for (at, b) in front.iter().enumerate() {
         let fits = match MOMENT.get(at) {
@@ -48,9 +49,9 @@ fn begins_log(front: &[u8]) -> bool {
     true
 }
 
-// Opens the file of a log, and cuts off a torn last line. The file is refused, and stays as it is, where it can't be opened or read, is
-// no regular file, doesn't begin as a log does, or is held by another program or by the records of this one. Where a file can't be
-// locked, it is taken unlocked.
+// Opens the file of a log, and cuts off a torn last line. The file is refused, and stays as it is, where it can't be opened or
+// read, is no regular file, doesn't begin as a log does, or is held by another program or by the records of this one. Where a
+// file can't be locked, it is taken unlocked.
 fn open_log<R: Files<File = File>>(rt: &R, path: &str) -> Result<RowsFile<SystemFile>, Unfit> {
     let file = open_file(rt, path)?;
     if file.hold() == Err(Unfit::Held) {
@@ -156,16 +157,16 @@ fn note_torn(noticed: &Cell<Noticed>, torn: u64) {
     });
 }
 
-/// Measures over a link with a log, and reports how the run ended, and behind that a log that was lost. The streams are handed back.
+/// Measures over a link with a log, reports how the run ended, and then whether the log was lost. The streams are handed back.
 pub(crate) fn measure_logged<L: Link, G: Sink, S: Source, K: Durable, E: Write>(
     alloc: Global,
     logged: &mut Logged<L, G>,
-    station: Station,
+    station: Settings,
     spot: Spot<'_>,
     streams: Streams<S, K, E>,
     kept: &mut Kept,
 ) -> (Streams<S, K, E>, io::Result<ExitCode>)
-    // As without a log; and the log was lost exactly where the messages say so behind that.
+    // As without a log; and the log was lost exactly where the messages say so after that.
     ensures told { IfOk result.1 (λ status. (behind : E)
         × TellsMeasuring S.Source K.Sink K.is_durable E.contents station (L.acts logged.old.link) (L.acts logged.new.link)
         kept.old.turns kept.new.turns streams (record result.0 { messages = behind }) (exit_status status)
@@ -181,7 +182,7 @@ pub(crate) fn measure_logged<L: Link, G: Sink, S: Source, K: Durable, E: Write>(
     (streams, ended)
 }
 
-// Reports a log that was lost, behind how the run ended. The status stays as it was.
+// Writes a line where the log was lost (`is_lost`), after the report of how the run ended. The status stays as it was.
 fn tell_loss<E: Write>(
     ended: io::Result<ExitCode>,
     is_lost: bool,

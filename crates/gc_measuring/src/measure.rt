@@ -19,27 +19,28 @@ use gc_messages::{Noticed, Spot, Streams, tell_turns, tell_unasked};
 use gc_rows::{When, write_head, write_record};
 use gc_station::{Book, Kept, LinkHealth, Tally, run_station};
 use gc_texts::{Command, Ending, RunFault, Stamp, Task, Tasks};
-use gc_words::{Layout, Station};
+use gc_words::{Layout, Settings};
 use std::alloc::Global;
 use std::cell::Cell;
 use std::io::Write;
 
 /// Reads the whole text of the input, writes what stands in front of the records on the output, and measures the commands over a
-/// link by the settings of `station`, in at most `max_turns` acts. What was seen of link and output at each act is noted in `kept`. The
-/// streams are handed back, with how the run ended.
+/// link by the settings of `station`, in at most `max_turns` acts. What was seen of link and output at each act is noted in
+/// `kept`. The streams are handed back, with how the run ended.
 ///
 /// Before the link is used or anything is written, `Text` comes with `Read` where the input failed, with `InputTooLong` where it
-/// gave more than 65,536 bytes, and with `Memory` where memory was refused, `Line` at the first faulty line, and `Empty` where the
-/// text has no command. `Run` comes with the faults of [`run_station`], and with `Output` where the output failed: in front of the
-/// records, and then the link wasn't used, or at a record.
+/// gave more than 65,536 bytes, and with `Memory` where memory was refused, `Line` at the first faulty line, and `Empty` where
+/// the text has no command. `Run` comes with the faults of [`run_station`], and with `Output` where the output failed: in front
+/// of the records, and then the link wasn't used, or at a record.
 ///
-/// The messages get at the start what is odd about the text: each angle of a positioning that lies outside one turn, and each target
-/// of which the text says where it stands, and which no command asks for its direction. Then they get signs of life, each kind at most
-/// once a minute, where the choice has them, and what `spot` notices of the line. Where they can't be written the station measures on.
+/// The messages get at the start what is odd about the text: each angle of a positioning that lies outside one turn, and each
+/// target of which the text says where it stands, and which no command asks for its direction. Then they get signs of life, each
+/// kind at most once a minute, where the choice has them, and what `spot` notices of the line. Where they can't be written the
+/// station measures on.
 pub fn run_station_text<L: Link, S: Source, K: Durable, E: Write>(
     alloc: Global,
     link: &mut L,
-    station: Station,
+    station: Settings,
     spot: Spot<'_>,
     mut streams: Streams<S, K, E>,
     max_turns: u64,
@@ -55,7 +56,7 @@ pub fn run_station_text<L: Link, S: Source, K: Durable, E: Write>(
     // Where the fault is `Output` the output has failed; else whether it has failed is as before.
     ensures output { FailsAtOutput (K.failed streams.output) (K.failed result.0.output) (with_fault result.1) }
 
-    // At each end but that of the output, all that was written outlasts what the output is meant to outlast.
+    // Unless the output failed, all that was written outlasts what the output is meant to outlast.
     ensures is_durable { AllLast (K.is_durable result.0.output) result.1 }
 
     // At most 65,537 reads of the input were answered.
@@ -104,7 +105,8 @@ pub fn run_station_text<L: Link, S: Source, K: Durable, E: Write>(
     }
 }
 
-// What is measured: the tasks, the names of their targets (in a `Tasks` whose own tasks are empty), and the most acts that a run may make.
+// What is measured: the tasks, the names of their targets (in a `Tasks` whose own tasks are empty), and the most acts that a run
+// may make.
 #[derive(Drop)]
 struct Work {
     tasks: Vec<Task>,
@@ -112,11 +114,11 @@ struct Work {
     max_turns: u64,
 }
 
-// Measures the tasks of `work` over a link by the settings of `station`, and writes their records into the output. The streams are
-// handed back.
+// Measures the tasks of `work` over a link by the settings of `station`, and writes their records into the output. The streams
+// are handed back.
 fn measure<L: Link, S, K: Durable, E: Write>(
     link: &mut L,
-    station: Station,
+    station: Settings,
     work: Work,
     spot: Spot<'_>,
     streams: Streams<S, K, E>,

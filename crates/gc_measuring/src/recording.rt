@@ -21,7 +21,7 @@ use gc_messages::{Followed, Spot, Streams};
 use gc_rows::{head, sign};
 use gc_station::Kept;
 use gc_texts::RunFault;
-use gc_words::{LogPlace, Recording, Station};
+use gc_words::{LogPlace, Recording, Settings};
 use std::alloc::Global;
 use std::fs::File;
 use std::io::{self, Write};
@@ -30,7 +30,7 @@ use std::process::ExitCode;
 use std::rt::Files;
 use std::time::Clock;
 
-// The fault of a path that can't be had as a file of records.
+// The fault that is told where a path can't be used as a file of records.
 fn fault_of_unfit(why: Unfit) -> RunFault
     ensures { result ≡ fault_of_unfit why }
 {
@@ -53,7 +53,7 @@ fn tell_torn<E: Write>(torn: u64, messages: &mut E) -> io::Result<()>
     writeln!(messages, "geocom: {torn} bytes of a torn row were cut off")
 }
 
-// Writes how many rows were copied because an earlier run had no good end, if any were.
+// Writes how many rows were copied because the run before was killed or a sync failed, if any were.
 fn tell_copied<E: Write>(copied: u64, messages: &mut E) -> io::Result<()>
     ensures { OnOk result (Appends (E.contents messages.old) (E.contents messages.new) (copied_line copied)) }
 {
@@ -75,8 +75,8 @@ fn tell_opened<E: Write>(copied: u64, torn: u64, messages: &mut E) -> io::Result
     tell_torn(torn, messages)
 }
 
-// Writes behind the fault's line, for a file that doesn't begin as this station's rows do, what may have happened and how to rotate the
-// file. The status stays as it was.
+// Writes after the fault's line, for a file that doesn't begin as this station's rows do, what may have happened and how to
+// rotate the file. The status stays as it was.
 fn tell_rotation<E: Write>(
     ended: io::Result<ExitCode>,
     why: Unfit,
@@ -103,13 +103,14 @@ fn write_rotation<E: Write>(why: Unfit, messages: &mut E) -> io::Result<()>
     }
 }
 
-// Opens the file of records of a station, in the form of its rows, which then syncs as `recording` asks, and writes how many rows were
-// copied and how many bytes of a torn row were cut off, if any were. Beside the file stands whether that could be written.
+// Opens the file of a station's records, in the form of its rows, to sync each row or not as `recording` asks. Writes how many
+// rows were copied and how many bytes of a torn row were cut off, if any were. The result is the file, and whether this could
+// be written.
 fn open_records<R: Files<File = File>, E: Write>(
     rt: &R,
     alloc: Global,
     recording: Recording<'_>,
-    station: Station,
+    station: Settings,
     messages: &mut E,
 ) -> Result<(RowsFile<SystemFile>, io::Result<()>), Unfit>
     ensures fresh { IfOk result (λ opened. steps_in opened.0 ≡ []) }
@@ -143,8 +144,8 @@ pub struct Appended<'a, R> {
 }
 
 impl<'a, R: Files<File = File>> Appended<'a, R> {
-    /// Closes the link, and then ends the appending. Where the path still leads to the file, and all that it holds is on the disk, the mark
-    /// that has the next start copy the file is taken away.
+    /// Closes the link, and then ends the appending. Where the path still leads to the file, and all that it holds is on the
+    /// disk, this takes away the mark by which the next start would copy the file.
     pub fn end(self) {
         let Appended { file, link } = self;
         drop(link);
@@ -153,11 +154,12 @@ impl<'a, R: Files<File = File>> Appended<'a, R> {
 }
 
 /// Measures at a site, and appends the records as rows to a file, which is opened before anything else is done. Where the file
-/// can't be had, nothing is read or sent, and the fault is `RecordsUnopened`, `RecordsHeld`, `RecordsForeign`, or `Output` where a call
-/// of the system failed. For `RecordsForeign` the messages also say how to rotate the file. What stood in the file stays, but for half a row at
-/// its end, which is cut off. Where an earlier run was killed, or a sync failed, the rows are copied to a new file. Both are reported. Where
-/// the path no longer leads to the file, rows go on in a new one there, if it can be had. The streams are handed back, and the file and the
-/// link, where there was a file; [`Appended::end`] is left to the caller. What was seen of link and file at each act is noted in `kept`.
+/// can't be had, nothing is read or sent, and the fault is `RecordsUnopened`, `RecordsHeld`, `RecordsForeign`, or `Output` where
+/// a call of the system failed. For `RecordsForeign` the messages also say how to rotate the file. What stood in the file stays,
+/// but for half a row at its end, which is cut off. Where an earlier run was killed, or a sync failed, the rows are copied to a
+/// new file. Both are reported. Where the path no longer leads to the file, rows go on in a new one there, if it can be had. The
+/// streams are handed back, and the file and the link, where there was a file; [`Appended::end`] is left to the caller. What was
+/// seen of link and file at each act is noted in `kept`.
 pub fn append_at<
     'a,
     R: Net<Listener = TcpListener, Stream = TcpStream> + Clock + Files<File = File>,
@@ -169,7 +171,7 @@ pub fn append_at<
     alloc: Global,
     spot: Spot<'a>,
     log: Option<LogPlace<'_>>,
-    station: Station,
+    station: Settings,
     recording: Recording<'a>,
     mut streams: Streams<S, K, E>,
     kept: &mut Kept,
@@ -178,9 +180,9 @@ pub fn append_at<
     io::Result<ExitCode>,
     Option<Appended<'a, R>>,
 )
-    // Either the file can't be had, which is reported with status 1, and nothing was read. Or the status and the messages report how the run
-    // ended, behind what was written of the file's opening, and the file that is handed back has the run's rows: those of the acts that the
-    // link told. At each act the file had all rows that the acts before it settled, and they lasted.
+    // Either the file can't be had, which is reported with status 1, and nothing was read. Or the messages tell of the file's
+    // opening and then, with the status, how the run ended; and the file that is handed back has the run's rows: those of the
+    // acts that the link told. At each act the file had all rows that the acts before it settled, and they lasted.
     ensures told { IfOk result.1 (λ status. RefusesFile E.contents streams result.0 (exit_status status)
         ⊎ TellsAppended S.Source ⟦<Followed<'a, R> as Sink>⟧ ⟦<Followed<'a, R> as Durable>⟧.is_durable E.contents (is_some log.entry) station
         streams result.0 (file_of result.2) (acts_in result.2) kept.old.turns kept.new.turns (exit_status status)) }

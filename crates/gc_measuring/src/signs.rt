@@ -15,8 +15,8 @@ use std::io::{self, Write};
 // The least time between two lines of one kind, in milliseconds.
 const MINUTE: u64 = 60_000;
 
-// How long a trouble has to last before it is reported, in milliseconds. A station is looked at each second, so the line comes within a
-// minute.
+// How long a trouble has to last before it is reported, in milliseconds. A station is looked at each second, so the line comes
+// within a minute.
 const LASTING: u64 = 59_000;
 
 // How many columns the status line of a terminal has at most.
@@ -37,7 +37,8 @@ impl RateLimit {
         RateLimit { last: None }
     }
 
-    // Whether a line of this kind may be written now: the last one is at least `apart` milliseconds old. If so, it counts as written now.
+    // Whether a line of this kind may be written now: the last one is at least `apart` milliseconds old. If so, it counts as
+    // written now.
     fn allows(&mut self, elapsed: u64, apart: u64) -> bool {
         let allows = match self.last {
             Some(last) => elapsed.saturating_sub(last) >= apart,
@@ -54,8 +55,8 @@ impl RateLimit {
 #[derive(Clone, Copy)]
 pub(crate) struct Signs {
     watch: Watch,
-    // The health of the link when it was seen last, the moment since which it is so, and when it was seen, in milliseconds of the clock
-    // for deadlines.
+    // The health of the link when it was seen last, since when it has been the same, and when it was seen, in milliseconds of the
+    // clock for deadlines.
     health: LinkHealth,
     since: Moment,
     elapsed: u64,
@@ -64,13 +65,13 @@ pub(crate) struct Signs {
     // Whether a trouble was reported and no line yet says that it is over, and whether a command was answered since the trouble.
     is_troubled: bool,
     is_answered: bool,
-    // How many skipped commands no line has reported yet, how many of them the last look found, and when the first of them was skipped,
-    // in milliseconds since 1970.
+    // How many skipped commands no line has reported yet, how many of them the last look found, and when the first of them was
+    // skipped, in milliseconds since 1970.
     skipped: u64,
     skipped_before: u64,
     skipped_since: u64,
-    // The cycle of the last record, how many commands ended in each way, and when the last answer came, in milliseconds of the clock for
-    // deadlines.
+    // The cycle of the last record, how many commands ended in each way, and when the last answer came, in milliseconds of the
+    // clock for deadlines.
     cycle: u64,
     counts: Tally,
     answered: Option<u64>,
@@ -161,8 +162,8 @@ impl Signs {
         self.watch != Watch::Nobody && self.late.allows(self.elapsed, MINUTE)
     }
 
-    /// Takes in the health of the link and the moment, and writes the lines that are due. `is_lost`: the last connection was lost or
-    /// couldn't be made.
+    /// Takes in the health of the link and the moment, and writes the lines that are due. `is_lost`: the last connection was lost
+    /// or couldn't be made.
     pub(crate) fn see<E: Write>(
         &mut self,
         health: LinkHealth,
@@ -182,7 +183,7 @@ impl Signs {
         self.show(messages)
     }
 
-    // Notes the health of the link, and the moment since which it is so.
+    // Notes the health of the link, and since when it has been the same.
     fn stand(&mut self, health: LinkHealth, moment: Moment) {
         // Until the clock is read first the moment is the beginning of 1970.
         if self.health != health || self.since.utc == 0 {
@@ -192,8 +193,8 @@ impl Signs {
         self.elapsed = moment.elapsed;
     }
 
-    // Writes the lines that are due: on a missing connection, on a line that isn't quiet, on an answer that doesn't come, and on the end of
-    // such a trouble.
+    // Writes the lines that are due: on a missing connection, on a line that isn't quiet, on an answer that doesn't come, and on
+    // the end of such a trouble.
     fn tell_troubles<E: Write>(
         &mut self,
         before: LinkHealth,
@@ -241,8 +242,8 @@ impl Signs {
         Ok(())
     }
 
-    // Reports that there is no connection, where the last one was lost or couldn't be made. Not where a cycle just began: then the station
-    // makes a connection at once.
+    // Reports that there is no connection, where the last one was lost or couldn't be made. Not where a cycle just began: then
+    // the station makes a connection at once.
     fn tell_connection<E: Write>(
         &mut self,
         before: LinkHealth,
@@ -337,7 +338,8 @@ impl Signs {
         messages.write_all(row.bytes.as_slice())
     }
 
-    // Writes the cycle, how many commands were answered, how long ago the last one was, and the other counts, but for those that are 0.
+    // Writes the cycle, how many commands were answered, how long ago the last one was, and the other counts, but for those that
+    // are 0.
     fn show_counts<E: Write>(&self, row: &mut E) -> io::Result<()> {
         let cycle = self.cycle;
         let answered = self.counts.answered;
@@ -357,8 +359,8 @@ impl Signs {
         }
     }
 
-    /// Writes at the end of a run how many commands were skipped that no line reported yet, where that may be written, and clears the status
-    /// line of a terminal.
+    /// Writes at the end of a run how many commands were skipped that no line reported yet, where that may be written, and clears
+    /// the status line of a terminal.
     pub(crate) fn end<E: Write>(&mut self, messages: &mut E) -> io::Result<()> {
         if self.watch != Watch::Nobody {
             self.tell_skipped(messages)?;

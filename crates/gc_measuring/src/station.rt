@@ -18,7 +18,7 @@ use gc_logs::Logged;
 use gc_messages::{Noticing, Spot, Streams};
 use gc_station::{Kept, Tally};
 use gc_texts::RunFault;
-use gc_words::{LogPlace, Station};
+use gc_words::{LogPlace, Settings};
 use std::alloc::Global;
 use std::fs::File;
 use std::io::{self, Write};
@@ -27,11 +27,11 @@ use std::process::ExitCode;
 use std::rt::Files;
 use std::time::Clock;
 
-/// Measures at a place, and reports how the run ended: by the counts, or by the fault's line. Where a log is asked for, its file is opened
-/// first, and what was on the link is appended to it. `Log` comes where no log can be had, `Clock` where the clock can't be read, and the
-/// faults of a device where one is there and can't be used. That a log couldn't be written to its end is told behind the counts, or
-/// the fault, and changes no status. The streams are handed back, and the link, where there was one. What was seen of link and output at each
-/// act is noted in `kept`.
+/// Measures at a place, and reports how the run ended: by the counts, or by the fault's line. Where a log is asked for, its file
+/// is opened first, and what was on the link is appended to it. `Log` comes where no log can be had, `Clock` where the clock
+/// can't be read, and the faults of a device where one is there and can't be used. That a log couldn't be written to its end is
+/// told after the counts, or the fault, and changes no status. The streams are handed back, and the link, where there was one.
+/// What was seen of link and output at each act is noted in `kept`.
 pub fn measure_at<
     'a,
     R: Net<Listener = TcpListener, Stream = TcpStream> + Clock + Files<File = File>,
@@ -43,7 +43,7 @@ pub fn measure_at<
     alloc: Global,
     spot: Spot<'a>,
     log: Option<LogPlace<'_>>,
-    station: Station,
+    station: Settings,
     mut streams: Streams<S, K, E>,
     kept: &mut Kept,
 ) -> (
@@ -51,9 +51,10 @@ pub fn measure_at<
     io::Result<ExitCode>,
     Option<Telling<PlacedLink<'a, R>>>,
 )
-    // The status and the messages report how the run ended, and behind that a log that was lost. Either a text was refused or measured, by
-    // the acts that the link told from none on, as the link and the sink have it that are handed back, and at each act all lasted that the
-    // acts before it settled. Or no log, no link or no clock could be had, and nothing was read or written.
+    // The status and the messages report how the run ended, and then whether the log was lost. Either the text was refused, or
+    // its commands were measured: the link that is handed back has told all acts of the run and no other, the sink that is handed
+    // back has its records, and at each act all that the acts before it settled lasted. Or no log, no link or no clock could be
+    // had, and nothing was read or written.
     ensures told { IfOk result.1 (λ status. TellsRun S.Source K.Sink K.is_durable E.contents (is_some log.entry) station
         streams result.0 (acts_of result.2) kept.old.turns kept.new.turns (exit_status status)) }
 
@@ -147,7 +148,7 @@ fn without_link(reason: Option<Unusable>) -> RunFault
 pub(crate) fn measure_over<L: Link, S: Source, K: Durable, E: Write>(
     alloc: Global,
     link: &mut L,
-    station: Station,
+    station: Settings,
     spot: Spot<'_>,
     streams: Streams<S, K, E>,
     kept: &mut Kept,
@@ -167,7 +168,7 @@ pub(crate) fn measure_over<L: Link, S: Source, K: Durable, E: Write>(
     (streams, ended)
 }
 
-// Notes at its spot for which fault a run stopped, where it did.
+// Where a run stopped for a fault, notes the fault at its spot.
 fn note_stop(spot: Spot<'_>, end: Result<Tally, Stop>) {
     if let Err(stop) = end {
         spot.stop(stop.fault());

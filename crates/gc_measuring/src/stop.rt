@@ -16,8 +16,8 @@ pub enum Stop {
     Empty,
     /// The line of the text with this number, counted from 1, is the first faulty one, with this trouble. Nothing was done.
     Line(u32, Trouble),
-    /// The run over the text's commands ended for this fault or couldn't begin, or what stands in front of the records couldn't be
-    /// written.
+    /// The run over the text's commands ended for this fault or couldn't begin, or what stands in front of the records couldn't
+    /// be written.
     Run(RunFault),
 }
 
@@ -34,7 +34,8 @@ impl Stop {
         }
     }
 
-    /// Writes the fault's line. A second line follows for a text without a command, which says so, and for a faulty line, with its trouble.
+    /// Writes the message of the fault. In two cases a second message follows: for `Empty`, that the text has no command; for
+    /// `Line`, which field of the text's faulty line is at fault.
     pub fn tell<E: Write>(self, messages: &mut E) -> io::Result<()>
         ensures { OnOk result (Appends (E.contents messages.old) (E.contents messages.new) (stop_text self)) }
     {
@@ -47,7 +48,7 @@ impl Stop {
     }
 }
 
-// Writes the line of the fault of a text without a command, and a second line that says so.
+// Writes the message of the fault `NoCommand`, and a second message: that the text has no command.
 fn tell_empty<E: Write>(messages: &mut E) -> io::Result<()>
     ensures { OnOk result (Appends (E.contents messages.old) (E.contents messages.new) (stop_text Stop.Empty)) }
 {
@@ -55,7 +56,8 @@ fn tell_empty<E: Write>(messages: &mut E) -> io::Result<()>
     writeln!(messages, "geocom: the text has no command")
 }
 
-// Writes the line of the fault of a faulty line, and a second line with its trouble.
+// Writes the message of the fault `Schedule`, with the number of the text's faulty line, and a second message: which field of
+// that line is at fault.
 fn tell_line<E: Write>(line: u32, trouble: Trouble, messages: &mut E) -> io::Result<()>
     ensures { OnOk result (Appends (E.contents messages.old) (E.contents messages.new) (stop_text (Stop.Line line trouble))) }
 {

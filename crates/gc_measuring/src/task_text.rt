@@ -11,9 +11,9 @@ use gc_texts::{RunFault, Tasks, line_at, read_tasks, read_text, trouble_of};
 use gc_words::Choice;
 use std::alloc::Global;
 
-/// Reads the whole text of a station from a source, and returns its tasks and names, with the text itself. Until a line says otherwise
-/// the commands have the deadline of `choice`, and are chained or not as `choice` says. It fails with the faults of `read_text` and
-/// `read_tasks`, where a faulty line comes with its trouble, and with `Empty` where the text has no command.
+/// Reads the whole text of a station from a source, and returns its tasks and names, with the text itself. Until a line says
+/// otherwise the commands have the deadline of `choice`, and are chained or not as `choice` says. It fails with the faults of
+/// `read_text` and `read_tasks`, with the field at fault for a faulty line, and with `Empty` where the text has no command.
 pub(crate) fn read_task_text<S: Source>(
     alloc: Global,
     source: &mut S,
@@ -40,7 +40,7 @@ pub(crate) fn read_task_text<S: Source>(
     }
 }
 
-// The stop for a text with this fault: for a faulty line, with the line's trouble.
+// The stop for a text with this fault. That for a faulty line has the line's number, and which of its fields is at fault.
 fn refusal(text: &[u8], fault: RunFault) -> Stop
     ensures { IsRefusal text.now fault result }
 {

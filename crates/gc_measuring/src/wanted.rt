@@ -1,4 +1,5 @@
-//! Since when a station wants an answer that doesn't come. It counts over connections: neither a new one nor a closed one is an answer.
+//! Since when a station has wanted an answer that doesn't come. This time goes on while connections are closed and made anew,
+//! because neither is an answer.
 
 ghost use Rattle.std.specs.Prelude.{◌≡◌};
 ghost use Rattle.gc_measuring.specs.Wanted.{behind_answer, behind_look, behind_cycle, wanted_from, lasting, has_lasted};
@@ -36,7 +37,8 @@ impl Wanted {
         self.told = false;
     }
 
-    /// Notes by the health of the link at this moment whether an answer is wanted.
+    /// Notes by the health of the link at this moment whether an answer is wanted: it is where there is no connection, where the
+    /// line isn't quiet, and where a request has no reply. `Idle` ends the cycle, and `Fine` changes nothing.
     pub(crate) fn look(&mut self, health: LinkHealth, moment: Moment)
         ensures { self.new ≡ behind_look health moment self.old }
     {

@@ -5,7 +5,7 @@ use Rattle.std.specs.Prelude.{ℕ, Bool, true, false, List, codes}
 abbrev pub range_line : List ℕ
 range_line = codes "error: a number of the command line is out of its range\n"
 
--- the line that says that a word names no place: none to serve a simulator on (`true`), or none of an instrument
+-- the line that says that a word is no place: no port or device to serve a simulator on (`true`), or no place of an instrument
 abbrev pub place_line : Bool → List ℕ
 place_line true = codes "error: a simulator is served on a port of 127.0.0.1, from 1 to 65535, or on the path of a device, which has a /\n"
 place_line false = codes "error: a place is a port from 1 to 65535, HOST:PORT, [ADDRESS]:PORT, or the path of a device, which has a /\n"

@@ -24,8 +24,8 @@ pub fn refuse_numbers<E: Write>(messages: &mut E) -> io::Result<ExitCode>
     Ok(ExitCode::from(2))
 }
 
-/// Reports with status 2 that a word names no place: none to serve a simulator on where `serves` is set, else none of an
-/// instrument.
+/// Reports with status 2 that a word is no place: where `serves` is set, no port or device to serve a simulator on, and else no
+/// place of an instrument.
 pub fn refuse_place<E: Write>(serves: bool, messages: &mut E) -> io::Result<ExitCode>
     ensures told { IfOk result (λ status. (exit_status status ≡ 2) × Appends (E.contents messages.old) (E.contents messages.new) (place_line serves)) }
 {

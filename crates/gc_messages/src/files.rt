@@ -1,9 +1,10 @@
-//! What becomes of the files that a station writes while it runs, and how that is reported. No record and no request depends on it.
+//! What becomes of the files that a station writes while it runs, and how that is reported. No record and no request depends on
+//! it. The path of the rows leads astray where it doesn't lead to the file of rows, and no new file can be had there.
 
 use gc_links::Moment;
 use std::io::{self, Write};
 
-// How far apart the lines are which say that rows go into a file that its path doesn't lead to, in milliseconds.
+// How far apart the lines are which say that the path of the rows leads astray, in milliseconds.
 const MINUTE: u64 = 60_000;
 
 /// What became of the log.
@@ -26,7 +27,7 @@ pub struct FilesSeen {
     pub log_torn: u64,
     /// How many times the rows went on in a new file, because the path no longer led to the one before.
     pub moves: u64,
-    /// How many rows of the last of these new files were copied, because an earlier run had no good end.
+    /// How many rows of the last of these new files were copied, because an earlier run was killed or a sync failed.
     pub copied: u64,
     /// How many bytes of a torn row were cut off the last of these new files.
     pub torn: u64,
@@ -65,8 +66,9 @@ impl FilesTold {
         }
     }
 
-    /// What is to be reported now: what is new, and once a minute that the rows' path leads astray. It then counts as reported.
-    /// `None`: nothing is new and the path doesn't lead astray. While it does, there may be news without a line.
+    /// What is to be reported now: what is new, and once a minute that the rows' path leads astray. All of it then counts as
+    /// reported. `None`: nothing is new, and the path doesn't lead astray. Where the path leads astray, but the line on that
+    /// isn't due and nothing else is new, the result is `Some` with nothing to write.
     pub fn news(&mut self, seen: FilesSeen, moment: Moment) -> Option<FilesNews> {
         let is_due = match self.astray {
             Some(last) => moment.elapsed.saturating_sub(last) >= MINUTE,
@@ -108,7 +110,7 @@ impl FilesNews {
         self.tell_astray(messages)
     }
 
-    // Writes, where that is due, that the rows go into a file that their path doesn't lead to.
+    // Writes, where that is due, that the path of the rows leads astray.
     fn tell_astray<E: Write>(self, messages: &mut E) -> io::Result<()> {
         if !self.is_astray {
             return Ok(());

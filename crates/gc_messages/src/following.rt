@@ -12,9 +12,9 @@ use std::cell::Cell;
 use std::fs::File;
 use std::rt::Files;
 
-/// A file of rows by its path. Between two rows it looks whether the path still leads to the file. Where it doesn't, and a file can
-/// be had there as at the start, the rows go on in that one, behind its head; else they go on in the old one. What became of it is
-/// noted in `noticed`. What was appended to all of these files, in order, counts as taken.
+/// A file of rows by its path. Between two rows it looks whether the path still leads to the file. Where it doesn't, and a file
+/// can be had there as at the start, the rows go on in that one, behind its head; else they go on in the old one. What became of
+/// it is noted in `noticed`. What was appended to all of these files, in order, counts as taken.
 #[derive(Drop)]
 pub struct Followed<'a, R> {
     rt: &'a R,
@@ -51,8 +51,8 @@ impl<'a, R: Files<File = File>> Followed<'a, R> {
         }
     }
 
-    /// Ends the appending to the file that takes the rows now. Where the path leads to it, and all that it holds is on the disk, or is by
-    /// one more sync, the mark that has the next start copy the file is taken away.
+    /// Ends the appending to the file that takes the rows now. Where the path leads to that file, and all that it holds is on the
+    /// disk, if need be after one more sync, this takes away the mark by which the next start would copy the file.
     pub fn end(self) {
         let Followed {
             rt,

@@ -74,8 +74,8 @@ impl<'a, R> Noting<'a, R> {
         self.last.set(None);
     }
 
-    /// Writes behind a fault what the system refused last, and why, unless the note was cleared since or the messages are
-    /// closed. It returns how the run ended, as it was.
+    /// Where a run ended with a fault (`ended`), writes after the fault's line what the system refused last, and why, unless the
+    /// note was cleared since or the messages are closed. Returns `ended`.
     pub fn tell<E: Write>(
         &self,
         standard: Standard,

@@ -29,7 +29,7 @@ impl Oddities {
     }
 }
 
-/// What was noticed of a line, of its connection, and of the files of who measures over it.
+/// What was noticed of a line, of its connection, and of the files of the station that measures over it.
 #[derive(Clone, Copy, Debug, PartialEq, Eq)]
 pub struct Noticed {
     /// What is odd about the line.
@@ -82,7 +82,8 @@ impl<'a> Spot<'a> {
         }
     }
 
-    /// Adds to the fault's line the place and the reason, where the run stopped for one of the faults that [`tell_place`] explains.
+    /// Adds to the fault's line the place and the reason, where the run stopped for one of the faults that [`tell_place`]
+    /// explains.
     pub fn tell<E: Write>(self, messages: &mut E) -> io::Result<()> {
         match self.noticed.get().fault {
             Some(fault) => tell_place(self.place, fault, messages),
@@ -91,8 +92,8 @@ impl<'a> Spot<'a> {
     }
 }
 
-/// Writes the place and a reason in words, for the faults of a connection that come without an error of the system's. For any other fault
-/// it writes nothing.
+/// Writes the place and a reason in words, for the faults of a connection that come without an error of the system's. For any
+/// other fault it writes nothing.
 pub fn tell_place<E: Write>(place: Place<'_>, fault: RunFault, messages: &mut E) -> io::Result<()> {
     let why = match fault {
         RunFault::LinkClosed => "the connection ended",
@@ -108,8 +109,8 @@ pub fn tell_place<E: Write>(place: Place<'_>, fault: RunFault, messages: &mut E)
 // The longest read of a link, in milliseconds: what watches a station between two reads gets its turn at least so often.
 const LOOK: u64 = 1_000;
 
-/// A link that notices what is odd about its line, and what becomes of its connection. Its acts are those of the link inside. A read
-/// of it lasts no longer than a second.
+/// A link that notices what is odd about its line, and what becomes of its connection. Its acts are those of the link inside. A
+/// read of it lasts no longer than a second.
 #[derive(Drop)]
 pub struct Noticing<'a, L> {
     /// The link inside.
@@ -167,8 +168,8 @@ impl<'a, L> Noticing<'a, L> {
         }
     }
 
-    // Notes what is odd about the line that a line feed has just ended: it begins as a request, or as a reply and has no CR at
-    // its end.
+    // Notes what is odd about the line that a line feed has just ended: it begins as a request (`echoes`), or it begins as a
+    // reply and has no CR at its end (`bare`).
     fn judge(&self) {
         let seen = self.seen.get();
         let odd = seen.odd;

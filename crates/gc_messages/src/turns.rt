@@ -1,5 +1,4 @@
-//! Angles outside one turn: a station reports them at its start, because an angle in gon or in degrees looks so. Angles are in
-//! radians.
+//! Angles outside one turn, in radians: a station reports them at its start, because they look like angles in gon or in degrees.
 
 use gc_catalogue::Call;
 use gc_texts::Task;

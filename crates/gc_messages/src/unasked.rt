@@ -1,5 +1,5 @@
-//! Places of targets that no command asks for a direction: a station reports them at its start, because no answer is compared
-//! with them.
+//! Targets of which a text says where they stand, and which none of its commands asks for a direction. A station reports them at
+//! its start, because no answer is compared with these places.
 
 use gc_texts::Tasks;
 use std::io::{self, Write};

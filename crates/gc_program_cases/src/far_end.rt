@@ -15,7 +15,8 @@ use std::time::{Clock, Duration};
 // 2026-11-22T23:08:00Z, where the clock begins, in milliseconds since 1970.
 const BEGIN: u64 = 1_795_388_880_000;
 
-// A wait of no more milliseconds is none: the link's own second look. The system may round it up to 10.
+// A time-out of at most so many milliseconds is no wait: a link that read nothing reads once more at once, with a time-out of
+// one millisecond, which the system may round up to 10.
 const NO_WAIT: u64 = 10;
 
 // What the far end saw.
@@ -25,7 +26,7 @@ pub struct Seen {
     pub elapsed: u64,
     // How many connections were made.
     pub opened: u32,
-    // What came, with a `>` wherever the station waited behind it.
+    // What came, with a `>` wherever the station waited after it.
     pub heard: Told,
     // The paths of the files that were to be opened, a line each. None is there.
     pub files: Told,
@@ -54,24 +55,27 @@ impl Seen {
     }
 }
 
-// Both ends of a connection, the station's first. They are a pair of Unix sockets, because what is written to one can be read at the other
-// at once. No read of either waits.
+// Both ends of a connection, the station's first. They are a pair of Unix sockets, because what is written to one can be read at
+// the other at once. No read of either waits.
 pub fn both_ends(net: &impl Net) -> io::Result<(TcpStream, TcpStream)> {
     let ends = UnixStream::pair(net)?;
     open_both(&ends)?;
     Ok(streams_of(ends))
 }
 
+// Has no read of these two ends wait.
 fn open_both(ends: &(UnixStream, UnixStream)) -> io::Result<()> {
     ends.0.set_nonblocking(true)?;
     ends.1.set_nonblocking(true)
 }
 
+// Both ends as TCP streams.
 fn streams_of(ends: (UnixStream, UnixStream)) -> (TcpStream, TcpStream) {
     let (near, far) = ends;
     (stream_of(near), stream_of(far))
 }
 
+// An end as a TCP stream: the system's calls are the same for both.
 fn stream_of(end: UnixStream) -> TcpStream {
     TcpStream::from(OwnedFd::from(end))
 }
@@ -81,20 +85,20 @@ fn stream_of(end: UnixStream) -> TcpStream {
 pub struct FarEnd<'a, 'b> {
     pub ends: &'a (TcpStream, TcpStream),
     pub seen: &'b RefCell<Seen>,
-    // How many milliseconds an answer takes: less than the station waits for it. None: there is none.
+    // How many milliseconds an answer takes: less than the station waits for it. None: nothing is answered.
     pub answer: Option<u64>,
-    // Behind so many milliseconds the clock can't be read any more.
+    // After so many milliseconds the clock can't be read any more.
     pub until: u64,
     // The first so many connections are refused.
     pub refused: u64,
-    // Behind so many milliseconds nothing is answered any more.
+    // After so many milliseconds nothing is answered any more.
     pub silent: u64,
     // What the line does to what is sent over it.
     pub odd: Oddities,
 }
 
 impl<'a, 'b> FarEnd<'a, 'b> {
-    // How long the station may have waited since this was asked last, in milliseconds.
+    // How long the station waits in its read, in milliseconds, by the time-out that it set; 0 where it set none.
     fn patience(&self) -> io::Result<u64> {
         let Some(wait) = self.ends.0.read_timeout()? else {
             return Ok(0);
@@ -110,7 +114,7 @@ impl<'a, 'b> FarEnd<'a, 'b> {
         }
     }
 
-    // Answers the requests of a piece, and says whether there were any.
+    // Answers the requests of a piece, after an echo of it where the line echoes, and says whether there were any.
     fn answers(&self, piece: &[u8]) -> bool {
         let mut far = &self.ends.1;
         if self.odd.echoes && far.write_all(piece).is_err() {
@@ -132,7 +136,8 @@ impl<'a, 'b> FarEnd<'a, 'b> {
         }
     }
 
-    // The moment of the clock. If the station may have waited since the last one, that wait is played first.
+    // The moment of the clock. Where the station has waited in a read before it asks, that wait is played first. After `until`
+    // milliseconds the clock can't be read.
     fn moment(&self, seen: &mut Seen) -> io::Result<Duration> {
         let patience = self.patience()?;
         if patience > NO_WAIT {
@@ -144,7 +149,8 @@ impl<'a, 'b> FarEnd<'a, 'b> {
         Ok(Duration::from_millis(seen.elapsed))
     }
 
-    // The station waits: what came is noted down and answered, and time passes until then, or until the wait is over.
+    // Plays a wait of the station: what it sent is noted down and answered, which takes the time of an answer; else the whole
+    // wait passes.
     fn wait(&self, seen: &mut Seen, millis: u64) {
         let mut buf = [0; 256];
         let mut far = &self.ends.1;
@@ -173,6 +179,7 @@ struct Changing<'a> {
 }
 
 impl<'a> Write for Changing<'a> {
+    // Writes each byte, and a CR as LF where the line is bare.
     fn write(&mut self, buf: &[u8]) -> io::Result<usize> {
         let mut stream = self.stream;
         for b in buf {
@@ -193,6 +200,7 @@ pub fn in_use() -> io::Error {
 }
 
 impl<'a, 'b> Clock for FarEnd<'a, 'b> {
+    // How much time has passed, with the wait in which the station has just read.
     fn monotonic(&self) -> io::Result<Duration> {
         match self.seen.try_borrow_mut() {
             Ok(mut seen) => self.moment(&mut seen),
@@ -200,6 +208,7 @@ impl<'a, 'b> Clock for FarEnd<'a, 'b> {
         }
     }
 
+    // The moment at which the clock began, and the time that has passed since.
     fn since_1970(&self) -> io::Result<Duration> {
         match self.seen.try_borrow() {
             Ok(seen) => Ok(Duration::from_millis(BEGIN.saturating_add(seen.elapsed))),
@@ -207,6 +216,7 @@ impl<'a, 'b> Clock for FarEnd<'a, 'b> {
         }
     }
 
+    // So much time passes, at once.
     fn sleep(&self, duration: Duration) {
         if let Ok(mut seen) = self.seen.try_borrow_mut() {
             seen.pass(u64::try_from(duration.as_millis()).unwrap_or(u64::MAX));
@@ -219,15 +229,18 @@ impl<'a, 'b> Net for FarEnd<'a, 'b> {
 
     type Listener = TcpListener;
 
+    // No port can be listened at.
     fn bind(&self, _addr: SocketAddr) -> io::Result<TcpListener> {
         Err(io::Error::from(ErrorKind::Unsupported))
     }
 
+    // Counts the connection, and makes none: a station connects with a time-out.
     fn connect(&self, _addr: SocketAddr) -> io::Result<TcpStream> {
         let _ = self.count()?;
         Err(io::Error::from(ErrorKind::Unsupported))
     }
 
+    // Refuses the first connections, as many as `refused` says. Each further one is the station's end of the same connection.
     fn connect_timeout(&self, _addr: SocketAddr, _timeout: Duration) -> io::Result<TcpStream> {
         if self.count()? <= self.refused {
             return Err(io::Error::from(ErrorKind::ConnectionRefused));

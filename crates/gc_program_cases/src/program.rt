@@ -17,6 +17,7 @@ use std::time::Clock;
 pub struct Program;
 
 impl Player for Program {
+    // Plays a case with a port that was free, and is held meanwhile unless the case wants it free.
     fn play(&self, rt: &HostRuntime, case: &Case<'_>, wrong: &mut Told) -> io::Result<()> {
         let listener = TcpListener::bind(rt, SocketAddr::from(([127, 0, 0, 1], 0)))?;
         let port = port_of(&listener);
@@ -174,6 +175,7 @@ fn split_words(alloc: Global, words: &str, port: &str) -> Result<Args, AllocErro
     Ok(all.into_iter())
 }
 
+// Appends the program's name and these words.
 fn push_words(
     alloc: Global,
     words: &str,

@@ -21,6 +21,7 @@ impl Room {
 }
 
 impl Write for Room {
+    // Takes the bytes that there is room for, 0 where there is none.
     fn write(&mut self, buf: &[u8]) -> io::Result<usize> {
         let left = usize::try_from(self.left).unwrap_or(usize::MAX);
         let taken = buf.get(..left).unwrap_or(buf);

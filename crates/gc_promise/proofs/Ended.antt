@@ -27,9 +27,11 @@ record Ends (xs : List ℕ) : Type 0 where
 more : (xs ys : List ℕ) → Ends ys → Ends (xs ++ ys)
 more xs ys ends = record { some = feed_behind xs ys ends.some; is = whole_behind xs ys ends.some ∙ ap (λ (l : List ℕ). xs ++ l) ends.is }
 
+-- a line feed alone ends in a line feed
 feed : Ends (codes "\n")
 feed = record { some = refl; is = refl }
 
+-- the end of an object ends in a line feed
 brace : Ends (codes "}\n")
 brace = record { some = refl; is = refl }
 

@@ -1,4 +1,5 @@
--- The eventful run, computed. What replies say is a variable here: of the five replies that answer commands `patched` says it, and no other is asked.
+-- The eventful run, computed. Which function says what replies say (`reads`) is left open here. `patched` is that function with
+-- the readings of the five replies that answer commands put in front; no other reply of the run is looked at.
 use Rattle.std.proofs.Common.{◌≡◌, inl, inr, ℕ, zero, suc, List, [], ◌∷◌, ◌++◌, Option, Some, None, true, false, refl, sym, subst, ap, arith, lit<}
 use Rattle.std.specs.Prelude.{codes, map, option_map, take, drop}
 use Rattle.std.specs.Fmt.{digits}
@@ -16,7 +17,7 @@ use Rattle.gc_texts.specs.Nears.{is_elsewhere}
 use Rattle.gc_links.specs.Acts.{Act, Told}
 use Rattle.gc_station.specs.Beginnings.{IsAnew}
 use Rattle.gc_station.specs.Links.{AreChained}
-use Rattle.gc_station.specs.Model.{Runs, near_first, opening}
+use Rattle.gc_station.specs.Model.{Runs, expected_first, opening}
 use Rattle.gc_station.specs.Parts as part
 use Rattle.gc_station.specs.Parts.{Part, nothing, parts_of}
 use Rattle.gc_station.specs.Records.{Record, texts_of}
@@ -39,6 +40,7 @@ use Rattle.gc_promise.specs.Eventful.{IsEventful, acts, anew_acts, anew_turns, b
 use Rattle.gc_promise.specs.Eventful.{chain_acts, chain_moves, commands, first_stretch, front, last_stretch, left, plan, pointed, records, reporting, runs, scope, tally}
 use Rattle.gc_promise.proofs.TrueReadings.{patched, patched_same}
 
+-- true isn't false
 true_is_not : true ≡ false → ⊥
 true_is_not e = cc
 
@@ -74,13 +76,13 @@ anew_shown =
     ∷ part.Asks
     ∷ asked_each (drop 2 replies)
 
--- a part with requests of this cycle: each request by the place of its command and the moment at which it went out, and a null
--- procedure by none
+-- a part with requests of this cycle: for each request that goes out, in order, the place of its command and the moment at
+-- which it went out; `None` for a null procedure
 abbrev part_of_cycle : ℕ → List part.Turn → List Step → List (Option (ℕ × ℕ)) → Part
 part_of_cycle cycle turns steps sent =
-    record { turns = turns; steps = steps; marks = map (option_map (λ x. record { cycle = cycle; place = x.0; sent = x.1; near = near_first (drop x.0 commands) })) sent }
+    record { turns = turns; steps = steps; marks = map (option_map (λ x. record { cycle = cycle; place = x.0; sent = x.1; expected = expected_first (drop x.0 commands) })) sent }
 
--- the parts of the run: until it begins anew, from there on, and behind its end
+-- the parts of the run: until it begins anew, from there on, and after its end
 abbrev all_parts : List Part
 all_parts =
     part_of_cycle 1 begins_shown (seen breaks_moves) (Some (0, 40) ∷ None ∷ (map (λ place. Some (place, 95)) (2 ∷ 3 ∷ 4 ∷ 5 ∷ 6 ∷ []) ++ None ∷ None ∷ []))
@@ -88,11 +90,12 @@ all_parts =
     ∷ nothing
     ∷ []
 
--- the turns of both beginnings show these
+-- what the line does in the first beginning shows these turns
 begins_are : shown reporting begins_turns (begins before) ≡ begins_shown
 unfolding is_elsewhere is_near header_at reply_at digits rounded
 begins_are = refl
 
+-- what the line does in the second beginning shows these turns
 anew_are : shown reporting anew_turns (begins left) ≡ anew_shown
 unfolding is_elsewhere is_near header_at reply_at digits rounded
 anew_are = refl
@@ -109,10 +112,11 @@ anew_possible : AreTurns reporting AnyState instrument.nothing anew_turns (begin
 unfolding is_elsewhere is_near header_at reply_at digits rounded
 anew_possible = (tt, (tt, (tt, (tt, (tt, ((tt, refl), units 26))))))
 
+-- these moves are possible in this world
 abbrev PossibleFrom : World ById (List ℕ) → List (Move (List ℕ)) → Type 0
 PossibleFrom w ms = ArePossible reporting AnyState instrument.nothing (by_ids WINDOW reporting) ms w
 
--- possible moves, with moves behind them that are possible in the world that they leave, are possible as one list
+-- possible moves, with moves after them that are possible in the world that they leave, are possible as one list
 possible_on : (w : World ById (List ℕ)) (earlier later : List (Move (List ℕ))) → PossibleFrom w earlier → PossibleFrom (moved reporting (by_ids WINDOW reporting) earlier w) later
     → PossibleFrom w (earlier ++ later)
 possible_on w [] later h g = g
@@ -165,54 +169,54 @@ module _ (reads : Call → List ℕ → Reading) where
   abbrev told : Scope
   told = scope (patched reads)
 
-  -- behind the earlier acts, the later ones are a run
+  -- after the earlier acts, the later ones are a run
   abbrev RunsBehind : List Act → List Act → Type 0
   RunsBehind earlier later = Runs plan commands (stood plan commands told earlier) later
 
-  -- behind the acts in front of them, the acts of each stretch are a run
+  -- the acts until the second connection is made are a run
   begins_runs : RunsBehind [] (take 16 begins_acts)
   unfolding is_elsewhere is_near header_at reply_at digits rounded
   begins_runs = (tt, (tt, (tt, (tt, (refl, (tt, (refl, (tt, (tt, (tt, (refl, (tt, (tt, (tt, (refl, (tt, tt))))))))))))))))
 
-  -- behind these, the acts by which all eight null procedures are answered are a run
+  -- after the acts until the second connection is made, those by which all eight null procedures are answered are a run
   answers_eight : RunsBehind (take 16 begins_acts) (drop 16 begins_acts)
   unfolding is_elsewhere is_near header_at reply_at digits rounded
   answers_eight =
       (refl, (tt, (tt, (refl, (tt, (tt, (refl, (tt, (tt, (refl, (tt, (tt, (refl, (tt, (tt, (refl, (tt, (tt, (refl, (tt, (tt, (refl, (tt, (tt, tt))))))))))))))))))))))))
 
-  -- behind the beginning, the acts until command 1 is skipped are a run
+  -- after the beginning, the acts until command 1 is skipped are a run
   breaks_runs : RunsBehind begins_acts (take 8 breaks_acts)
   unfolding is_elsewhere is_near header_at reply_at digits rounded
   breaks_runs = (tt, (refl, (tt, (tt, (refl, (tt, (tt, (tt, tt))))))))
 
-  -- behind these, the acts until seven requests are given up are a run
+  -- after the acts until command 1 is skipped, those until seven requests are given up are a run
   gives_up_runs : RunsBehind (begins_acts ++ take 8 breaks_acts) (drop 8 breaks_acts)
   unfolding is_elsewhere is_near header_at reply_at digits rounded
   gives_up_runs =
       (refl, (tt, (refl, (tt, (refl, (tt, (refl, (tt, (refl, (tt, (tt, (refl, (tt, (tt, (refl, (tt, (tt, (refl, (tt, (tt, (tt, (refl, (tt, (tt, (tt, tt)))))))))))))))))))))))))
 
-  -- behind these, the acts from there on, up to the fourth connection, are a run
+  -- after the acts until seven requests are given up, those until the fourth connection is made are a run
   anew_runs : RunsBehind front (take 16 anew_acts)
   unfolding is_elsewhere is_near header_at reply_at digits rounded
   anew_runs = (tt, (refl, (tt, (tt, (refl, (tt, (tt, (refl, (tt, (tt, (refl, (tt, (tt, (tt, (refl, (tt, tt))))))))))))))))
 
-  -- behind these, the acts by which the other six null procedures are answered are a run
+  -- after the acts until the fourth connection is made, those by which the other six null procedures are answered are a run
   answers_six : RunsBehind (front ++ take 16 anew_acts) (drop 16 anew_acts)
   unfolding is_elsewhere is_near header_at reply_at digits rounded
   answers_six = (refl, (tt, (tt, (refl, (tt, (tt, (refl, (tt, (tt, (refl, (tt, (tt, (refl, (tt, (tt, (refl, (tt, (tt, tt))))))))))))))))))
 
-  -- behind these, the acts by which the second cycle is missed and the third begins are a run
+  -- after the new beginning, the acts by which the second cycle is missed and the third begins are a run
   misses_runs : RunsBehind (front ++ anew_acts) (take 9 chain_acts)
   unfolding is_elsewhere is_near header_at reply_at digits rounded
   misses_runs = (tt, (tt, (tt, (tt, (tt, (tt, (tt, (tt, (tt, tt)))))))))
 
-  -- behind these, the acts of the third cycle until its connection is closed are a run
+  -- after the acts with which the third cycle begins, those until its last request is cut are a run
   answers_runs : RunsBehind (front ++ (anew_acts ++ take 9 chain_acts)) (take 14 (drop 9 chain_acts))
   unfolding is_elsewhere is_near header_at reply_at digits rounded
   answers_runs =
       (refl, (tt, (tt, (refl, (tt, (refl, (tt, (refl, (tt, (refl, (tt, (refl, (tt, ((refl, lit< tt), tt))))))))))))))
 
-  -- behind these, the acts until the end are a run
+  -- after the acts until the last request is cut, those until the end are a run
   late_runs : RunsBehind (front ++ (anew_acts ++ take 23 chain_acts)) (drop 23 chain_acts)
   unfolding is_elsewhere is_near header_at reply_at digits rounded
   late_runs = (refl, (tt, (tt, (tt, (refl, (tt, (tt, (tt, (tt, (refl, (tt, (tt, (refl, tt)))))))))))))

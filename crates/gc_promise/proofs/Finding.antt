@@ -1,4 +1,5 @@
--- What each member of an object has that was written of a record.
+-- What stands under each name in the object of JSON that was written of a record. A member is a name with its value. Members
+-- are in the order of the text, and of two with one name the later one counts.
 use Rattle.std.proofs.Common.{◌≡◌, ℕ, ℤ, ◌==◌, Bool, true, false, cond, List, [], ◌∷◌, ◌++◌, Option, Some, None, refl, sym, ap, ◌∙◌, subst, arith}
 use Rattle.std.specs.Prelude.{codes, nat_eq, slice_get}
 use Rattle.std.specs.Cmp.Lexicographic.{pointwise}
@@ -24,11 +25,13 @@ use Rattle.gc_catalogue.specs.declared.answer.Answer.TheVariants.{Nothing, Short
 use Rattle.gc_catalogue.specs.declared.answer.Reading.TheVariants.{Value as Answers}
 use Rattle.gc_catalogue.specs.declared.call.Call.{Call}
 use Rattle.gc_catalogue.specs.declared.call.Call.TheVariants.{GetFace, GetPrism}
-use Rattle.gc_texts.specs.Endings.{End, Answered, Unreadable, Elsewhere, Late, Lost, Skipped, Missed, word_of, line_of}
+use Rattle.gc_texts.specs.Endings.{End, Answered, Unreadable, Elsewhere, Late, Lost, Skipped, Missed, word_of, line_of, quality_of, quality_text}
 use Rattle.gc_texts.specs.Logs.{escape, escaped}
 use Rattle.gc_texts.specs.Stamps.{stamp_text}
 use Rattle.gc_texts.specs.declared.commands.Command.{Command}
-use Rattle.gc_rows.specs.JsonLines.{Member, Text, Number, ending_members, json_members, quantity_members, sent_members, values_members, what_members, when_members, without_zeros}
+use Rattle.gc_texts.specs.declared.quality.Quality.{Quality}
+use Rattle.gc_texts.specs.declared.quality.Quality.TheVariants as quality
+use Rattle.gc_rows.specs.JsonLines.{Member, Text, Number, ending_members, json_members, last_members, more_members, quantity_members, sent_members, values_members, what_members, when_members, without_zeros, worded_members}
 use Rattle.gc_rows.specs.Laws.{members_read, record_read}
 use Rattle.gc_rows.specs.Quantities.{column_of, quantity_names, quantity_text}
 use Rattle.gc_rows.specs.Rows.{code_of, com_of, values_of}
@@ -40,22 +43,25 @@ use Rattle.gc_promise.specs.Objects.{text_of}
 use Rattle.gc_promise.proofs.Names.{all_at, texts_of, word_plain}
 use Rattle.gc_promise.proofs.Plain.{decimal_plain, digits_plain}
 
--- Members one behind the other: the last of a name is found.
+-- Members one after the other: the last of a name is found.
 
 -- what is found under a name among members
 abbrev find : List ℕ → List Member → Option json.Json
 find key ms = get_member key (members_read ms)
 
+-- `later_or` takes the later of two results of a search, if something was found there, and else the earlier one. Here there is
+-- no earlier one
 later_none : (o : Option json.Json) → o ≡ later_or o None
 later_none None = refl
 later_none (Some j) = refl
 
+-- `later_or` is associative
 later_three : (a b c : Option json.Json) → later_or (later_or a b) c ≡ later_or a (later_or b c)
 later_three None b c = refl
 later_three (Some j) b c = refl
 
--- what is found under a name among members and others behind them is found among the later ones, if it stands there, and else
--- among the first
+-- what is found under a name among two lists of members, joined, is what is found among the second, `ys`, if it stands there,
+-- and else what is found among the first
 find_both : (key : List ℕ) (xs ys : List Member) → find key (xs ++ ys) ≡ later_or (find key ys) (find key xs)
 find_both key [] ys = later_none (find key ys)
 find_both key (Text name bytes ∷ xs) ys =
@@ -75,17 +81,18 @@ LacksAll ms keys = AllByRecursion (λ (key : List ℕ). find key ms ≡ None) ke
 abbrev firsts : List (List ℕ)
 firsts = codes "cycle" ∷ codes "place" ∷ codes "target" ∷ codes "procedure" ∷ codes "outcome" ∷ codes "rc_com" ∷ codes "rc" ∷ codes "values" ∷ []
 
--- no quantity of this answer has one of these names
+-- no member for a quantity of this answer has one of the names of `firsts`. `came` are the parameters of the reply, as its line
+-- has them
 abbrev IsApart : Call → Answer → List ℕ → Type 0
 IsApart call answer came = LacksAll (values_members (column_of call answer) (answer_fields answer).values came) firsts
 
--- a whole number's quantity has none of these names
+-- `IsApart` holds of an answer that is a whole number
 long_apart : (call : Call) (n : ℤ) (came : List ℕ) → IsApart call (Long n) came
 long_apart GetFace n came = (refl, (refl, (refl, (refl, (refl, (refl, (refl, (refl, tt))))))))
 long_apart GetPrism n came = (refl, (refl, (refl, (refl, (refl, (refl, (refl, (refl, tt))))))))
 long_apart call n came = (refl, (refl, (refl, (refl, (refl, (refl, (refl, (refl, tt))))))))
 
--- an answer's quantities have none of these names
+-- `IsApart` holds of each answer
 answer_apart : (call : Call) (answer : Answer) (came : List ℕ) → IsApart call answer came
 answer_apart call Nothing came = (refl, (refl, (refl, (refl, (refl, (refl, (refl, (refl, tt))))))))
 answer_apart call (Short n) came = (refl, (refl, (refl, (refl, (refl, (refl, (refl, (refl, tt))))))))
@@ -102,8 +109,8 @@ answer_apart call (MeasuredMode hz v distance mode) came = (refl, (refl, (refl, 
 
 -- no member for a quantity has one of the names of `firsts`
 quantities_apart : (call : Call) (end : End) → LacksAll (quantity_members call end) firsts
-quantities_apart call (Answered (Some answer) line) = answer_apart call answer (values_of line)
-quantities_apart call (Answered None line) = (refl, (refl, (refl, (refl, (refl, (refl, (refl, (refl, tt))))))))
+quantities_apart call (Answered quality (Some answer) line) = answer_apart call answer (values_of line)
+quantities_apart call (Answered quality None line) = (refl, (refl, (refl, (refl, (refl, (refl, (refl, (refl, tt))))))))
 quantities_apart call (Unreadable line fault) = (refl, (refl, (refl, (refl, (refl, (refl, (refl, (refl, tt))))))))
 quantities_apart call (Elsewhere line) = (refl, (refl, (refl, (refl, (refl, (refl, (refl, (refl, tt))))))))
 quantities_apart call Late = (refl, (refl, (refl, (refl, (refl, (refl, (refl, (refl, tt))))))))
@@ -111,9 +118,60 @@ quantities_apart call Lost = (refl, (refl, (refl, (refl, (refl, (refl, (refl, (r
 quantities_apart call Skipped = (refl, (refl, (refl, (refl, (refl, (refl, (refl, (refl, tt))))))))
 quantities_apart call Missed = (refl, (refl, (refl, (refl, (refl, (refl, (refl, (refl, tt))))))))
 
--- the members on how a command ended have neither the first four of these names nor one of a quantity
+-- the member for a quality has none of the names of `firsts`, and no name of a quantity
+worded_apart : (word : List ℕ) → LacksAll (worded_members word) firsts
+worded_apart [] = (refl, (refl, (refl, (refl, (refl, (refl, (refl, (refl, tt))))))))
+worded_apart (b ∷ bs) = (refl, (refl, (refl, (refl, (refl, (refl, (refl, (refl, tt))))))))
+
+worded_without : (word : List ℕ) → LacksAll (worded_members word) quantity_names
+worded_without [] =
+    (refl, (refl, (refl, (refl, (refl, (refl, (refl, (refl, (refl, (refl, (refl, (refl, (refl, (refl, (refl, (refl, (refl, (refl, (refl, (refl, (refl, (refl, (refl, (refl, tt))))))))))))))))))))))))
+worded_without (b ∷ bs) =
+    (refl, (refl, (refl, (refl, (refl, (refl, (refl, (refl, (refl, (refl, (refl, (refl, (refl, (refl, (refl, (refl, (refl, (refl, (refl, (refl, (refl, (refl, (refl, (refl, tt))))))))))))))))))))))))
+
+-- the word of a quality is found under `quality`, if there is one
+worded_found : (o : Option Quality) → text_of (find (codes "quality") (worded_members (quality_text o))) ≡ quality_text o
+worded_found (Some quality.Fine) = refl
+worded_found (Some quality.Warning) = refl
+worded_found (Some quality.Refused) = refl
+worded_found None = refl
+
+-- no member for a quantity has the name `quality`
+long_unqualified : (call : Call) (n : ℤ) (came : List ℕ) → find (codes "quality") (values_members (column_of call (Long n)) (answer_fields (Long n)).values came) ≡ None
+long_unqualified GetFace n came = refl
+long_unqualified GetPrism n came = refl
+long_unqualified call n came = refl
+
+answer_unqualified : (call : Call) (answer : Answer) (came : List ℕ) → find (codes "quality") (values_members (column_of call answer) (answer_fields answer).values came) ≡ None
+answer_unqualified call (Long n) came = long_unqualified call n came
+answer_unqualified call answer came = refl
+
+quantities_unqualified : (call : Call) (end : End) → find (codes "quality") (quantity_members call end) ≡ None
+quantities_unqualified call (Answered quality (Some answer) line) = answer_unqualified call answer (values_of line)
+quantities_unqualified call end = refl
+
+-- no member on how a command ended, on the command, or on when has the name `quality`
+ending_unqualified : (end : End) → find (codes "quality") (ending_members end) ≡ None
+ending_unqualified (Answered quality answer line) = refl
+ending_unqualified (Unreadable line fault) = refl
+ending_unqualified (Elsewhere line) = refl
+ending_unqualified Late = refl
+ending_unqualified Lost = refl
+ending_unqualified Skipped = refl
+ending_unqualified Missed = refl
+
+what_unqualified : (command : Command) (name : List ℕ) → find (codes "quality") (what_members command name) ≡ None
+what_unqualified command [] = refl
+what_unqualified command (b ∷ bs) = refl
+
+moment_unqualified : (sent : Option ℕ) (time cycle place : List ℕ)
+    → find (codes "quality") (sent_members sent ++ (Text (codes "time") time ∷ Number (codes "cycle") cycle ∷ Number (codes "place") place ∷ [])) ≡ None
+moment_unqualified None time cycle place = refl
+moment_unqualified (Some utc) time cycle place = refl
+
+-- no member on how a command ended has one of these four names
 ending_apart : (end : End) → LacksAll (ending_members end) (codes "cycle" ∷ codes "place" ∷ codes "target" ∷ codes "procedure" ∷ [])
-ending_apart (Answered answer line) = (refl, (refl, (refl, (refl, tt))))
+ending_apart (Answered quality answer line) = (refl, (refl, (refl, (refl, tt))))
 ending_apart (Unreadable line fault) = (refl, (refl, (refl, (refl, tt))))
 ending_apart (Elsewhere line) = (refl, (refl, (refl, (refl, tt))))
 ending_apart Late = (refl, (refl, (refl, (refl, tt))))
@@ -123,7 +181,7 @@ ending_apart Missed = (refl, (refl, (refl, (refl, tt))))
 
 -- no member on how a command ended has the name of a quantity
 ending_without : (end : End) → LacksAll (ending_members end) quantity_names
-ending_without (Answered answer line) =
+ending_without (Answered quality answer line) =
     (refl, (refl, (refl, (refl, (refl, (refl, (refl, (refl, (refl, (refl, (refl, (refl, (refl, (refl, (refl, (refl, (refl, (refl, (refl, (refl, (refl, (refl, (refl, (refl, tt))))))))))))))))))))))))
 ending_without (Unreadable line fault) =
     (refl, (refl, (refl, (refl, (refl, (refl, (refl, (refl, (refl, (refl, (refl, (refl, (refl, (refl, (refl, (refl, (refl, (refl, (refl, (refl, (refl, (refl, (refl, (refl, tt))))))))))))))))))))))))
@@ -173,7 +231,7 @@ what_found command (b ∷ bs) = (refl, refl)
 
 -- the word of the ending is found under `outcome`
 outcome_found : (end : End) → find (codes "outcome") (ending_members end) ≡ Some (json.string (escaped (word_of end)))
-outcome_found (Answered answer line) = refl
+outcome_found (Answered quality answer line) = refl
 outcome_found (Unreadable line fault) = refl
 outcome_found (Elsewhere line) = refl
 outcome_found Late = refl
@@ -187,12 +245,13 @@ record IsFound (ms : List Member) (line : List ℕ) : Type 0 where
   rc : find (codes "rc") ms ≡ Some (json.number (without_zeros (code_of line)))
   values : find (codes "values") ms ≡ Some (json.string (escaped (values_of line)))
 
+-- two lines are equal where `Some` of the one equals `Some` of the other
 some_line : (x y : List ℕ) → Some x ≡ Some y → x ≡ y
 some_line x y e = cc
 
 -- the codes and parameters of the line that ended a command are found among the members on its ending
 line_found : (end : End) (line : List ℕ) → line_of end ≡ Some line → IsFound (ending_members end) line
-line_found (Answered answer l) line e = subst (IsFound (ending_members (Answered answer l))) (some_line l line e) (record { rc_com = refl; rc = refl; values = refl })
+line_found (Answered quality answer l) line e = subst (IsFound (ending_members (Answered quality answer l))) (some_line l line e) (record { rc_com = refl; rc = refl; values = refl })
 line_found (Unreadable l fault) line e = subst (IsFound (ending_members (Unreadable l fault))) (some_line l line e) (record { rc_com = refl; rc = refl; values = refl })
 line_found (Elsewhere l) line e = subst (IsFound (ending_members (Elsewhere l))) (some_line l line e) (record { rc_com = refl; rc = refl; values = refl })
 line_found Late line e = cc
@@ -209,6 +268,7 @@ zeros_gone (b ∷ []) n is = is
 zeros_gone (b ∷ c ∷ rest) n is =
     cond_both (b == 48) (without_zeros (c ∷ rest)) (b ∷ c ∷ rest) (λ (l : List ℕ). IsNumber l n)
     (λ zero_first. zeros_gone (c ∷ rest) n (behind_zero (eqb-true b 48 zero_first) is)) (λ other. is) where
+      -- a number without a zero in front is the same number
       behind_zero : b ≡ 48 → IsNumber (b ∷ c ∷ rest) n → IsNumber (c ∷ rest) n
       behind_zero e h =
           let at_zero : IsNumber (48 ∷ c ∷ rest) n = subst (λ (x : ℕ). IsNumber (x ∷ c ∷ rest) n) e h in
@@ -216,41 +276,45 @@ zeros_gone (b ∷ c ∷ rest) n is =
 
 -- Numbers stand as they are.
 
--- escaping leaves two texts, one behind the other, if it leaves both
+-- where escaping changes nothing in either of two texts, it changes nothing in the two joined
 plain_both : (xs ys : List ℕ) → escaped xs ≡ xs → escaped ys ≡ ys → escaped (xs ++ ys) ≡ xs ++ ys
 plain_both xs ys a b = flat_map-append escape xs ys ∙ ap (λ (l : List ℕ). l ++ escaped ys) a ∙ ap (λ (l : List ℕ). xs ++ l) b
 
+-- escaping changes nothing in a minus sign, where there is one
 minus_plain : (negative : Bool) → escaped (minus_where negative) ≡ minus_where negative
 minus_plain true = refl
 minus_plain false = refl
 
+-- escaping changes nothing in a text in the form of a whole number
 whole_plain : (text : List ℕ) → HasWholeForm text → escaped text ≡ text
 whole_plain text form =
     subst (λ (t : List ℕ). escaped t ≡ t) (sym form.text_is)
     (plain_both (minus_where form.negative) form.digits (minus_plain form.negative) (digits_plain form.digits form.digits_are.are_digits))
 
+-- escaping changes nothing in a point (46) and digits after it
 point_plain : (ds : List ℕ) → AreDigits ds → escaped (46 ∷ ds) ≡ 46 ∷ ds
 point_plain ds are = ap (λ (l : List ℕ). 46 ∷ l) (digits_plain ds are)
 
+-- escaping changes nothing in a text in the form of a decimal
 fraction_plain : (text : List ℕ) → HasDecimalForm text → escaped text ≡ text
 fraction_plain text form =
     subst (λ (t : List ℕ). escaped t ≡ t) (sym form.text_is)
     (plain_both (minus_where form.negative) (form.whole ++ 46 ∷ form.fraction) (minus_plain form.negative)
     (plain_both form.whole (46 ∷ form.fraction) (digits_plain form.whole form.whole_is.are_digits) (point_plain form.fraction form.fraction_is.are_digits)))
 
--- escaping leaves this text
+-- escaping changes nothing in this text
 abbrev pub IsPlain : List ℕ → Type 0
 IsPlain text = escaped text ≡ text
 
--- escaping leaves the text of a whole number
+-- escaping changes nothing in the text of a whole number
 pub signed_plain : (n : ℤ) → IsPlain (signed_text n)
 signed_plain n = whole_plain (signed_text n) ((whole_text_once n (signed_text n)).0 refl).0
 
--- escaping leaves the text of a decimal
+-- escaping changes nothing in the text of a decimal
 pub double_plain : (d : Decimal) → IsPlain (quantity_text (value.Double d))
 double_plain d = fraction_plain (written d.digits d.scale) ((decimal_text_once d (written d.digits d.scale)).0 refl).0
 
--- where escaping leaves all texts, it leaves the one under a name
+-- where escaping changes nothing in any of these texts, it changes nothing in the one under a name
 under_plain : (name : List ℕ) (names texts : List (List ℕ)) → AllByRecursion IsPlain texts → under name names texts ≡ escaped (under name names texts)
 under_plain name [] texts are = refl
 under_plain name (n ∷ names) [] are = refl
@@ -259,11 +323,13 @@ under_plain name (n ∷ names) (t ∷ texts) are =
 
 -- The quantities of an answer.
 
--- what stands in an answer's members under a name is what stands under it among these texts
+-- what stands under a name in an answer's members is what stands under that name among the answer's texts. `came` are the
+-- parameters of the reply, as its line has them
 abbrev AreUnder : Call → Answer → List ℕ → List ℕ → Type 0
 AreUnder call answer came name =
     text_of (find name (values_members (column_of call answer) (answer_fields answer).values came)) ≡ under name (names_from (column_of call answer) (answer_fields answer).values) (texts_of answer)
 
+-- `AreUnder` holds of a whole number, under each name of a quantity
 long_under : (call : Call) (n : ℤ) (came : List ℕ) → AllByRecursion (AreUnder call (Long n) came) quantity_names
 long_under GetFace n came =
     (refl, (refl, (refl, (refl, (refl, (refl, (refl, (refl, (refl, (refl, (refl, (refl, (refl, (refl, (refl, (refl, (refl, (refl, (refl, (refl, (refl, (refl, (refl, (refl, tt))))))))))))))))))))))))
@@ -272,6 +338,7 @@ long_under GetPrism n came =
 long_under call n came =
     (refl, (refl, (refl, (refl, (refl, (refl, (refl, (refl, (refl, (refl, (refl, (refl, (refl, (refl, (refl, (refl, (refl, (refl, (refl, (refl, (refl, (refl, (refl, (refl, tt))))))))))))))))))))))))
 
+-- `AreUnder` holds of each answer that isn't an instrument's name, under each name of a quantity
 answer_under : (call : Call) (answer : Answer) (came : List ℕ) → ((name : List ℕ) → answer ≡ Name name → ⊥) → AllByRecursion (AreUnder call answer came) quantity_names
 answer_under call Nothing came other =
     (refl, (refl, (refl, (refl, (refl, (refl, (refl, (refl, (refl, (refl, (refl, (refl, (refl, (refl, (refl, (refl, (refl, (refl, (refl, (refl, (refl, (refl, (refl, (refl, tt))))))))))))))))))))))))
@@ -296,11 +363,13 @@ answer_under call (Measured hz v distance) came other =
 answer_under call (MeasuredMode hz v distance mode) came other =
     (refl, (refl, (refl, (refl, (refl, (refl, (refl, (refl, (refl, (refl, (refl, (refl, (refl, (refl, (refl, (refl, (refl, (refl, (refl, (refl, (refl, (refl, (refl, (refl, tt))))))))))))))))))))))))
 
+-- under each name of a quantity, the member of an instrument's name has what its text has, escaped
 name_under : (call : Call) (bytes came : List ℕ)
     → AllByRecursion (λ (name : List ℕ). text_of (find name (values_members 17 (value.Text bytes ∷ []) came)) ≡ escaped (under name (codes "instrument" ∷ []) (bytes ∷ []))) quantity_names
 name_under call bytes came =
     (refl, (refl, (refl, (refl, (refl, (refl, (refl, (refl, (refl, (refl, (refl, (refl, (refl, (refl, (refl, (refl, (refl, (refl, (refl, (refl, (refl, (refl, (refl, (refl, tt))))))))))))))))))))))))
 
+-- escaping changes nothing in the texts of an answer that isn't an instrument's name
 texts_plain : (answer : Answer) → ((name : List ℕ) → answer ≡ Name name → ⊥) → AllByRecursion IsPlain (texts_of answer)
 texts_plain Nothing other = tt
 texts_plain (Short n) other = (signed_plain n, tt)
@@ -317,16 +386,20 @@ texts_plain (Measured hz v distance) other = (double_plain hz, (double_plain v, 
 texts_plain (MeasuredMode hz v distance mode) other = (double_plain hz, (double_plain v, (double_plain distance, (signed_plain mode, tt))))
 
 module _ (call : Call) (name : List ℕ) (k : ℕ) (is : slice_get quantity_names k ≡ Some name) where
+  -- under this name of a quantity, the members of an answer have what its texts have, escaped. `came` are the parameters of
+  -- the reply, as its line has them
   abbrev IsUnder : Answer → List ℕ → Type 0
   IsUnder answer came =
       text_of (find name (values_members (column_of call answer) (answer_fields answer).values came))
       ≡ escaped (under name (names_from (column_of call answer) (answer_fields answer).values) (texts_of answer))
 
+  -- `IsUnder` holds of each answer that isn't an instrument's name
   number_under : (answer : Answer) (came : List ℕ) → ((bytes : List ℕ) → answer ≡ Name bytes → ⊥) → IsUnder answer came
   number_under answer came other =
       all_at (AreUnder call answer came) quantity_names (answer_under call answer came other) k name is
       ∙ under_plain name (names_from (column_of call answer) (answer_fields answer).values) (texts_of answer) (texts_plain answer other)
 
+  -- `IsUnder` holds of each answer
   is_under : (answer : Answer) (came : List ℕ) → IsUnder answer came
   is_under (Name bytes) came =
       all_at (λ (n : List ℕ). text_of (find n (values_members 17 (value.Text bytes ∷ []) came)) ≡ escaped (under n (codes "instrument" ∷ []) (bytes ∷ []))) quantity_names
@@ -344,25 +417,37 @@ module _ (call : Call) (name : List ℕ) (k : ℕ) (is : slice_get quantity_name
   is_under (MeasuredMode hz v distance mode) came = number_under (MeasuredMode hz v distance mode) came (λ bytes e. cc)
 
   -- under the name of a quantity stands the answer's quantity of that name
-  pub member_stands : (answer : Answer) (line : List ℕ) → IsAnswerOf call answer → text_of (find name (quantity_members call (Answered (Some answer) line))) ≡ escaped (quantity_in call (Answers answer) name)
-  member_stands answer line of_call =
+  pub member_stands : (quality : Quality) (answer : Answer) (line : List ℕ) → IsAnswerOf call answer
+      → text_of (find name (quantity_members call (Answered quality (Some answer) line))) ≡ escaped (quantity_in call (Answers answer) name)
+  member_stands quality answer line of_call =
       is_under answer (values_of line) ∙ ap (λ (names : List (List ℕ)). escaped (under name names (texts_of answer))) (have_their_names call answer of_call)
 
 -- All members of a record.
 
 module _ (when : When) (text : List ℕ) (command : Command) (end : End) where
+  -- the members for the record's quantities
   abbrev quantities : List Member
   quantities = quantity_members command.call end
 
+  abbrev last : List Member
+  last = last_members end
+
+  abbrev more : List Member
+  more = more_members command.call end
+
+  -- the members on how the command ended
   abbrev ending : List Member
   ending = ending_members end
 
+  -- the members on the command
   abbrev what : List Member
   what = what_members command text
 
+  -- the members on when and where
   abbrev moments : List Member
   moments = when_members when
 
+  -- all members of the record's object, as a reader gives them
   abbrev members_of : json.Members
   members_of = record_read when.run (json_members when text command end)
 
@@ -370,23 +455,30 @@ module _ (when : When) (text : List ℕ) (command : Command) (end : End) where
   abbrev pub at_member : List ℕ → List ℕ
   at_member key = text_of (get_member key members_of)
 
+  -- the member `run`, the moment at which the run began, if that is the key
   abbrev started : List ℕ → Option json.Json
   started key = cond (bytes_eq (codes "run") key) (Some (json.string (escaped (stamp_text when.run)))) None
 
   -- what is found under a key in the object, by what is found there in each of its four groups of members
-  found_at : (key : List ℕ) (a b c d : Option json.Json) → find key quantities ≡ a → find key ending ≡ b → find key what ≡ c → find key moments ≡ d
+  found_at : (key : List ℕ) (a b c d : Option json.Json) → find key more ≡ a → find key ending ≡ b → find key what ≡ c → find key moments ≡ d
       → at_member key ≡ text_of (later_or (later_or (later_or (later_or a b) c) d) (started key))
   found_at key a b c d ea eb ec ed =
       ap (λ (o : Option json.Json). text_of (later_or o (started key)))
-      (find_both key moments (what ++ (ending ++ quantities))
+      (find_both key moments (what ++ (ending ++ more))
       ∙ ap (λ (o : Option json.Json). later_or o (find key moments))
-      (find_both key what (ending ++ quantities)
-      ∙ ap (λ (o : Option json.Json). later_or o (find key what)) (find_both key ending quantities ∙ ap (λ (o : Option json.Json). later_or o (find key ending)) ea ∙ ap (later_or a) eb)
+      (find_both key what (ending ++ more)
+      ∙ ap (λ (o : Option json.Json). later_or o (find key what)) (find_both key ending more ∙ ap (λ (o : Option json.Json). later_or o (find key ending)) ea ∙ ap (later_or a) eb)
       ∙ ap (later_or (later_or a b)) ec)
       ∙ ap (later_or (later_or (later_or a b) c)) ed)
 
-  abbrev apart : LacksAll quantities firsts
-  apart = quantities_apart command.call end
+  -- no member for a quantity has one of the names of `firsts`
+  -- what the quantities and the quality lack, both together lack
+  lacks_more : (keys : List (List ℕ)) → LacksAll quantities keys → LacksAll last keys → LacksAll more keys
+  lacks_more [] a b = tt
+  lacks_more (key ∷ keys) a b = (find_both key quantities last ∙ ap (λ (o : Option json.Json). later_or o (find key quantities)) b.0 ∙ ap (later_or None) a.0, lacks_more keys a.1 b.1)
+
+  abbrev apart : LacksAll more firsts
+  apart = lacks_more firsts (quantities_apart command.call end) (worded_apart (quality_text (quality_of end)))
 
   -- under `cycle` the object has the record's cycle
   pub member_cycle : at_member (codes "cycle") ≡ decimal when.stamp.cycle
@@ -420,36 +512,59 @@ module _ (when : When) (text : List ℕ) (command : Command) (end : End) where
       ∙ word_plain end
 
   module _ (line : List ℕ) (is : line_of end ≡ Some line) where
+    -- under `rc_com` the object has the communication code of the line that ended the command, without leading zeros
     pub member_rc_com : at_member (codes "rc_com") ≡ without_zeros (com_of line)
     member_rc_com =
         found_at (codes "rc_com") None (Some (json.number (without_zeros (com_of line)))) (find (codes "rc_com") what) (find (codes "rc_com") moments) apart.1.1.1.1.1.0
         (line_found end line is).rc_com refl refl
 
+    -- under `rc` the object has the return code of the line that ended the command, without leading zeros
     pub member_rc : at_member (codes "rc") ≡ without_zeros (code_of line)
     member_rc =
         found_at (codes "rc") None (Some (json.number (without_zeros (code_of line)))) (find (codes "rc") what) (find (codes "rc") moments) apart.1.1.1.1.1.1.0
         (line_found end line is).rc refl refl
 
+    -- under `values` the object has the values of the line that ended the command
     pub member_values : at_member (codes "values") ≡ escaped (values_of line)
     member_values =
         found_at (codes "values") None (Some (json.string (escaped (values_of line)))) (find (codes "values") what) (find (codes "values") moments) apart.1.1.1.1.1.1.1.0
         (line_found end line is).values refl refl
 
-  module _ (name : List ℕ) (k : ℕ) (is : slice_get quantity_names k ≡ Some name) where
-    not_started : started name ≡ None
-    not_started = all_at (λ (n : List ℕ). started n ≡ None) quantity_names none k name is where
-      none : AllByRecursion (λ (n : List ℕ). started n ≡ None) quantity_names
-      none =
-          (refl, (refl, (refl, (refl, (refl, (refl, (refl, (refl, (refl, (refl, (refl, (refl, (refl, (refl, (refl, (refl, (refl, (refl, (refl, (refl, (refl, (refl, (refl, (refl, tt))))))))))))))))))))))))
+  -- where only the last group of members has something under a name, that is what is found
+  last_found : (o : Option json.Json) → later_or (later_or (later_or (later_or o None) None) None) None ≡ o
+  last_found None = refl
+  last_found (Some j) = refl
 
-    last_found : (o : Option json.Json) → later_or (later_or (later_or (later_or o None) None) None) None ≡ o
-    last_found None = refl
-    last_found (Some j) = refl
+  -- under `quality` the object has the word of the answer's quality
+  pub member_quality : at_member (codes "quality") ≡ quality_text (quality_of end)
+  member_quality =
+      found_at (codes "quality") (find (codes "quality") last) None None None
+      (find_both (codes "quality") quantities last ∙ ap (later_or (find (codes "quality") last)) (quantities_unqualified command.call end) ∙ sym (later_none (find (codes "quality") last)))
+      (ending_unqualified end) (what_unqualified command text)
+      (moment_unqualified when.stamp.sent (stamp_text when.stamp.utc) (decimal when.stamp.cycle) (decimal when.stamp.place))
+      ∙ ap text_of (last_found (find (codes "quality") last))
+      ∙ worded_found (quality_of end)
+
+  module _ (name : List ℕ) (k : ℕ) (is : slice_get quantity_names k ≡ Some name) where
+    -- no name of a quantity is `run`
+    none_started : AllByRecursion (λ (n : List ℕ). started n ≡ None) quantity_names
+    none_started =
+        (refl, (refl, (refl, (refl, (refl, (refl, (refl, (refl, (refl, (refl, (refl, (refl, (refl, (refl, (refl, (refl, (refl, (refl, (refl, (refl, (refl, (refl, (refl, (refl, tt))))))))))))))))))))))))
+
+    -- a name of a quantity isn't `run`
+    not_started : started name ≡ None
+    not_started = all_at (λ (n : List ℕ). started n ≡ None) quantity_names none_started k name is
+
+    -- the quality has another name than the quantities
+    in_quantities : find name more ≡ find name quantities
+    in_quantities =
+        find_both name quantities last
+        ∙ ap (λ (o : Option json.Json). later_or o (find name quantities)) (all_at (λ (n : List ℕ). find n last ≡ None) quantity_names (worded_without (quality_text (quality_of end))) k name is)
 
     -- what stands under the name of a quantity stands among the quantities
     pub member_quantity : at_member name ≡ text_of (find name quantities)
     member_quantity =
-        found_at name (find name quantities) None None None refl
+        found_at name (find name quantities) None None None in_quantities
         (all_at (λ (n : List ℕ). find n ending ≡ None) quantity_names (ending_without end) k name is)
         (all_at (λ (n : List ℕ). find n what ≡ None) quantity_names (what_without command text) k name is)
         (all_at (λ (n : List ℕ). find n moments ≡ None) quantity_names

@@ -1,4 +1,5 @@
--- The rows that are left of a run, by what its clauses say of its acts and by the laws on files of rows.
+-- The rows that are left of a run that was killed: what the run's contract says of its acts, and the laws on files of rows, put
+-- together.
 use Rattle.std.proofs.Common.{◌≡◌, ◌⊎◌, ℕ, ◌≤◌, Bool, true, false, List, [], ◌∷◌, ◌++◌, take, Option, Some, None, Result, inl, inr, refl, sym, ◌∙◌, ap, subst, append_assoc, append-nil}
 use Rattle.std.proofs.lemmas.List.{append_cancel_left}
 use Rattle.std.specs.Prelude.{not, if◌then◌else◌}
@@ -24,7 +25,7 @@ use Rattle.gc_messages.specs.declared.following.Followed.{Followed}
 use Rattle.gc_station.specs.declared.tally.Tally.{Tally}
 use Rattle.gc_words.specs.Stations.{begun_at}
 use Rattle.gc_words.specs.Stations as words
-use Rattle.gc_words.specs.declared.station.Station.{Station}
+use Rattle.gc_words.specs.declared.settings.Settings.{Settings}
 use Rattle.gc_measuring.specs.declared.stop.Stop.{Stop}
 use Rattle.gc_lines.specs.declared.ports.Source.{Ghosts as Source}
 use Rattle.gc_lines.specs.declared.ports.Sink.{Ghosts as Sink}
@@ -37,25 +38,28 @@ use Rattle.gc_promise.proofs.Staying.{run_by, is_run, happen_two, life_two, part
 
 -- What the clauses say.
 
--- nothing stands in front of the rows of a file
+-- nothing stands in front of the rows of a file whose header stands already
 between_is : (course : Course) (between : Option (List ℕ)) → course.layout.headed ≡ true → Appends (Some []) between (front_text course.layout) → between ≡ Some []
 between_is course None headed front = absurd front
 between_is course (Some bytes) headed front =
     let none : front_text course.layout ≡ [] = rw (headed) refl in
     ap (λ (l : List ℕ). Some l) (front ∙ none)
 
--- What `append_at` tells is such a run.
+-- What `append_at` tells is a run of a file.
 
+-- two values are equal where `Some` of the one equals `Some` of the other
 same_file : {A : Type 0} (x y : A) → ◌≡◌ {A = Option A} (Some x) (Some y) → x ≡ y
 same_file x y is = cc
 
--- such a run between these places
+-- no act was made between these places, or there is a run of this file between them, with these acts
 abbrev Found : (R : Type 0) → Places → Places → List Act → Followed R → Type 0
 Found R old new told file =
     (new.turns ≡ old.turns)
     ⊎ ((run : RunOfFile R) × IsRunOfFile run × (run.file ≡ file) × (run.told ≡ told) × (run.old.turns ≡ old.turns) × (run.new.turns ≡ new.turns))
 
-found : {R : Type 0} (station : Station) (given : List ℕ) (old new : Places) (end : Result Tally Stop) (told : List Act) (file : Followed R)
+-- where a station measured over a link that had told no acts, into a file that had taken no bytes, there is a run of the file
+-- with these acts and bytes, or no act was made
+found : {R : Type 0} (station : Settings) (given : List ℕ) (old new : Places) (end : Result Tally Stop) (told : List Act) (file : Followed R)
     → station.layout.headed ≡ true → old.acts ≡ Some [] → new.acts ≡ Some told → old.taken ≡ Some [] → new.taken ≡ Some (bytes_in file)
     → Measures given station 18446744073709551615 old new end → Found R old new told file
 found station given old new end told file headed none acts fresh took (inl (stop, is, refuses, unused)) = inl unused.turns
@@ -69,6 +73,7 @@ found station given old new end told file headed none acts fresh took (inr (task
   refl,
 )
 
+-- what `append_at` tells is a run of the file that it hands back, or no act was made
 pub appends_are_runs : {S R : Type 0} (source : Source S) (sink : Sink (Followed R)) (K E : Type 0) → ((f : Followed R) → sink.taken f ≡ Some (bytes_in f)) → AppendsAreRuns source sink K E
 appends_are_runs source sink K E taken lasts shown has_log station old new file acts turns turns' status tells = elim tells.run.ran [
   | inl ran ↦
@@ -83,12 +88,15 @@ appends_are_runs source sink K E taken lasts shown has_log station old new file 
 ]
 
 module _ {R : Type 0} (m : Moment R) (is : IsMoment m) (reads : Call → List ℕ → Reading) (are : AreReadings reads) where
+  -- the scope of the moment's run
   abbrev scope : Scope
   scope = record { turns = m.run.course.turns; reads = reads }
 
+  -- the text of a record, as the moment's run writes it
   abbrev text : Record → List ℕ
   text = text_in m.run.course.layout m.run.course.names
 
+  -- the moment's run, by its contract
   abbrev ran : RunsBehind m.run.course m.run.old m.run.new m.run.end
   ran = is.run.ran
 
@@ -118,24 +126,29 @@ module _ {R : Type 0} (m : Moment R) (is : IsMoment m) (reads : Call → List �
   end : Fronted m.run.course.plan m.run.course.tasks scope text m.run.told (bytes_in m.run.file)
   end = fronted m.run.course.plan m.run.course.tasks scope text m.run.told (bytes_in m.run.file) ran.end took
 
-  -- the rows of any acts end in a line feed
+  -- the rows of what any acts settle end in a line feed, unless there is none
   rows_whole : (acts : List Act) → whole (rows_by m.run.course reads acts) ≡ rows_by m.run.course reads acts
   rows_whole acts = texts_whole text (text_whole m.run.course.layout m.run.course.names) (stood m.run.course.plan m.run.course.tasks scope acts).records
 
   -- The file.
 
+  -- what the run wrote into files before this one
   abbrev earlier_bytes : List ℕ
   earlier_bytes = appended m.was.left.steps
 
+  -- what this file had taken at the moment's act
   abbrev taken : List ℕ
   taken = taken_in m.was.rows
 
+  -- the file's calls between the moment's act and the moment
   abbrev since : List Step
   since = is.reached.since
 
+  -- all rows that the run may write after what the file had taken at the moment's act
   abbrev rest : List ℕ
   rest = appended since ++ (appended is.reached.rest ++ end.own.rest)
 
+  -- what the file had taken at the moment's act ends in a line feed
   taken_whole : whole taken ≡ taken
   taken_whole = whole_rest earlier_bytes taken (rw (settled_by) (rows_whole m.done))
 
@@ -157,6 +170,7 @@ module _ {R : Type 0} (m : Moment R) (is : IsMoment m) (reads : Call → List �
       (append_assoc taken (appended since ++ appended is.reached.rest) end.own.rest
       ∙ ap (λ (l : List ℕ). taken ++ l) (append_assoc (appended since) (appended is.reached.rest) end.own.rest))
 
+  -- the rows that may follow (`rest`) end in a line feed, unless there are none
   rest_whole : whole rest ≡ rest
   rest_whole = whole_rest taken rest (whole_rest earlier_bytes (taken ++ rest) (subst (λ (l : List ℕ). whole l ≡ l) all_is (rows_whole end.acts)))
 
@@ -167,11 +181,13 @@ module _ {R : Type 0} (m : Moment R) (is : IsMoment m) (reads : Call → List �
       let isnt : not m.was.rows.unkept ≡ true = subst (λ (b : Bool). (if b then not m.was.rows.unkept else true) ≡ true) is.seen.synced lasts in
       m.was.rows.kept (not_true m.was.rows.unkept isnt)
     where
+      -- a truth value whose negation is true is false
       not_true : (b : Bool) → not b ≡ true → b ≡ false
       not_true true e = let wrong : false ≡ true = e in cc
       not_true false e = refl
 
-  -- where at least the lines that were taken at the turn are left, `AreLeft` holds of as many lines as are left
+  -- where the first `count` lines of the rows are left, at least as many as had been taken at the turn, `AreLeft` holds of
+  -- them
   left_of : (count : ℕ) → feeds taken ≤ count → AreLeft m reads (lines (take count (pieces (taken ++ rest))))
   left_of count least =
       let l = rows_left taken rest count taken_whole rest_whole least in
@@ -191,10 +207,11 @@ module _ {R : Type 0} (m : Moment R) (is : IsMoment m) (reads : Call → List �
 
   -- The run.
 
+  -- the run as the laws on files of rows have one: after the calls of its opening, those up to the moment
   abbrev run : List Step → Run
   run steps = run_by steps m.calls taken (taken ++ rest) None
 
-  -- the calls of a run of the file are those of a run
+  -- with an opening of a file that held these bytes, it is a run by the laws on files of rows
   runs_so : (head held : List ℕ) (steps : List Step) → Opens head held steps → IsRun head held (run steps)
   runs_so head held steps opens =
       let none : cuts_none ((steps_in m.was.rows ++ since) ++ is.reached.rest) ≡ true = subst (λ (l : List Step). cuts_none l ≡ true) calls_are m.run.file.rows.only_appends in
@@ -217,6 +234,7 @@ rows_outlast_crashes m is reads are head first heads earlier happen steps opens 
     let p = parted head (table head first) found earlier [] one_run (tables_last head first heads (earlier ++ one_run ∷ []) all found there) in
     (p.counts, lines (take p.count one_run.rows), p.first, left_of m is reads are p.count p.least, p.is ∙ last p.counts' p.others _)
   where
+    -- no runs have no rows
     last : (counts : List ℕ) → Counts [] counts → (l : List ℕ) → l ++ rows_of [] counts ≡ l
     last [] cs l = append-nil l
     last (n ∷ counts) cs l = absurd cs
@@ -241,6 +259,7 @@ rows_outlast_failures m is reads are head first heads earlier occur trusted step
     (subst (λ (rs : List Run). HasRows head (table head first) rs found) (runs_two earlier (event ∷ later) ∙ ap (λ (rs : List Run). runs_of earlier ++ rs) (event_runs one_run ending later)) has) in
     (p.counts, lines (take p.count one_run.rows), p.counts', p.first, left_of m is reads are p.count p.least, p.others, p.is)
   where
+    -- a run that ends in this way, in a file that isn't in doubt, and events that may occur after that, may occur as events
     occurs : (head : List ℕ) (sides : Sides) (doubted : Bool) (run : Run) (ending : Ending) (later : List Event) → doubted ≡ false → IsRun head (content sides.read) run
         → Ends sides run.steps ending → Occur is_trusted head (sides_ended sides run.steps ending) (doubt_of ending) later
         → Occur is_trusted head sides doubted (event_of run ending ∷ later)
@@ -248,11 +267,13 @@ rows_outlast_failures m is reads are head first heads earlier occur trusted step
         (trusted, is, subst (λ (d : Bool). Occur is_trusted head (sides_ended sides run.steps Stopped) d later) (sym trusted) then_)
     occurs head sides doubted run (Unsynced read disk) later trusted is ends then_ = (trusted, is, ends.0, ends.1, then_)
 
+    -- after a run that ends in this way, as an event, the file stands as its calls and its ending leave it
     event_sides : (sides : Sides) (run : Run) (ending : Ending) (later : List Event)
         → sides_after sides (event_of run ending ∷ later) ≡ sides_after (sides_ended sides run.steps ending) later
     event_sides sides run Stopped later = refl
     event_sides sides run (Unsynced read disk) later = refl
 
+    -- the runs of events that begin with this run are this run and those of the later events
     event_runs : (run : Run) (ending : Ending) (later : List Event) → runs_of (event_of run ending ∷ later) ≡ run ∷ runs_of later
     event_runs run Stopped later = refl
     event_runs run (Unsynced read disk) later = refl

@@ -3,6 +3,7 @@ mod Reading
 mod Names
 mod Taken
 mod Owning
+mod Judged
 mod Tabled
 mod Finding
 mod Unbroken

@@ -1,8 +1,10 @@
 -- What stands under a name in the row of a record.
-use Rattle.std.proofs.Common.{◌≡◌, ℕ, ℤ, zero, suc, Bool, true, false, List, [], ◌∷◌, ◌++◌, map, replicate, Option, Some, None, refl, ap, ◌∙◌, subst}
-use Rattle.std.specs.Prelude.{codes, slice_get}
+use Rattle.std.proofs.Common.{◌≡◌, ◌||◌, ℕ, ℤ, zero, suc, Bool, true, false, List, [], ◌∷◌, ◌++◌, length, map, replicate, Option, Some, None, if◌then◌else◌, refl, sym, ap, ◌∙◌, subst, arith}
+use Rattle.std.specs.Prelude.{codes, nat_eq, slice_get}
+use Rattle.std.specs.Cmp.Lexicographic.{pointwise}
 use Rattle.std.specs.Fmt.{decimal}
-use Rattle.std.specs.List.{AllByRecursion}
+use Rattle.std.specs.List.{AllByRecursion, list_any}
+use Rattle.std.proofs.lemmas.List.{length-map, map-append}
 use Rattle.gc_catalogue.specs.Answers.{answer_fields, IsAnswerOf}
 use Rattle.gc_catalogue.specs.Calls.{call_fields}
 use Rattle.gc_catalogue.specs.declared.answer.Answer.{Answer}
@@ -12,15 +14,18 @@ use Rattle.gc_catalogue.specs.declared.call.Call.{Call}
 use Rattle.gc_catalogue.specs.declared.call.Call.TheVariants.{GetFace, GetPrism}
 use Rattle.gc_values.specs.ValueFault.{fault_number}
 use Rattle.gc_values.specs.declared.value.Value.TheVariants as value
-use Rattle.gc_texts.specs.Endings.{End, Answered, Unreadable, Elsewhere, Late, Lost, Skipped, Missed, word_of, fault_of, line_of}
+use Rattle.gc_texts.specs.Endings.{End, Answered, Unreadable, Elsewhere, Late, Lost, Skipped, Missed, word_of, fault_of, line_of, quality_of, quality_text}
 use Rattle.gc_texts.specs.Logs.{escaped}
 use Rattle.gc_texts.specs.Stamps.{stamp_text}
 use Rattle.gc_texts.specs.declared.commands.Command.{Command}
+use Rattle.gc_texts.specs.declared.quality.Quality.{Quality}
+use Rattle.gc_texts.specs.declared.quality.Quality.TheVariants as quality
 use Rattle.gc_rows.specs.Quantities.{column_of, quantity_names, quantity_text}
-use Rattle.gc_rows.specs.Rows.{row_fields, moment_text, when_fields, what_fields, fault_field, reply_fields, more_fields, quantity_fields, com_of, code_of, values_of, spread}
+use Rattle.gc_rows.specs.Records.{last_names}
+use Rattle.gc_rows.specs.Rows.{row_fields, moment_text, when_fields, what_fields, fault_field, reply_fields, more_fields, quantity_fields, last_fields, com_of, code_of, values_of, spread}
 use Rattle.gc_rows.specs.Told.{names_from}
 use Rattle.gc_rows.specs.declared.when.When.{When}
-use Rattle.gc_rows.proofs.Told.{have_their_names}
+use Rattle.gc_rows.proofs.Told.{have_their_names, quantities_fill}
 use Rattle.gc_promise.specs.Fields.{under, quantity_in}
 use Rattle.gc_promise.specs.Tables.{header}
 use Rattle.gc_promise.proofs.Plain.{decimal_plain}
@@ -29,13 +34,62 @@ use Rattle.gc_promise.proofs.Plain.{decimal_plain}
 
 -- the word of an outcome stands in a field as it is
 pub word_plain : (end : End) → escaped (word_of end) ≡ word_of end
-word_plain (Answered answer line) = refl
+word_plain (Answered quality answer line) = refl
 word_plain (Unreadable line fault) = refl
 word_plain (Elsewhere line) = refl
 word_plain Late = refl
 word_plain Lost = refl
 word_plain Skipped = refl
 word_plain Missed = refl
+
+-- the word of a quality stands in a field as it is
+pub quality_plain : (o : Option Quality) → escaped (quality_text o) ≡ quality_text o
+quality_plain (Some quality.Fine) = refl
+quality_plain (Some quality.Warning) = refl
+quality_plain (Some quality.Refused) = refl
+quality_plain None = refl
+
+-- Columns behind columns.
+
+-- where a test passes or the others agree, a choice of the same first value agrees
+pick : (b : Bool) (f x y : List ℕ) → (b ≡ false → x ≡ y) → (if b then f else x) ≡ (if b then f else y)
+pick true f x y same = refl
+pick false f x y same = same refl
+
+-- a name is among these
+abbrev IsAmong : List ℕ → List (List ℕ) → Type 0
+IsAmong key names = list_any (λ name. pointwise nat_eq name key) names ≡ true
+
+-- under a name that is among the first names of a row stands what stands under it in the first fields
+under_front : (key : List ℕ) (names fields more others : List (List ℕ)) → length fields ≡ length names → IsAmong key names
+    → under key (names ++ more) (fields ++ others) ≡ under key names fields
+under_front key [] fields more others same among = cc
+under_front key (n ∷ names) [] more others same among = absurd (omega (arith, same))
+under_front key (n ∷ names) (f ∷ fields) more others same among =
+    pick (pointwise nat_eq n key) f (under key (names ++ more) (fields ++ others)) (under key names fields)
+    (λ other. under_front key names fields more others (omega (arith, same)) (sym (ap (λ b. b || list_any (λ name. pointwise nat_eq name key) names) other) ∙ among))
+
+-- under a name that isn't among the first names of a row stands what stands under it in the fields behind those
+under_behind : (key : List ℕ) (names fields more others : List (List ℕ)) → length fields ≡ length names → AllByRecursion (λ name. pointwise nat_eq name key ≡ false) names
+    → under key (names ++ more) (fields ++ others) ≡ under key more others
+under_behind key [] [] more others same none = refl
+under_behind key [] (f ∷ fields) more others same none = absurd (omega (arith, same))
+under_behind key (n ∷ names) [] more others same none = absurd (omega (arith, same))
+under_behind key (n ∷ names) (f ∷ fields) more others same none =
+    ap (λ b. if b then f else under key (names ++ more) (fields ++ others)) none.0 ∙ under_behind key names fields more others (omega (arith, same)) none.1
+
+-- each name of a quantity is among them, and none is the name of the quality
+all_among : AllByRecursion (λ key. IsAmong key quantity_names) quantity_names
+all_among =
+    (refl, (refl, (refl, (refl, (refl, (refl, (refl, (refl, (refl, (refl, (refl, (refl, (refl, (refl, (refl, (refl, (refl, (refl, (refl, (refl, (refl, (refl, (refl, (refl, tt))))))))))))))))))))))))
+
+none_quality : AllByRecursion (λ name. pointwise nat_eq name (codes "quality") ≡ false) quantity_names
+none_quality =
+    (refl, (refl, (refl, (refl, (refl, (refl, (refl, (refl, (refl, (refl, (refl, (refl, (refl, (refl, (refl, (refl, (refl, (refl, (refl, (refl, (refl, (refl, (refl, (refl, tt))))))))))))))))))))))))
+
+-- the quantities of a row have as many fields as names
+filled : (call : Call) (end : End) → length (map escaped (quantity_fields call end)) ≡ length quantity_names
+filled call end = length-map (quantity_fields call end) escaped ∙ quantities_fill call end
 
 module _ (when : When) (name : List ℕ) (command : Command) (end : End) where
   -- the field of this row under a name
@@ -72,15 +126,37 @@ module _ (when : When) (name : List ℕ) (command : Command) (end : End) where
   by_line columns line =
       stamp_text when.run ∷ (when_fields when ++ (what_fields command name ++ ((word_of end ∷ fault_field (fault_of end) ∷ reply_fields line) ++ more_fields columns command.call end)))
 
+  -- behind the line's fields stands what stands behind the first thirteen columns
+  last_alone : (line : Option (List ℕ)) → under (codes "quality") (header false) (map escaped (by_line false line)) ≡ escaped (quality_text (quality_of end))
+  last_alone None = refl
+  last_alone (Some line) = refl
+
+  last_behind : (line : Option (List ℕ)) → under (codes "quality") (header true) (map escaped (by_line true line))
+      ≡ under (codes "quality") (quantity_names ++ last_names) (map escaped (quantity_fields command.call end ++ last_fields end))
+  last_behind None = refl
+  last_behind (Some line) = refl
+
+  -- under `quality` a row has the word of the answer's quality
+  pub under_quality : (columns : Bool) → row_at columns (codes "quality") ≡ quality_text (quality_of end)
+  under_quality false = last_alone (line_of end) ∙ quality_plain (quality_of end)
+  under_quality true =
+      last_behind (line_of end)
+      ∙ ap (under (codes "quality") (quantity_names ++ last_names)) (map-append escaped (quantity_fields command.call end) (last_fields end))
+      ∙ under_behind (codes "quality") quantity_names (map escaped (quantity_fields command.call end)) last_names (map escaped (last_fields end)) (filled command.call end) none_quality
+      ∙ quality_plain (quality_of end)
+
   module _ (line : List ℕ) (is : line_of end ≡ Some line) where
+    -- under `rc_com` a row has the communication code of the line that ended the command
     pub under_rc_com : (columns : Bool) → row_at columns (codes "rc_com") ≡ escaped (com_of line)
     under_rc_com false = ap (λ (o : Option (List ℕ)). under (codes "rc_com") (header false) (map escaped (by_line false o))) is
     under_rc_com true = ap (λ (o : Option (List ℕ)). under (codes "rc_com") (header true) (map escaped (by_line true o))) is
 
+    -- under `rc` a row has the return code of the line that ended the command
     pub under_rc : (columns : Bool) → row_at columns (codes "rc") ≡ escaped (code_of line)
     under_rc false = ap (λ (o : Option (List ℕ)). under (codes "rc") (header false) (map escaped (by_line false o))) is
     under_rc true = ap (λ (o : Option (List ℕ)). under (codes "rc") (header true) (map escaped (by_line true o))) is
 
+    -- under `values` a row has the values of the line that ended the command
     pub under_values : (columns : Bool) → row_at columns (codes "values") ≡ escaped (values_of line)
     under_values false = ap (λ (o : Option (List ℕ)). under (codes "values") (header false) (map escaped (by_line false o))) is
     under_values true = ap (λ (o : Option (List ℕ)). under (codes "values") (header true) (map escaped (by_line true o))) is
@@ -94,98 +170,116 @@ all_at P [] all (suc k) x e = cc
 all_at P (y ∷ ys) all zero x e = let same : y ≡ x = cc in subst P same all.0
 all_at P (y ∷ ys) all (suc k) x e = all_at P ys all.1 k x e
 
--- behind the first thirteen columns stand those of quantities
+-- behind the first thirteen columns stand those of quantities, and that of the quality
 thirteen : (a b c d e f g h i j k l m : List ℕ) (others : List (List ℕ))
-    → AllByRecursion (λ (name : List ℕ). under name (header true) (a ∷ b ∷ c ∷ d ∷ e ∷ f ∷ g ∷ h ∷ i ∷ j ∷ k ∷ l ∷ m ∷ others) ≡ under name quantity_names others) quantity_names
+    → AllByRecursion (λ (name : List ℕ). under name (header true) (a ∷ b ∷ c ∷ d ∷ e ∷ f ∷ g ∷ h ∷ i ∷ j ∷ k ∷ l ∷ m ∷ others) ≡ under name (quantity_names ++ last_names) others) quantity_names
 thirteen a b c d e f g h i j k l m others =
     (refl, (refl, (refl, (refl, (refl, (refl, (refl, (refl, (refl, (refl, (refl, (refl, (refl, (refl, (refl, (refl, (refl, (refl, (refl, (refl, (refl, (refl, (refl, (refl, tt))))))))))))))))))))))))
 
 module _ (when : When) (text : List ℕ) (command : Command) where
-  -- under this name a row has what its quantities have
+  -- under this name a row has what its quantities and the quality behind them have
   abbrev IsBehind : End → List ℕ → Type 0
-  IsBehind end name = under name (header true) (map escaped (row_fields true when text command end)) ≡ under name quantity_names (map escaped (quantity_fields command.call end))
+  IsBehind end name =
+      under name (header true) (map escaped (row_fields true when text command end)) ≡ under name (quantity_names ++ last_names) (map escaped (quantity_fields command.call end ++ last_fields end))
 
+  -- under the names of quantities a row that is put together of these parts has what its last part, `others`, has
   by_parts : (word fault first code values : List ℕ) (others : List (List ℕ)) → AllByRecursion (λ (name : List ℕ).
       under name (header true) (map escaped (stamp_text when.run ∷ (when_fields when ++ (what_fields command text ++ (word ∷ fault ∷ first ∷ code ∷ values ∷ others)))))
-      ≡ under name quantity_names (map escaped others)) quantity_names
+      ≡ under name (quantity_names ++ last_names) (map escaped others)) quantity_names
   by_parts word fault first code values others =
       thirteen (escaped (stamp_text when.run)) (escaped (moment_text when.stamp.sent)) (escaped (stamp_text when.stamp.utc)) (escaped (decimal when.stamp.cycle))
       (escaped (decimal when.stamp.place)) (escaped (decimal command.target)) (escaped text) (escaped (decimal (call_fields command.call).number))
       (escaped word) (escaped fault) (escaped first) (escaped code) (escaped values) (map escaped others)
 
-  -- under each name of a quantity a row has what its quantities have, however the command ended
+  -- under each name of a quantity a row has what its quantities and the quality behind them have, however the command ended
   behind_others : (end : End) → AllByRecursion (IsBehind end) quantity_names
-  behind_others (Answered answer line) = by_parts (codes "answered") [] (com_of line) (code_of line) (values_of line) (quantity_fields command.call (Answered answer line))
-  behind_others (Unreadable line fault) = by_parts (codes "unreadable") (decimal (fault_number fault)) (com_of line) (code_of line) (values_of line) (replicate 24 [])
-  behind_others (Elsewhere line) = by_parts (codes "elsewhere") [] (com_of line) (code_of line) (values_of line) (replicate 24 [])
-  behind_others Late = by_parts (codes "late") [] [] [] [] (replicate 24 [])
-  behind_others Lost = by_parts (codes "lost") [] [] [] [] (replicate 24 [])
-  behind_others Skipped = by_parts (codes "skipped") [] [] [] [] (replicate 24 [])
-  behind_others Missed = by_parts (codes "missed") [] [] [] [] (replicate 24 [])
+  behind_others (Answered quality answer line) =
+      by_parts (codes "answered") [] (com_of line) (code_of line) (values_of line)
+      (quantity_fields command.call (Answered quality answer line) ++ last_fields (Answered quality answer line))
+  behind_others (Unreadable line fault) = by_parts (codes "unreadable") (decimal (fault_number fault)) (com_of line) (code_of line) (values_of line) (replicate 24 [] ++ [] ∷ [])
+  behind_others (Elsewhere line) = by_parts (codes "elsewhere") [] (com_of line) (code_of line) (values_of line) (replicate 24 [] ++ [] ∷ [])
+  behind_others Late = by_parts (codes "late") [] [] [] [] (replicate 24 [] ++ [] ∷ [])
+  behind_others Lost = by_parts (codes "lost") [] [] [] [] (replicate 24 [] ++ [] ∷ [])
+  behind_others Skipped = by_parts (codes "skipped") [] [] [] [] (replicate 24 [] ++ [] ∷ [])
+  behind_others Missed = by_parts (codes "missed") [] [] [] [] (replicate 24 [] ++ [] ∷ [])
 
 -- the texts of an answer in their columns
 abbrev pub texts_of : Answer → List (List ℕ)
 texts_of answer = map quantity_text (answer_fields answer).values
 
--- these texts stand under these names, from this column on
+-- where `texts` are put into the columns of quantities from the column `first` on, the field under `name` is the text that
+-- stands under this name among `names`
 abbrev Stand : ℕ → List (List ℕ) → List (List ℕ) → List ℕ → Type 0
 Stand first names texts name = under name quantity_names (map escaped (spread first texts)) ≡ escaped (under name names texts)
 
--- where there are no texts, none stand under the names of quantities; and below, the texts of an answer of each shape stand
--- under theirs
+-- where there are no texts, none stand under the names of quantities
 none_stand : AllByRecursion (Stand 0 [] []) quantity_names
 none_stand =
     (refl, (refl, (refl, (refl, (refl, (refl, (refl, (refl, (refl, (refl, (refl, (refl, (refl, (refl, (refl, (refl, (refl, (refl, (refl, (refl, (refl, (refl, (refl, (refl, tt))))))))))))))))))))))))
 
+-- two angles stand under their names
 two_stand : (a b : List ℕ) → AllByRecursion (Stand 0 (codes "hz_rad" ∷ codes "v_rad" ∷ []) (a ∷ b ∷ [])) quantity_names
 two_stand a b =
     (refl, (refl, (refl, (refl, (refl, (refl, (refl, (refl, (refl, (refl, (refl, (refl, (refl, (refl, (refl, (refl, (refl, (refl, (refl, (refl, (refl, (refl, (refl, (refl, tt))))))))))))))))))))))))
 
+-- two angles and a distance stand under their names
 three_stand : (a b c : List ℕ) → AllByRecursion (Stand 0 (codes "hz_rad" ∷ codes "v_rad" ∷ codes "distance_m" ∷ []) (a ∷ b ∷ c ∷ [])) quantity_names
 three_stand a b c =
     (refl, (refl, (refl, (refl, (refl, (refl, (refl, (refl, (refl, (refl, (refl, (refl, (refl, (refl, (refl, (refl, (refl, (refl, (refl, (refl, (refl, (refl, (refl, (refl, tt))))))))))))))))))))))))
 
+-- two angles, a distance and a mode stand under their names
 four_stand : (a b c d : List ℕ) → AllByRecursion (Stand 0 (codes "hz_rad" ∷ codes "v_rad" ∷ codes "distance_m" ∷ codes "mode" ∷ []) (a ∷ b ∷ c ∷ d ∷ [])) quantity_names
 four_stand a b c d =
     (refl, (refl, (refl, (refl, (refl, (refl, (refl, (refl, (refl, (refl, (refl, (refl, (refl, (refl, (refl, (refl, (refl, (refl, (refl, (refl, (refl, (refl, (refl, (refl, tt))))))))))))))))))))))))
 
+-- the coordinates of a station and its instrument's height stand under their names
 place_stand : (a b c d : List ℕ) → AllByRecursion (Stand 4 (codes "easting_m" ∷ codes "northing_m" ∷ codes "height_m" ∷ codes "instrument_height_m" ∷ []) (a ∷ b ∷ c ∷ d ∷ [])) quantity_names
 place_stand a b c d =
     (refl, (refl, (refl, (refl, (refl, (refl, (refl, (refl, (refl, (refl, (refl, (refl, (refl, (refl, (refl, (refl, (refl, (refl, (refl, (refl, (refl, (refl, (refl, (refl, tt))))))))))))))))))))))))
 
+-- a reflector's height stands under its name
 reflector_stands : (a : List ℕ) → AllByRecursion (Stand 8 (codes "reflector_height_m" ∷ []) (a ∷ [])) quantity_names
 reflector_stands a =
     (refl, (refl, (refl, (refl, (refl, (refl, (refl, (refl, (refl, (refl, (refl, (refl, (refl, (refl, (refl, (refl, (refl, (refl, (refl, (refl, (refl, (refl, (refl, (refl, tt))))))))))))))))))))))))
 
+-- a face stands under its name
 face_stands : (a : List ℕ) → AllByRecursion (Stand 9 (codes "face" ∷ []) (a ∷ [])) quantity_names
 face_stands a =
     (refl, (refl, (refl, (refl, (refl, (refl, (refl, (refl, (refl, (refl, (refl, (refl, (refl, (refl, (refl, (refl, (refl, (refl, (refl, (refl, (refl, (refl, (refl, (refl, tt))))))))))))))))))))))))
 
+-- a prism type stands under its name
 prism_stands : (a : List ℕ) → AllByRecursion (Stand 10 (codes "prism_type" ∷ []) (a ∷ [])) quantity_names
 prism_stands a =
     (refl, (refl, (refl, (refl, (refl, (refl, (refl, (refl, (refl, (refl, (refl, (refl, (refl, (refl, (refl, (refl, (refl, (refl, (refl, (refl, (refl, (refl, (refl, (refl, tt))))))))))))))))))))))))
 
+-- a temperature stands under its name
 temperature_stands : (a : List ℕ) → AllByRecursion (Stand 11 (codes "temperature_c" ∷ []) (a ∷ [])) quantity_names
 temperature_stands a =
     (refl, (refl, (refl, (refl, (refl, (refl, (refl, (refl, (refl, (refl, (refl, (refl, (refl, (refl, (refl, (refl, (refl, (refl, (refl, (refl, (refl, (refl, (refl, (refl, tt))))))))))))))))))))))))
 
+-- a number of places stands under its name
 places_stand : (a : List ℕ) → AllByRecursion (Stand 12 (codes "places" ∷ []) (a ∷ [])) quantity_names
 places_stand a =
     (refl, (refl, (refl, (refl, (refl, (refl, (refl, (refl, (refl, (refl, (refl, (refl, (refl, (refl, (refl, (refl, (refl, (refl, (refl, (refl, (refl, (refl, (refl, (refl, tt))))))))))))))))))))))))
 
+-- the three numbers of a version stand under their names
 version_stands : (a b c : List ℕ) → AllByRecursion (Stand 13 (codes "release" ∷ codes "version" ∷ codes "subversion" ∷ []) (a ∷ b ∷ c ∷ [])) quantity_names
 version_stands a b c =
     (refl, (refl, (refl, (refl, (refl, (refl, (refl, (refl, (refl, (refl, (refl, (refl, (refl, (refl, (refl, (refl, (refl, (refl, (refl, (refl, (refl, (refl, (refl, (refl, tt))))))))))))))))))))))))
 
+-- a serial number stands under its name
 serial_stands : (a : List ℕ) → AllByRecursion (Stand 16 (codes "serial" ∷ []) (a ∷ [])) quantity_names
 serial_stands a =
     (refl, (refl, (refl, (refl, (refl, (refl, (refl, (refl, (refl, (refl, (refl, (refl, (refl, (refl, (refl, (refl, (refl, (refl, (refl, (refl, (refl, (refl, (refl, (refl, tt))))))))))))))))))))))))
 
+-- an instrument's name stands under its name
 name_stands : (a : List ℕ) → AllByRecursion (Stand 17 (codes "instrument" ∷ []) (a ∷ [])) quantity_names
 name_stands a =
     (refl, (refl, (refl, (refl, (refl, (refl, (refl, (refl, (refl, (refl, (refl, (refl, (refl, (refl, (refl, (refl, (refl, (refl, (refl, (refl, (refl, (refl, (refl, (refl, tt))))))))))))))))))))))))
 
-date_stands : (a b c d e f : List ℕ) → AllByRecursion (Stand 18 (codes "year" ∷ codes "month" ∷ codes "day" ∷ codes "hour" ∷ codes "minute" ∷ codes "second" ∷ []) (a ∷ b ∷ c ∷ d ∷ e ∷ f ∷ [])) quantity_names
+-- the six parts of a date and time stand under their names
+date_stands : (a b c d e f : List ℕ)
+    → AllByRecursion (Stand 18 (codes "year" ∷ codes "month" ∷ codes "day" ∷ codes "hour" ∷ codes "minute" ∷ codes "second" ∷ []) (a ∷ b ∷ c ∷ d ∷ e ∷ f ∷ [])) quantity_names
 date_stands a b c d e f =
     (refl, (refl, (refl, (refl, (refl, (refl, (refl, (refl, (refl, (refl, (refl, (refl, (refl, (refl, (refl, (refl, (refl, (refl, (refl, (refl, (refl, (refl, (refl, (refl, tt))))))))))))))))))))))))
 
@@ -193,6 +287,7 @@ date_stands a b c d e f =
 abbrev IsTold : Call → Answer → List ℕ → Type 0
 IsTold call answer = Stand (column_of call answer) (names_from (column_of call answer) (answer_fields answer).values) (texts_of answer)
 
+-- a whole number that answers this call stands under the name that it has for the call
 long_told : (call : Call) (n : ℤ) → AllByRecursion (IsTold call (Long n)) quantity_names
 long_told GetFace n = face_stands (quantity_text (value.Long n))
 long_told GetPrism n = prism_stands (quantity_text (value.Long n))
@@ -213,9 +308,10 @@ answer_told call (Place s) = place_stand (quantity_text (value.Double s.e0)) (qu
 answer_told call (Height h) = reflector_stands (quantity_text (value.Double h))
 answer_told call (Angles hz v) = two_stand (quantity_text (value.Double hz)) (quantity_text (value.Double v))
 answer_told call (Measured hz v distance) = three_stand (quantity_text (value.Double hz)) (quantity_text (value.Double v)) (quantity_text (value.Double distance))
-answer_told call (MeasuredMode hz v distance mode) = four_stand (quantity_text (value.Double hz)) (quantity_text (value.Double v)) (quantity_text (value.Double distance)) (quantity_text (value.Long mode))
+answer_told call (MeasuredMode hz v distance mode) =
+    four_stand (quantity_text (value.Double hz)) (quantity_text (value.Double v)) (quantity_text (value.Double distance)) (quantity_text (value.Long mode))
 
--- empty fields stand under all names of quantities where there is none
+-- where all fields of quantities are empty, the field under each name of one is empty
 blank : AllByRecursion (λ (name : List ℕ). under name quantity_names (map escaped (replicate 24 [])) ≡ []) quantity_names
 blank =
     (refl, (refl, (refl, (refl, (refl, (refl, (refl, (refl, (refl, (refl, (refl, (refl, (refl, (refl, (refl, (refl, (refl, (refl, (refl, (refl, (refl, (refl, (refl, (refl, tt))))))))))))))))))))))))
@@ -225,26 +321,32 @@ module _ (when : When) (text : List ℕ) (command : Command) (name : List ℕ) (
   abbrev field_of : End → List ℕ
   field_of end = under name (header true) (map escaped (row_fields true when text command end))
 
+  -- under this name a row has what the fields of its quantities have
   behind : (end : End) → field_of end ≡ under name quantity_names (map escaped (quantity_fields command.call end))
-  behind end = all_at (IsBehind when text command end) quantity_names (behind_others when text command end) k name is
+  behind end =
+      all_at (IsBehind when text command end) quantity_names (behind_others when text command end) k name is
+      ∙ ap (under name (quantity_names ++ last_names)) (map-append escaped (quantity_fields command.call end) (last_fields end))
+      ∙ under_front name quantity_names (map escaped (quantity_fields command.call end)) last_names (map escaped (last_fields end)) (filled command.call end)
+      (all_at (λ key. IsAmong key quantity_names) quantity_names all_among k name is)
 
+  -- where all fields of quantities are empty, the field under this name is empty
   none : under name quantity_names (map escaped (replicate 24 [])) ≡ []
   none = all_at (λ (n : List ℕ). under n quantity_names (map escaped (replicate 24 [])) ≡ []) quantity_names blank k name is
 
   -- under the name of a quantity stands the answer's quantity of that name
-  pub quantity_stands : (answer : Answer) (line : List ℕ) → IsAnswerOf command.call answer → field_of (Answered (Some answer) line) ≡ escaped (quantity_in command.call (Value answer) name)
-  quantity_stands answer line of_call =
-      behind (Answered (Some answer) line)
+  pub quantity_stands : (quality : Quality) (answer : Answer) (line : List ℕ) → IsAnswerOf command.call answer → field_of (Answered quality (Some answer) line) ≡ escaped (quantity_in command.call (Value answer) name)
+  quantity_stands quality answer line of_call =
+      behind (Answered quality (Some answer) line)
       ∙ all_at (IsTold command.call answer) quantity_names (answer_told command.call answer) k name is
       ∙ ap (λ (names : List (List ℕ)). escaped (under name names (texts_of answer))) (have_their_names command.call answer of_call)
 
   -- an answer without values has nothing under the name of a quantity
-  pub none_answered : (line : List ℕ) → field_of (Answered None line) ≡ []
-  none_answered line = behind (Answered None line) ∙ none
+  pub none_answered : (quality : Quality) (line : List ℕ) → field_of (Answered quality None line) ≡ []
+  none_answered quality line = behind (Answered quality None line) ∙ none
 
   -- a command that isn't answered has nothing under the name of a quantity
-  pub none_else : (end : End) → ((answer : Option Answer) (line : List ℕ) → end ≡ Answered answer line → ⊥) → field_of end ≡ []
-  none_else (Answered answer line) other = absurd (other answer line refl)
+  pub none_else : (end : End) → ((quality : Quality) (answer : Option Answer) (line : List ℕ) → end ≡ Answered quality answer line → ⊥) → field_of end ≡ []
+  none_else (Answered quality answer line) other = absurd (other quality answer line refl)
   none_else (Unreadable line fault) other = behind (Unreadable line fault) ∙ none
   none_else (Elsewhere line) other = behind (Elsewhere line) ∙ none
   none_else Late other = behind Late ∙ none

@@ -1,5 +1,6 @@
--- Lines of JSON that a station wrote of a run in the field: their members are their own.
-use Rattle.std.proofs.Common.{◌≡◌, ℕ, ◌<◌, ◌^◌, true, List, [], ◌∷◌, ◌++◌, map, Option, Some, None, Result, if◌then◌else◌, refl, sym, ap, ◌∙◌, subst, append-nil, arith}
+-- Lines of JSON that a station wrote of a run in the field: their members are their own, that is, what stands in the line of an
+-- answer was made by the instrument on executing the very request of the line's cycle and place.
+use Rattle.std.proofs.Common.{◌≡◌, ℕ, ◌<◌, ◌^◌, true, List, [], ◌∷◌, ◌++◌, map, Option, Some, None, Result, if◌then◌else◌, refl, sym, ap, ◌∙◌, subst, append-nil}
 use Rattle.std.specs.Prelude.{codes, slice_get, All, Bool, false, ◌==◌}
 use Rattle.std.specs.List.{AllByRecursion, flat_map}
 use Rattle.std.proofs.lemmas.Bool.{cond_both}
@@ -15,12 +16,14 @@ use Rattle.gc_catalogue.specs.declared.call.Call.{Call}
 use Rattle.gc_catalogue.proofs.EachReply.{each_reply}
 use Rattle.gc_instrument.specs.State.{KeptReply}
 use Rattle.gc_texts.specs.Cuts.{Lacks}
-use Rattle.gc_texts.specs.Endings.{End, Answered, Unreadable, Elsewhere, Late, Lost, Skipped, Missed, word_of}
+use Rattle.gc_texts.specs.Endings.{End, Answered, Unreadable, Elsewhere, Late, Lost, Skipped, Missed, word_of, quality_of, quality_text}
 use Rattle.gc_texts.specs.Logs.{escaped}
 use Rattle.gc_texts.specs.Names.{name_text}
+use Rattle.gc_texts.specs.Qualities.{quality_word}
 use Rattle.gc_texts.specs.Stamps.{stamp_text}
 use Rattle.gc_texts.specs.declared.commands.Command.{Command}
 use Rattle.gc_texts.specs.declared.name.Name.{Name}
+use Rattle.gc_texts.specs.declared.quality.Quality.{Quality}
 use Rattle.gc_rows.specs.JsonLines.{json_members, members_text, string_text}
 use Rattle.gc_rows.specs.Laws.{IsEnd, IsWhen, record_read}
 use Rattle.gc_rows.specs.Quantities.{quantity_names}
@@ -36,11 +39,12 @@ use Rattle.gc_links.specs.Acts.{Act}
 use Rattle.gc_station.specs.Answers.{answer_of, IsTrueRecord}
 use Rattle.gc_station.specs.Model.{opening}
 use Rattle.gc_station.specs.Parts.{Part, parts_of}
+use Rattle.gc_station.specs.Qualities.{IsAsListed, IsOfQuality, accepted_at, answer_in}
 use Rattle.gc_station.specs.Records.{Record, texts_of}
 use Rattle.gc_station.specs.Scopes.{AreReadings}
 use Rattle.gc_station.specs.declared.tally.Tally.{Tally}
 use Rattle.gc_station.proofs.Answers.{answers_true}
-use Rattle.gc_station.proofs.Ended.{IsRead, ended_read}
+use Rattle.gc_station.proofs.Nearly.{as_listed}
 use Rattle.gc_measuring.specs.Measuring.{Course, front_text, text_in, when_of}
 use Rattle.gc_measuring.specs.declared.stop.Stop.{Stop}
 use Rattle.gc_world.specs.World.{Ends}
@@ -50,39 +54,35 @@ use Rattle.gc_field.specs.Instrument.{IsAnInstrument, AnyState}
 use Rattle.gc_field.specs.Runs.{IsInField, IsOwnAnswer}
 use Rattle.gc_field.specs.Shown.{Stretch, stretches}
 use Rattle.gc_field.proofs.Joining.{run_faithful}
-use Rattle.gc_promise.specs.Fields.{IsOwn, IsReplied, Says, quantity_in}
+use Rattle.gc_promise.specs.Fields.{IsOwn, IsReplied, Says, quality_in, quantity_in, taken}
 use Rattle.gc_promise.specs.Objects.{AreOfBytes, AreOwnObjects, IsOwnObject, ObjectsAreTheirOwn, lines_text}
 use Rattle.gc_promise.specs.Tables.{acts_measured, records_in, scope_of}
-use Rattle.gc_promise.proofs.Finding.{at_member, member_cycle, member_outcome, member_place, member_procedure, member_quantity, member_rc, member_rc_com, member_stands, member_target, member_values, zeros_gone}
+use Rattle.gc_promise.proofs.Finding.{at_member, member_cycle, member_outcome, member_place, member_procedure, member_quality, member_quantity, member_rc, member_rc_com, member_stands, member_target, member_values, zeros_gone}
+use Rattle.gc_promise.proofs.Judged.{IsJudged, judged, told_none, told_some}
 use Rattle.gc_promise.proofs.Owning.{a_reply, same_line}
-use Rattle.gc_promise.proofs.Tabled.{all_front, all_written, at_map, line_in, not_answered, nothing_in, some_same}
+use Rattle.gc_promise.proofs.Tabled.{all_front, all_written, at_map, is_answered, line_in, nothing_in, some_same, without_quality}
 use Rattle.gc_promise.proofs.Taken.{Took, behind_took}
 use Rattle.gc_promise.proofs.Unbroken.{line_unbroken}
 
 -- Quantities.
 
-module _ (reads : Call → List ℕ → Reading) (when : When) (text : List ℕ) (command : Command) (name : List ℕ) (k : ℕ) (is : slice_get quantity_names k ≡ Some name) where
-  module _ (line : List ℕ) (reply : ReplyFields) (said : Reading) (is_reading : IsReading command.call reply said) (same : reads command.call line ≡ said) where
-    stands : (end : End) → answer_of end ≡ Some line → IsRead reads command.call end → word_of end ≡ codes "answered"
-        → at_member when text command end name ≡ escaped (quantity_in command.call said name)
-    stands (Answered (Some answer) l) answered read word =
-        let value : said ≡ reading.Value answer = sym same ∙ ap (reads command.call) (sym (some_same l line answered)) ∙ read.some answer l refl in
-        member_quantity when text command (Answered (Some answer) l) name k is
-        ∙ member_stands command.call name k is answer l (subst (IsReading command.call reply) value is_reading).2.of_call
-        ∙ ap (λ (x : Reading). escaped (quantity_in command.call x name)) (sym value)
-    stands (Answered None l) answered read word =
-        let none : (answer : Answer) → said ≡ reading.Value answer → ⊥ =
-        λ answer value. read.none answer l refl (ap (reads command.call) (some_same l line answered) ∙ same ∙ value) in
-        member_quantity when text command (Answered None l) name k is ∙ sym (nothing_in command.call name said none)
-    stands (Unreadable l fault) answered read word = absurd (not_answered (codes "unreadable") (λ e. omega (arith, e)) word)
-    stands (Elsewhere l) answered read word = absurd (not_answered (codes "elsewhere") (λ e. omega (arith, e)) word)
-    stands Late answered read word = absurd (not_answered (codes "late") (λ e. omega (arith, e)) word)
-    stands Lost answered read word = absurd (not_answered (codes "lost") (λ e. omega (arith, e)) word)
-    stands Skipped answered read word = absurd (not_answered (codes "skipped") (λ e. omega (arith, e)) word)
-    stands Missed answered read word = absurd (not_answered (codes "missed") (λ e. omega (arith, e)) word)
+module _ (when : When) (text : List ℕ) (command : Command) (name : List ℕ) (k : ℕ) (is : slice_get quantity_names k ≡ Some name) where
+  module _ (fields : ReplyFields) (told : Reading) (is_told : IsReading command.call fields told) where
+    -- where the command is answered by this line, the object has the line's quantity of this name
+    stands : (end : End) (quality : Quality) (values : Option Answer) (line : List ℕ) → end ≡ Answered quality values line → values ≡ answer_in told
+        → at_member when text command end name ≡ escaped (quantity_in command.call told name)
+    stands end quality values line e has = ap (λ (x : End). at_member when text command x name) e ∙ by_values values has where
+      by_values : (values : Option Answer) → values ≡ answer_in told → at_member when text command (Answered quality values line) name ≡ escaped (quantity_in command.call told name)
+      by_values (Some answer) has =
+          let value : told ≡ reading.Value answer = told_some told answer (sym has) in
+          member_quantity when text command (Answered quality (Some answer) line) name k is
+          ∙ member_stands command.call name k is quality answer line (subst (IsReading command.call fields) value is_told).2.of_call
+          ∙ ap (λ (x : Reading). escaped (quantity_in command.call x name)) (sym value)
+      by_values None has = member_quantity when text command (Answered quality None line) name k is ∙ sym (nothing_in command.call name told (told_none told (sym has)))
 
-  none_stands : (end : End) → ((answer : Option Answer) (line : List ℕ) → end ≡ Answered answer line → ⊥) → at_member when text command end name ≡ []
-  none_stands (Answered answer line) other = absurd (other answer line refl)
+  -- where the command isn't answered, the object has nothing under the name of a quantity
+  none_stands : (end : End) → ((quality : Quality) (answer : Option Answer) (line : List ℕ) → end ≡ Answered quality answer line → ⊥) → at_member when text command end name ≡ []
+  none_stands (Answered quality answer line) other = absurd (other quality answer line refl)
   none_stands (Unreadable line fault) other = member_quantity when text command (Unreadable line fault) name k is
   none_stands (Elsewhere line) other = member_quantity when text command (Elsewhere line) name k is
   none_stands Late other = member_quantity when text command Late name k is
@@ -94,21 +94,31 @@ module _ (reads : Call → List ℕ → Reading) (when : When) (text : List ℕ)
 
 module _ {State : Type 0} (ends : Ends State) (kept : State → Option KeptReply) (course : Course) (reads : Call → List ℕ → Reading) (are : AreReadings reads)
     (acts : List Act) (ps : List Part) (ss : List (Stretch State)) (r : Record) where
+  -- when and where the record's command was asked
   abbrev when : When
   when = when_of course.layout.run r
 
+  -- the name of the record's target
   abbrev text : List ℕ
   text = name_text r.command.target course.names
 
+  -- the text under a name in the record's object
   abbrev at : List ℕ → List ℕ
   at name = at_member when text r.command r.end name
 
-  says : (line : List ℕ) → answer_of r.end ≡ Some line → (x : ReplyFields) × IsReply line x → IsRead reads r.command.call r.end → Says true at r.command.call line
-  says line answered reply read =
+  -- where a line with the fields of a reply answered the command, the object says what the line says
+  says : (line : List ℕ) → answer_of r.end ≡ Some line → (x : ReplyFields) × IsReply line x → IsAsListed reads course.tasks r
+      → Says true at (accepted_at course.tasks r.place) r.command.call line
+  says line answered reply listed =
       let same = same_line r.end line answered in
       let said = reply_columns line reply.0 reply.1 in
+      let accepted = accepted_at course.tasks r.place in
       let reading = each_reply r.command.call reply.0 in
-      let reads_so = are r.command.call line reading.0 (record { reply = reply.0; is_reply = reply.1; is_reading = reading.1 }) in
+      let told = each_reply r.command.call (taken (quality_in accepted reading.0) reply.0) in
+      let by = judged reads are accepted r.command.call line reply.0 reply.1 reading.0 told.0 reading.1 told.1 in
+      let judges : (quality : Quality) (values : Option Answer) (l : List ℕ) → r.end ≡ Answered quality values l
+      → IsJudged reads are accepted r.command.call line reply.0 reply.1 reading.0 told.0 reading.1 told.1 quality values =
+      λ quality values l is. by quality values (subst (IsOfQuality reads accepted r.command.call quality values) (some_same l line (ap answer_of (sym is) ∙ answered)) (listed quality values l is)) in
       let word = member_outcome when text r.command r.end in
       record {
         reply = reply.0;
@@ -116,16 +126,22 @@ module _ {State : Type 0} (ends : Ends State) (kept : State → Option KeptReply
         rc_com = subst (λ (t : List ℕ). IsNumber t reply.0.rc_com) (sym (member_rc_com when text r.command r.end line same)) (zeros_gone (com_of line) reply.0.rc_com said.rc_com);
         rc = subst (λ (t : List ℕ). IsNumber t reply.0.rc) (sym (member_rc when text r.command r.end line same)) (zeros_gone (code_of line) reply.0.rc said.rc);
         values = member_values when text r.command r.end line same ∙ ap escaped said.values;
-        reading = reading.0;
-        is_reading = reading.1;
+        said = reading.0;
+        is_said = reading.1;
+        quality = λ answers.
+            let e = is_answered r.end (sym word ∙ answers) in
+            member_quality when text r.command r.end ∙ ap (λ (end : End). quality_text (quality_of end)) e.3 ∙ ap quality_word (judges e.0 e.1 e.2 e.3).quality_is;
+        told = told.0;
+        is_told = told.1;
         quantities = λ shows answers name quantity.
-            stands reads when text r.command name quantity.0 quantity.1 line reply.0 reading.0 reading.1 reads_so r.end answered read (sym word ∙ answers);
+            let e = is_answered r.end (sym word ∙ answers) in
+            stands when text r.command name quantity.0 quantity.1 (taken (quality_in accepted reading.0) reply.0) told.0 told.1 r.end e.0 e.1 e.2 e.3 (judges e.0 e.1 e.2 e.3).values_are;
       }
 
   -- the object of a record is its own, by what is known of the record
-  object_own : IsOwnAnswer ends AnyState kept course.tasks ps ss r → IsTrueRecord course.plan course.tasks (scope_of course reads) acts r → IsRead reads r.command.call r.end
+  object_own : IsOwnAnswer ends AnyState kept course.tasks ps ss r → IsTrueRecord course.plan course.tasks (scope_of course reads) acts r → IsAsListed reads course.tasks r
       → IsOwn ends AnyState kept true at course.tasks ps ss r
-  object_own own came read =
+  object_own own came listed =
       let word = member_outcome when text r.command r.end in
       record {
         is_of = record {
@@ -138,9 +154,10 @@ module _ {State : Type 0} (ends : Ends State) (kept : State → Option KeptReply
         replied = λ is.
             let has = line_in r.end (subst IsReplied word is) in
             let true_one = came has.0 has.1 in
-            (has.0, says has.0 has.1 (a_reply has.0 _ true_one.id) read, own has.0 has.1);
+            (has.0, says has.0 has.1 (a_reply has.0 _ true_one.id) listed, own has.0 has.1);
         without = λ shows other name quantity.
-            none_stands reads when text r.command name quantity.0 quantity.1 r.end (λ answer line e. other (word ∙ ap word_of e));
+            none_stands when text r.command name quantity.0 quantity.1 r.end (λ quality answer line e. other (word ∙ ap word_of e));
+        unqualified = λ other. member_quality when text r.command r.end ∙ without_quality r.end (λ answers. other (word ∙ answers));
       }
 
 -- Lines.
@@ -149,9 +166,11 @@ module _ {State : Type 0} (ends : Ends State) (kept : State → Option KeptReply
 abbrev line_text : When → List ℕ → Command → End → List ℕ
 line_text when text command end = (codes "{\"run\":" ++ string_text (stamp_text when.run)) ++ (members_text (json_members when text command end) ++ codes "}")
 
+-- the text of a record is its line and a line feed
 line_ends : (when : When) (text : List ℕ) (command : Command) (end : End) → record_text Json when text command end ≡ line_text when text command end ++ 10 ∷ []
 line_ends when text command end = front_of (codes "{\"run\":" ++ string_text (stamp_text when.run)) (members_text (json_members when text command end))
 
+-- where each text is a line and a line feed, the texts joined are the lines joined, each with its line feed
 each_line : {X : Type 0} (text line : X → List ℕ) → ((x : X) → text x ≡ line x ++ 10 ∷ []) → (xs : List X) → flat_map text xs ≡ lines_text (map line xs)
 each_line says_text line one [] = refl
 each_line says_text line one (x ∷ xs) = ap (λ (l : List ℕ). l ++ flat_map says_text xs) (one x) ∙ ap (λ (l : List ℕ). (line x ++ 10 ∷ []) ++ l) (each_line says_text line one xs)
@@ -162,6 +181,7 @@ name_bytes target [] are = All-from_recursion (λ (b : ℕ). b < 256) [] tt
 name_bytes target (name ∷ names) are =
     cond_both (name.target == target) name.text.items (name_text target names) (All (λ b. b < 256)) (λ _. are.0) (λ _. name_bytes target names are.1)
 
+-- nothing stands in front of lines of JSON
 no_front : (headed : Bool) (form : Form) → form ≡ Json → (if headed then [] else head_text form) ≡ []
 no_front true form is = refl
 no_front false form is = ap head_text is
@@ -169,15 +189,19 @@ no_front false form is = ap head_text is
 module _ {State : Type 0} (ends : Ends State) (kept : State → Option KeptReply) (is : IsAnInstrument ends AnyState kept) (course : Course) (form : course.layout.form ≡ Json)
     (reads : Call → List ℕ → Reading) (are : AreReadings reads) (acts : List Act) (u : UnderWay State) (rs : List (field.Run State))
     (there : IsInField ends AnyState kept course.plan course.tasks (scope_of course reads) acts u rs) (small : AreOfBytes course (records_in course reads acts)) where
+  -- the parts of the run
   abbrev parts : List Part
   parts = parts_of course.plan course.tasks (opening course.plan (scope_of course reads)) acts
 
+  -- the stretches of the run
   abbrev over : List (Stretch State)
   over = stretches ends u rs
 
+  -- the line of a record in this course, without its line feed
   abbrev line_in_course : Record → List ℕ
   line_in_course r = line_text (when_of course.layout.run r) (name_text r.command.target course.names) r.command r.end
 
+  -- the text of a record in this course is its line and a line feed
   one_line : (r : Record) → text_in course.layout course.names r ≡ line_in_course r ++ 10 ∷ []
   one_line r =
       let when = when_of course.layout.run r in
@@ -202,10 +226,11 @@ module _ {State : Type 0} (ends : Ends State) (kept : State → Option KeptReply
             (all_written (IsOwnAnswer ends AnyState kept course.tasks parts over) (records_in course reads acts) written others order faithful.own n r got)
             (all_written (IsTrueRecord course.plan course.tasks (scope_of course reads) acts) (records_in course reads acts) written others order
             (answers_true course.plan course.tasks (scope_of course reads) acts there.runs) n r got)
-            (all_written (λ (x : Record). IsRead reads x.command.call x.end) (records_in course reads acts) written others order
-            (ended_read course.plan course.tasks (scope_of course reads) acts) n r got);
+            (all_written (λ (x : Record). IsAsListed reads course.tasks x) (records_in course reads acts) written others order
+            (as_listed course.plan course.tasks (scope_of course reads) acts) n r got);
       }
 
+  -- the lines of records in the types of the program have no line feed
   all_unbroken : (rs : List Record) → AllByRecursion (λ (x : Record). IsWhen (when_of course.layout.run x) × (x.command.target < 2 ^ 64) × IsEnd x.end) rs
       → AllByRecursion (Lacks 10) (map line_in_course rs)
   all_unbroken [] bounds = tt
@@ -215,6 +240,7 @@ module _ {State : Type 0} (ends : Ends State) (kept : State → Option KeptReply
       let members = are_members when text r.command r.end bounds.0.0 (name_bytes r.command.target course.names small.names) bounds.0.1 bounds.0.2 in
       (line_unbroken when text r.command r.end bounds.0.2 members, all_unbroken rs bounds.1)
 
+  -- what a sink took of the run, after what it had, are the run's own objects
   objected : (result : Result Tally Stop) (had : List ℕ) (has : Option (List ℕ))
       → Took (text_in course.layout course.names) (records_in course reads acts) result (had ++ front_text course.layout) has
       → AreOwnObjects ends AnyState kept course reads acts parts over result had has
@@ -240,6 +266,7 @@ module _ {State : Type 0} (ends : Ends State) (kept : State → Option KeptReply
             );
       }
 
+-- what a sink took of a run are its own objects
 pub objects_own : {State : Type 0} → ObjectsAreTheirOwn State
 objects_own ends kept is course form old new result behind told had none some began reads are u rs there small =
     objected ends kept is course form reads are (acts_measured result told) u rs there small result had new.taken

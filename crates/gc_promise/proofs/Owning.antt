@@ -1,4 +1,5 @@
--- The rows of a run in the field are their own.
+-- The rows of a run in the field are their own: what stands in a row of an answer was made by the instrument on executing the
+-- very request of the row's cycle and place.
 use Rattle.std.proofs.Common.{◌≡◌, ℕ, ◌<◌, Bool, true, false, List, [], ◌∷◌, ◌++◌, length, Option, Some, Result, Ok, Err, refl, ap, ◌∙◌, arith}
 use Rattle.std.specs.Prelude.{codes}
 use Rattle.std.specs.List.{AllByRecursion}
@@ -33,7 +34,7 @@ use Rattle.gc_field.specs.Instrument.{AnyState}
 use Rattle.gc_field.specs.Runs.{IsOwnAnswer}
 use Rattle.gc_field.specs.Shown.{Stretch}
 use Rattle.gc_field.proofs.Joining.{run_faithful}
-use Rattle.gc_promise.specs.Rows.{column, Says, IsOwnRow, RowsAreTheirOwn}
+use Rattle.gc_promise.specs.Rows.{column, FieldsSay, IsOwnRow, RowsAreTheirOwn}
 use Rattle.gc_promise.specs.Tables.{table}
 
 -- a line with an id is a reply
@@ -43,9 +44,9 @@ a_reply line id h = by_read (reply_at line) refl where
   by_read (Ok r) e = (r, reply_found line r e)
   by_read (Err f) e = let none = ap id_in e in absurd (cc)
 
--- the line that answered a command is the line of its row
+-- the line that answered a command is the line that its row tells
 pub same_line : (end : End) (line : List ℕ) → answer_of end ≡ Some line → line_of end ≡ Some line
-same_line (Answered answer l) line e = e
+same_line (Answered quality answer l) line e = e
 same_line (Unreadable l fault) line e = e
 same_line (Elsewhere l) line e = e
 same_line Late line e = absurd (cc)
@@ -63,14 +64,15 @@ module _ (columns : Bool) (when : When) (name : List ℕ) (command : Command) (e
   pub two_fields : 1 < length (row_fields columns when name command end)
   two_fields = omega arith
 
-  -- in the column of the communication code stands that of the line with which the command ended; below, so do the return code
-  -- and the values in theirs
+  -- the column `rc_com` has the communication code of the line that ended the command
   under_rc_com : (line : List ℕ) → line_of end ≡ Some line → column (codes "rc_com") (row_fields columns when name command end) ≡ com_of line
   under_rc_com line e = ap (λ o. column (codes "rc_com") (by_line o)) e
 
+  -- the column `rc` has the return code of the line that ended the command
   under_rc : (line : List ℕ) → line_of end ≡ Some line → column (codes "rc") (row_fields columns when name command end) ≡ code_of line
   under_rc line e = ap (λ o. column (codes "rc") (by_line o)) e
 
+  -- the column `values` has the values of the line that ended the command
   under_values : (line : List ℕ) → line_of end ≡ Some line → column (codes "values") (row_fields columns when name command end) ≡ values_of line
   under_values line e = ap (λ o. column (codes "values") (by_line o)) e
 
@@ -86,7 +88,7 @@ fields_of layout columns names r = row_fields columns (when_of layout.run r) (na
 
 -- the fields of an answer's row say what the record and the line that answered it say
 says : (layout : Layout) (columns : Bool) (names : List Name) (r : Record) (line : List ℕ) → answer_of r.end ≡ Some line
-    → (reply : ReplyFields) × IsReply line reply → Says (fields_of layout columns names r) r line
+    → (reply : ReplyFields) × IsReply line reply → FieldsSay (fields_of layout columns names r) r line
 says layout columns names r line answered reply =
     let when = when_of layout.run r in
     let name = name_text r.command.target names in
@@ -129,6 +131,7 @@ module _ {State : Type 0} (ends : Ends State) (kept : State → Option KeptReply
   each [] own came = tt
   each (r ∷ records) own came = (one r own.0 came.0, each records own.1 came.1)
 
+-- the row of each record that is an answer is its own
 pub rows_own : {State : Type 0} → RowsAreTheirOwn State
 rows_own ends kept is layout columns names form plan commands scope acts u rs field =
     let faithful = run_faithful ends AnyState kept is plan commands scope acts u rs field in

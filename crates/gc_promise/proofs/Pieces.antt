@@ -1,4 +1,5 @@
--- Bytes as lines: how many there are, and which of them are those of a front.
+-- Bytes as lines: how many there are, and which of them are those of a front. Bytes are whole where they end in a line feed or
+-- are none.
 use Rattle.std.proofs.Common.{◌≡◌, inl, inr, ℕ, ◌+◌, ◌-◌, ◌≤◌, ◌==◌, true, false, List, [], ◌∷◌, ◌++◌, length, take, drop, refl, sym, ◌∙◌, ap, subst, arith, append_assoc, length-append, if◌then◌else◌}
 use Rattle.std.proofs.Math.Seq.{take-append-add}
 use Rattle.std.proofs.lemmas.Bool.{cases_Bool, eqb-true}
@@ -8,20 +9,21 @@ use Rattle.gc_files.specs.Rows.{has_feed, whole, line, IsFront}
 use Rattle.gc_files.specs.Runs.{lines, AreRows}
 use Rattle.gc_files.proofs.Whole.{whole_none}
 
--- these lines, with a byte in front of the first one
+-- these lines, with a byte more at the start of the first one; a line of that byte alone where there is none
 abbrev pub onto : ℕ → List (List ℕ) → List (List ℕ)
 onto b [] = (b ∷ []) ∷ []
 onto b (row ∷ rows) = (b ∷ row) ∷ rows
 
--- the lines of bytes, without their line feeds; behind the last line feed stands one more, if there is something
+-- the lines of bytes, without their line feeds; after the last line feed stands one more, if there is something
 abbrev pub pieces : List ℕ → List (List ℕ)
 pieces [] = []
 pieces (b ∷ bs) = if b == 10 then [] ∷ pieces bs else onto b (pieces bs)
 
+-- an empty list isn't one with an element
 nil_cons : (b : ℕ) (bs : List ℕ) → [] ≡ b ∷ bs → ⊥
 nil_cons b bs is = cc
 
--- a byte that is no line feed, in front of rows, leaves them rows
+-- rows, lines without a line feed, stay rows with a byte in front that is no line feed
 onto_rows : (b : ℕ) (rows : List (List ℕ)) → (b == 10) ≡ false → AreRows rows → AreRows (onto b rows)
 onto_rows b [] isnt are = (rw (isnt) refl, tt)
 onto_rows b (row ∷ rows) isnt are = (rw (isnt) are.0, are.1)
@@ -34,7 +36,7 @@ pieces_rows (b ∷ bs) = elim (cases_Bool (b == 10)) [
   | inr isnt ↦ rw (isnt) (onto_rows b (pieces bs) isnt (pieces_rows bs))
 ]
 
--- bytes that end in a line feed have one, and what stands behind their first byte ends in one, too, or is empty
+-- bytes that end in a line feed have one, and what stands after their first byte ends in one, too, or is empty
 tail_whole : (b : ℕ) (bs : List ℕ) → whole (b ∷ bs) ≡ b ∷ bs → (has_feed (b ∷ bs) ≡ true) × (whole bs ≡ bs)
 tail_whole b bs is = elim (cases_Bool (has_feed (b ∷ bs))) [
   | inl some ↦
@@ -43,17 +45,18 @@ tail_whole b bs is = elim (cases_Bool (has_feed (b ∷ bs))) [
   | inr none ↦ absurd (nil_cons b bs (sym (whole_none (b ∷ bs) none) ∙ is))
 ]
 
--- where bytes end in a line feed, so does each back of them, unless it is empty
+-- where bytes end in a line feed, so does each tail of them, unless it is empty
 pub whole_rest : (xs ys : List ℕ) → whole (xs ++ ys) ≡ xs ++ ys → whole ys ≡ ys
 whole_rest [] ys is = is
 whole_rest (b ∷ xs) ys is = whole_rest xs ys (tail_whole b (xs ++ ys) is).1
 
--- behind a byte that is no line feed there is a line
+-- these rows are at least one
 record Some (rows : List (List ℕ)) : Type 0 where
   row : List ℕ
   others : List (List ℕ)
   is : rows ≡ row ∷ others
 
+-- lines with a byte in front are at least one
 onto_some : (b : ℕ) (rows : List (List ℕ)) → Some (onto b rows)
 onto_some b [] = record { row = b ∷ []; others = []; is = refl }
 onto_some b (row ∷ rows) = record { row = b ∷ row; others = rows; is = refl }
@@ -66,19 +69,21 @@ some_piece (b ∷ bs) some = elim (cases_Bool (b == 10)) [
   | inr isnt ↦ rw (isnt) (onto_some b (pieces bs))
 ]
 
--- a line feed that isn't the first byte is behind it
+-- a line feed that isn't the first byte comes after it
 feed_behind_first : (b : ℕ) (bs : List ℕ) → (b == 10) ≡ false → has_feed (b ∷ bs) ≡ true → has_feed bs ≡ true
 feed_behind_first b bs isnt some = subst (λ t. (if t then true else has_feed bs) ≡ true) isnt some
 
--- a byte in front of lines, of which there are some
+-- where there is a line, a byte in front of the lines is in front of their bytes
 onto_lines : (b : ℕ) (rows : List (List ℕ)) → Some rows → lines (onto b rows) ≡ b ∷ lines rows
 onto_lines b [] some = let wrong : [] ≡ some.row ∷ some.others = some.is in cc
 onto_lines b (row ∷ rows) some = refl
 
+-- where there is a line, a byte in front of it, and of others after it, is in front of it alone
 onto_two : (b : ℕ) (rows others : List (List ℕ)) → Some rows → onto b (rows ++ others) ≡ onto b rows ++ others
 onto_two b [] others some = let wrong : [] ≡ some.row ∷ some.others = some.is in cc
 onto_two b (row ∷ rows) others some = refl
 
+-- where there is a line, a byte in front makes no further one
 onto_length : (b : ℕ) (rows : List (List ℕ)) → Some rows → length (onto b rows) ≡ length rows
 onto_length b [] some = let wrong : [] ≡ some.row ∷ some.others = some.is in cc
 onto_length b (row ∷ rows) some = refl
@@ -93,10 +98,11 @@ pieces_whole (b ∷ bs) is =
       | inr isnt ↦ rw (isnt) (onto_lines b (pieces bs) (some_piece bs (feed_behind_first b bs isnt t.0)) ∙ ap (λ (l : List ℕ). b ∷ l) (pieces_whole bs t.1))
     ]
   where
+    -- a byte that the test finds equal to 10 is 10
     ten_of : (b : ℕ) → (b == 10) ≡ true → b ≡ 10
     ten_of b is = eqb-true b 10 is
 
--- the pieces of bytes that end in a line feed, and of others behind them, are those of the first and then those of the others
+-- the pieces of bytes that end in a line feed, and of others after them, are those of the first and then those of the others
 pub pieces_two : (xs ys : List ℕ) → whole xs ≡ xs → pieces (xs ++ ys) ≡ pieces xs ++ pieces ys
 pieces_two [] ys is = refl
 pieces_two (b ∷ bs) ys is =
@@ -116,18 +122,18 @@ pieces_count (b ∷ bs) is =
       | inr isnt ↦ rw (isnt) (omega (arith, onto_length b (pieces bs) (some_piece bs (feed_behind_first b bs isnt t.0)), pieces_count bs t.1))
     ]
 
--- the lines of two lists, one behind the other, are those of the first and then those of the second
+-- the lines of two lists, one after the other, are those of the first and then those of the second
 pub lines_two : (xs ys : List (List ℕ)) → lines (xs ++ ys) ≡ lines xs ++ lines ys
 lines_two [] ys = refl
 lines_two (row ∷ xs) ys = ap (λ (l : List ℕ). line row ++ l) (lines_two xs ys) ∙ sym (append_assoc (line row) (lines xs) (lines ys))
 
--- of whole bytes at least all lines of a whole front are left: they are the front and more bytes, and together a front of all
+-- `rows`, which are left of the bytes `all`, are `taken` and perhaps more, and a front of all
 pub record Left (taken all rows : List ℕ) : Type 0 where
   pub more : List ℕ
   pub has : rows ≡ taken ++ more
   pub own : IsFront (taken ++ more) all
 
--- of whole bytes, at least as many pieces as a whole front has are that front and more
+-- of whole bytes, the first n lines, at least as many as the whole front `taken` has, are that front and perhaps more
 pub rows_left : (taken rest : List ℕ) (n : ℕ) → whole taken ≡ taken → whole rest ≡ rest → feeds taken ≤ n → Left taken (taken ++ rest) (lines (take n (pieces (taken ++ rest))))
 rows_left taken rest n taken_whole rest_whole least =
     let m = n - feeds taken in
@@ -149,7 +155,7 @@ rows_left taken rest n taken_whole rest_whole least =
 pub pieces_fit : (taken rest : List ℕ) → whole taken ≡ taken → feeds taken ≤ length (pieces (taken ++ rest))
 pieces_fit taken rest is = omega (arith, pieces_count taken is, ap length (pieces_two taken rest is), length-append (pieces taken) (pieces rest))
 
--- as many pieces as a whole front has line feeds are that front
+-- the first pieces, as many as the whole front `taken` has line feeds, are that front
 pub pieces_front : (taken rest : List ℕ) → whole taken ≡ taken → lines (take (feeds taken) (pieces (taken ++ rest))) ≡ taken
 pieces_front taken rest is =
     ap lines (ap (take (feeds taken)) (pieces_two taken rest is) ∙ take_at (pieces taken) (pieces rest) (feeds taken) (pieces_count taken is)) ∙ pieces_whole taken is

@@ -1,4 +1,5 @@
--- Texts of comma-separated values that are read one behind the other.
+-- Texts of comma-separated values, one after the other, are read as their rows, one after the other: by the reader of the
+-- toolchain.
 use Rattle.std.proofs.Common.{◌≡◌, ℕ, zero, suc, ◌+◌, ◌<◌, Bool, true, false, cond, List, [], ◌∷◌, ◌++◌, length, map, Option, None, Some, refl, sym, ap, subst, ◌∙◌, arith, append_assoc}
 use Rattle.std.specs.Prelude.{◌==◌, ◌&&◌}
 use Rattle.std.specs.List.{flat_map}
@@ -17,30 +18,36 @@ use Rattle.gc_rows.specs.Rows.{row_of}
 use Rattle.gc_rows.proofs.Rows.{read_back}
 use Rattle.gc_promise.specs.Tables.{AreReadAs}
 
--- A read takes something.
+-- Each read of a record leaves fewer reads.
 
--- behind a byte that ends a record, the end of the input ends none
+-- a step of the reader leads to a state, and has an action. If the action ends a record, then in that state the end of the
+-- input doesn't end another record
 abbrev IsBetween : State × Action → Type 0
 IsBetween x = is_end x.1 ≡ true → ends_at_end x.0 ≡ false
 
+-- in the state after a byte that ends a record, the end of the input ends no further record
 after_between : (t : Terminator) (c : ℕ) → ends_at_end (after_end t c) ≡ false
 after_between term.CRLF c = cond_both (c == 13) st.AfterCr st.StartRecord (λ s. ends_at_end s ≡ false) (λ _. refl) (λ _. refl)
 after_between (term.Any t) c = refl
 
+-- a step within a field is `IsBetween`
 field_between : (cfg : Config) (c : ℕ) → IsBetween (in_field cfg c)
 field_between cfg c =
     cond_both (c == cfg.delimiter) (st.StartField, act.EndField) _ IsBetween (λ _ e. absurd (false≢true e))
     (λ _. cond_both (ends_with cfg.terminator c) (after_end cfg.terminator c, act.EndRecord) (st.InField, act.Copy) IsBetween
     (λ _ _. after_between cfg.terminator c) (λ _ e. absurd (false≢true e)))
 
+-- a step at the start of a field is `IsBetween`
 start_between : (cfg : Config) (c : ℕ) → IsBetween (start_field cfg c)
 start_between cfg c = cond_both (cfg.quoting && (c == cfg.quote)) (st.InQuoted, act.Skip) (in_field cfg c) IsBetween (λ _ e. absurd (false≢true e)) (λ _. field_between cfg c)
 
+-- a step at the start of a record is `IsBetween`
 record_between : (cfg : Config) (c : ℕ) → IsBetween (start_record cfg c)
 record_between cfg c =
     cond_both (ends_with cfg.terminator c) (st.StartRecord, act.Skip) _ IsBetween (λ _ e. absurd (false≢true e))
     (λ _. cond_both (is_byte cfg.comment c) (st.InComment, act.Skip) (start_field cfg c) IsBetween (λ _ e. absurd (false≢true e)) (λ _. start_between cfg c))
 
+-- each step of the reader is `IsBetween`
 step_between : (cfg : Config) (s : State) (c : ℕ) → IsBetween (step cfg s c)
 step_between cfg st.StartRecord c = record_between cfg c
 step_between cfg st.StartField c = start_between cfg c
@@ -60,18 +67,20 @@ abbrev one_if : Bool → ℕ
 one_if true = 1
 one_if false = 0
 
--- how many reads there can be, at most
+-- how many records can still be read, at most
 abbrev reads_left : State → List ℕ → ℕ
 reads_left s xs = length xs + one_if (ends_at_end s)
 
+-- `one_if` is at most 1
 few_if : (b : Bool) → one_if b < 2
 few_if true = omega arith
 few_if false = omega arith
 
+-- two reads are equal where `Some` of the one equals `Some` of the other
 some_same : (a b : Read) → Some a ≡ Some b → a ≡ b
 some_same a b e = cc
 
--- a read that gives a record leaves fewer reads
+-- after a read that gives a record, `reads_left` is smaller than before it
 takes_some : (cfg : Config) (s : State) (fields : List (List ℕ)) (field xs : List ℕ) (p : Read) → next_record cfg s fields field xs ≡ Some p → reads_left p.1 p.2 < reads_left s xs
 unfolding next_record
 takes_some cfg s fields field [] p = at_end (ends_at_end s) where
@@ -91,7 +100,7 @@ takes_some cfg s fields field (c ∷ rest) p = at_byte (is_end (step cfg s c).1)
       (let none = ap one_if (step_between cfg s c is) in omega (arith, none))
   at_byte false is more e = let less = more e in let few = few_if (ends_at_end (step cfg s c).0) in omega (arith, less, few)
 
--- any two bounds above `reads_left` give the same records
+-- reading at most m records, or at most n, gives the same, where both are above `reads_left`
 enough : (cfg : Config) (m n : ℕ) (s : State) (xs : List ℕ) → reads_left s xs < m → reads_left s xs < n → records_from cfg m s xs ≡ records_from cfg n s xs
 unfolding records_from
 enough cfg zero n s xs few many = absurd (omega (arith, few))
@@ -104,7 +113,7 @@ enough cfg (suc m) (suc n) s xs few many = by (enough cfg m n) (next_record cfg 
 
 -- Texts that are read.
 
--- where a first record is read, the records are that one and those of what stands behind it
+-- where a first record is read, the records are that one and those of what stands after it
 one_read : (xs behind : List ℕ) (row : List (List ℕ)) → next_record default_config st.StartRecord [] [] xs ≡ Some (row, st.StartRecord, behind)
     → records default_config xs ≡ row ∷ records default_config behind
 unfolding records_from
@@ -119,16 +128,16 @@ one_read xs behind row e =
 pub row_reads : (fields : List (List ℕ)) → 1 < length fields → AreReadAs (row_of fields) (map escaped fields ∷ [])
 row_reads fields many behind = one_read (row_of fields ++ behind) behind (map escaped fields) (read_back.row fields behind many)
 
--- no bytes are read as no rows
+-- the empty text is read as no rows
 pub none_read : AreReadAs [] []
 none_read behind = refl
 
--- a text with another one behind it is read as the rows of both
+-- a text with another one after it is read as the rows of both
 pub both_read : (xs ys : List ℕ) (rows others : List (List (List ℕ))) → AreReadAs xs rows → AreReadAs ys others → AreReadAs (xs ++ ys) (rows ++ others)
 both_read xs ys rows others first second behind =
     ap (records default_config) (append_assoc xs ys behind) ∙ first (ys ++ behind) ∙ ap (λ l. rows ++ l) (second behind) ∙ sym (append_assoc rows others (records default_config behind))
 
--- texts one behind the other, each of which is read as one row, are read as their rows
+-- texts one after the other, each of which is read as one row, are read as their rows
 pub each_reads : {X : Type 0} (text : X → List ℕ) (row : X → List (List ℕ)) → ((x : X) → AreReadAs (text x) (row x ∷ [])) → (xs : List X) → AreReadAs (flat_map text xs) (map row xs)
 each_reads text row one [] = none_read
 each_reads text row one (x ∷ xs) = both_read (text x) (flat_map text xs) (row x ∷ []) (map row xs) (one x) (each_reads text row one xs)

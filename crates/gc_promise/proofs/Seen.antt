@@ -1,4 +1,4 @@
--- What a clause of a run says of one of its turns, and of what the book took.
+-- What the contract of a run says of one of its turns, what was seen at an act, and of what the book took.
 use Rattle.std.proofs.Common.{◌≡◌, ℕ, List, [], ◌∷◌, ◌++◌, take, drop, Option, Some, Result, Ok, Err, inl, inr, refl, sym, ◌∙◌, ap, subst, append_assoc, append-nil}
 use Rattle.std.proofs.lemmas.List.{take-append-drop}
 use Rattle.std.specs.Io.KnownBytes.{Appends}
@@ -17,7 +17,7 @@ use Rattle.gc_station.specs.declared.tally.Tally.{Tally}
 
 -- Texts.
 
--- the texts of two lists of records, one behind the other, are those of the first and then those of the second
+-- the texts of two lists of records, one after the other, are those of the first and then those of the second
 pub texts_two : (text : Record → List ℕ) (xs ys : List Record) → texts_of text (xs ++ ys) ≡ texts_of text xs ++ texts_of text ys
 texts_two text [] ys = refl
 texts_two text (r ∷ xs) ys = ap (λ (l : List ℕ). text r ++ l) (texts_two text xs ys) ∙ sym (append_assoc (text r) (texts_of text xs) (texts_of text ys))
@@ -28,7 +28,7 @@ texts_whole text each [] = refl
 texts_whole text each (r ∷ rs) = whole_more (text r) (texts_of text rs) (each r) ∙ ap (λ (l : List ℕ). text r ++ l) (texts_whole text each rs)
 
 module _ (plan : Plan) (commands : List Task) (scope : Scope) (text : Record → List ℕ) where
-  -- what was kept at a turn: all that these acts and some more behind them settled
+  -- at a turn, all that the acts `before` and some more after them settled was kept
   pub record At (told : Option (List Act)) (taken : Option (List ℕ)) (before : List Act) (turn : Turn) : Type 0 where
     pub front : List Act
     pub kept : IsKept plan commands scope text told taken (before ++ front) turn
@@ -60,6 +60,7 @@ module _ (plan : Plan) (commands : List Task) (scope : Scope) (text : Record →
     pub all : told ≡ acts ++ others
     pub own : IsFront bytes (texts_of text (stood plan commands scope acts).records)
 
+  -- bytes are a front of themselves
   same_front : (bytes all : List ℕ) → bytes ≡ all → IsFront bytes all
   same_front bytes all is = record { rest = []; split = sym is ∙ sym (append-nil bytes) }
 
@@ -76,6 +77,7 @@ module _ (plan : Plan) (commands : List Task) (scope : Scope) (text : Record →
             ∙ ap (λ (l : List ℕ). l ++ (drop w.part (text w.next) ++ texts_of text w.later)) (sym w.took);
       }
 
+  -- a run with these acts, from none on, whose book took these bytes, and which ended so
   abbrev Took : List Act → List ℕ → Result Tally RunFault → Type 0
   Took told bytes end = Ran plan commands scope text (Some []) (Some told) (Some []) (Some bytes) end
 

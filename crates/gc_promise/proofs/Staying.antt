@@ -1,4 +1,6 @@
--- A run of which a sync kept what it had taken by then, behind other runs or events, and before others.
+-- A run of a file, with earlier runs or events before it and later ones after it: a sync in it kept all that it had taken by
+-- then. A file's life is what it held when the machine started, and the calls since then. Its sides are two lives: the one that
+-- a read returns, and the one of which a crash may leave a part.
 use Rattle.std.proofs.Common.{◌≡◌, inl, inr, ℕ, ◌≤◌, Bool, true, false, List, [], ◌∷◌, ◌++◌, length, take, refl, sym, ◌∙◌, ap, subst, append_assoc, append-nil, Option}
 use Rattle.std.proofs.lemmas.Bool.{cases_Bool}
 use Rattle.gc_files.specs.Failing.{Sides, Event, Ran, Failed, Copied, Crashed, feeds, settled, one, done_by, sides_after, runs_of, Occur, is_trusted}
@@ -14,21 +16,25 @@ use Rattle.gc_promise.proofs.Pieces.{pieces, pieces_rows, pieces_whole, pieces_f
 
 -- What was synced.
 
+-- where there is a sync among the steps `xs`, there is one among `xs` and `ys` together
 has_first : (xs ys : List Step) → has_sync xs ≡ true → has_sync (xs ++ ys) ≡ true
 has_first [] ys some = let wrong : false ≡ true = some in cc
 has_first (Append bytes ∷ xs) ys some = has_first xs ys some
 has_first (Cut size ∷ xs) ys some = has_first xs ys some
 has_first (Sync ∷ xs) ys some = refl
 
+-- where there is a sync among the steps `ys`, there is one among `xs` and `ys` together
 has_behind : (xs ys : List Step) → has_sync ys ≡ true → has_sync (xs ++ ys) ≡ true
 has_behind [] ys some = some
 has_behind (Append bytes ∷ xs) ys some = has_behind xs ys some
 has_behind (Cut size ∷ xs) ys some = has_behind xs ys some
 has_behind (Sync ∷ xs) ys some = refl
 
+-- no bytes are a front of any
 front_nil : (all : List ℕ) → IsFront [] all
 front_nil all = record { rest = all; split = refl }
 
+-- a front stays one where the same bytes stand before both
 front_behind : (xs front all : List ℕ) → IsFront front all → IsFront (xs ++ front) (xs ++ all)
 front_behind xs front all f = record { rest = f.rest; split = ap (λ (l : List ℕ). xs ++ l) f.split ∙ sym (append_assoc xs front f.rest) }
 
@@ -42,7 +48,7 @@ synced_more (Append bytes ∷ xs) ys = elim (cases_Bool (has_sync xs)) [
 synced_more (Cut size ∷ xs) ys = synced_more xs ys
 synced_more (Sync ∷ xs) ys = synced_more xs ys
 
--- a sync behind appended bytes keeps all of them
+-- where there is a sync among the later steps `ys`, all that the earlier steps `xs` appended is synced
 synced_behind : (xs ys : List Step) → has_sync ys ≡ true → synced (xs ++ ys) ≡ appended xs ++ synced ys
 synced_behind [] ys some = refl
 synced_behind (Append bytes ∷ xs) ys some =
@@ -59,12 +65,16 @@ cuts_first (Append bytes ∷ xs) ys none = cuts_first xs ys none
 cuts_first (Sync ∷ xs) ys none = cuts_first xs ys none
 cuts_first (Cut size ∷ xs) ys none = let wrong : false ≡ true = none in cc
 
--- the rows of a run, its steps, and how many of its rows were kept, by what it had taken at a sync and all that it may take
+-- a run of the file. `steps` are those of its opening, and `calls` those after that. `all` are all rows that it may append; of
+-- these the rows of `taken`, which it had appended by a sync, count as kept. `left` is what a crash leaves of the file, if
+-- there is one
 abbrev pub run_by : List Step → List Step → List ℕ → List ℕ → Option (List ℕ) → Run
 run_by steps calls taken all left = record { rows = pieces all; steps = steps ++ calls; kept = feeds taken; left = left }
 
 module _ (head held : List ℕ) (steps was since : List Step) (rest : List ℕ) (opened : opening.Ran held steps (start_of head held))
     (kept : synced was ≡ appended was) (is_whole : whole (appended was) ≡ appended was) where
+  -- where a sync is among the calls `was`, what stood at the start and all that these calls appended is synced, whatever calls
+  -- follow
   synced_all : has_sync was ≡ true → IsFront (start_of head held ++ appended was) (synced (steps ++ (was ++ since)))
   synced_all some =
       let all : synced (steps ++ (was ++ since)) ≡ start_of head held ++ synced (was ++ since) =
@@ -74,6 +84,7 @@ module _ (head held : List ℕ) (steps was since : List Step) (rest : List ℕ) 
       subst (λ (l : List ℕ). IsFront (start_of head held ++ appended was) l) (sym all)
       (front_behind (start_of head held) (appended was) (synced (was ++ since)) (subst (λ (l : List ℕ). IsFront l (synced (was ++ since))) kept (synced_more was since)))
 
+  -- all rows that the calls `was` appended count as kept
   were_kept : WereKept head held (pieces (appended was ++ rest)) (feeds (appended was)) (steps ++ (was ++ since))
   were_kept = elim (cases_Bool (has_sync was)) [
     | inl some ↦
@@ -81,7 +92,7 @@ module _ (head held : List ℕ) (steps was since : List Step) (rest : List ℕ) 
     | inr isnt ↦ inl (ap feeds (sym kept ∙ no_sync was isnt))
   ]
 
-  -- these steps are those of a run of which the rows that it had taken by a sync count as kept
+  -- these steps are those of a run of the file; the rows that the calls `was` appended count as kept
   pub is_run : (left : Option (List ℕ)) → whole rest ≡ rest → cuts_none (was ++ since) ≡ true → IsFront (appended (was ++ since)) (appended was ++ rest)
       → IsRun head held (run_by steps (was ++ since) (appended was) (appended was ++ rest) left)
   is_run left rest_whole none front =
@@ -91,14 +102,14 @@ module _ (head held : List ℕ) (steps was since : List Step) (rest : List ℕ) 
       (subst (λ (l : List ℕ). IsFront (appended (was ++ since)) l) (sym (pieces_whole all all_whole)) front)
       (pieces_rows all) (pieces_fit (appended was) rest is_whole) were_kept
 
--- Behind other runs and events.
+-- After other runs and events.
 
--- runs that may happen, and others that may behind them, may happen one behind the other
+-- runs that may happen, and then others that may happen after them, may happen as one list
 pub happen_two : (head : List ℕ) (life : Life) (xs ys : List Run) → Happen head life xs → Happen head (life_after life xs) ys → Happen head life (xs ++ ys)
 happen_two head life [] ys first second = second
 happen_two head life (run ∷ xs) ys first second = (first.0, first.1, happen_two head (lived life run run.left) xs ys first.2 second)
 
--- the life of a file behind two lists of runs is the one behind the second that begins where the first ends
+-- the life of a file after two lists of runs is what the second makes of the life after the first
 pub life_two : (life : Life) (xs ys : List Run) → life_after life (xs ++ ys) ≡ life_after (life_after life xs) ys
 life_two life [] ys = refl
 life_two life (run ∷ xs) ys = life_two (lived life run run.left) xs ys
@@ -144,7 +155,7 @@ parted head before found (r ∷ earlier) later run (n ∷ counts, cs, is) =
       is = p.is ∙ ap (λ (l : List ℕ). (l ++ lines (take p.count run.rows)) ++ rows_of later p.counts') (append_assoc before (lines (take n r.rows)) (rows_of earlier p.counts));
     }
 
--- the sides of a file behind two lists of events are those behind the second, from those behind the first on
+-- the sides of a file after two lists of events are what the second makes of the sides after the first
 pub sides_two : (sides : Sides) (xs ys : List Event) → sides_after sides (xs ++ ys) ≡ sides_after (sides_after sides xs) ys
 sides_two sides [] ys = refl
 sides_two sides (Ran run ∷ xs) ys = sides_two (done_by run.steps sides) xs ys
@@ -161,7 +172,7 @@ runs_two (Failed run read disk ∷ xs) ys = ap (λ (rs : List Run). run ∷ rs) 
 runs_two (Copied named ∷ xs) ys = runs_two xs ys
 runs_two (Crashed left ∷ xs) ys = runs_two xs ys
 
--- events that may occur, and others that may behind them, may occur one behind the other
+-- events that may occur, and then others that may occur after them, may occur as one list
 pub occur_two : (head : List ℕ) (sides : Sides) (doubted : Bool) (xs ys : List Event) → Occur is_trusted head sides doubted xs
     → Occur is_trusted head (sides_after sides xs) (doubted_by doubted xs) ys → Occur is_trusted head sides doubted (xs ++ ys)
 occur_two head sides doubted [] ys first second = second

@@ -1,4 +1,5 @@
--- A table that a station wrote of a run in the field: its rows are their own.
+-- A table that a station wrote of a run in the field: its rows are their own, that is, what stands in a row of an answer was
+-- made by the instrument on executing the very request of the row's cycle and place.
 use Rattle.std.proofs.Common.{◌≡◌, inl, inr, ℕ, zero, suc, Bool, true, false, List, [], ◌∷◌, ◌++◌, get_or, map, Option, Some, None, Result, if◌then◌else◌, refl, sym, ap, ◌∙◌, subst, arith, append_assoc}
 use Rattle.std.specs.Prelude.{codes, slice_get}
 use Rattle.std.specs.List.{AllByRecursion}
@@ -13,12 +14,14 @@ use Rattle.gc_catalogue.specs.declared.answer.Reading.TheVariants as reading
 use Rattle.gc_catalogue.specs.declared.call.Call.{Call}
 use Rattle.gc_catalogue.proofs.EachReply.{each_reply}
 use Rattle.gc_instrument.specs.State.{KeptReply}
-use Rattle.gc_texts.specs.Endings.{End, Answered, Unreadable, Elsewhere, Late, Lost, Skipped, Missed, word_of}
+use Rattle.gc_texts.specs.Endings.{End, Answered, Unreadable, Elsewhere, Late, Lost, Skipped, Missed, word_of, quality_of, quality_text}
 use Rattle.gc_texts.specs.Logs.{escaped}
 use Rattle.gc_texts.specs.Names.{name_text}
+use Rattle.gc_texts.specs.Qualities.{quality_word}
 use Rattle.gc_texts.specs.declared.commands.Command.{Command}
+use Rattle.gc_texts.specs.declared.quality.Quality.{Quality}
 use Rattle.gc_rows.specs.Quantities.{quantity_names}
-use Rattle.gc_rows.specs.Records.{head_text, names, record_text}
+use Rattle.gc_rows.specs.Records.{head_text, last_names, names, record_text}
 use Rattle.gc_rows.specs.Rows.{code_of, com_of, row_fields, row_of}
 use Rattle.gc_rows.specs.declared.record.Form.{Form}
 use Rattle.gc_rows.specs.declared.when.When.{When}
@@ -27,11 +30,12 @@ use Rattle.gc_links.specs.Acts.{Act}
 use Rattle.gc_station.specs.Answers.{answer_of, IsTrueRecord}
 use Rattle.gc_station.specs.Model.{opening}
 use Rattle.gc_station.specs.Parts.{Part, parts_of}
+use Rattle.gc_station.specs.Qualities.{IsAsListed, IsOfQuality, accepted_at, answer_in}
 use Rattle.gc_station.specs.Records.{Record, texts_of}
 use Rattle.gc_station.specs.Scopes.{AreReadings}
 use Rattle.gc_station.specs.declared.tally.Tally.{Tally}
 use Rattle.gc_station.proofs.Answers.{answers_true}
-use Rattle.gc_station.proofs.Ended.{IsRead, ended_read}
+use Rattle.gc_station.proofs.Nearly.{as_listed}
 use Rattle.gc_measuring.specs.Measuring.{Course, front_text, text_in, when_of}
 use Rattle.gc_measuring.specs.declared.stop.Stop.{Stop}
 use Rattle.gc_world.specs.World.{Ends}
@@ -41,9 +45,10 @@ use Rattle.gc_field.specs.Instrument.{IsAnInstrument, AnyState}
 use Rattle.gc_field.specs.Runs.{IsInField, IsOwnAnswer}
 use Rattle.gc_field.specs.Shown.{Stretch, stretches}
 use Rattle.gc_field.proofs.Joining.{run_faithful}
-use Rattle.gc_promise.specs.Fields.{IsOwn, IsQuantity, IsReplied, Says, quantity_in, under}
+use Rattle.gc_promise.specs.Fields.{IsOwn, IsQuantity, IsReplied, Says, quality_in, quantity_in, taken, under}
 use Rattle.gc_promise.specs.Tables.{AreReadAs, IsOwnTable, TablesAreTheirOwn, acts_measured, head_rows, header, records_in, scope_of, table}
-use Rattle.gc_promise.proofs.Names.{all_at, none_answered, none_else, quantity_stands, under_cycle, under_outcome, under_place, under_procedure, under_rc, under_rc_com, under_target, under_values}
+use Rattle.gc_promise.proofs.Judged.{IsJudged, judged, told_none, told_some}
+use Rattle.gc_promise.proofs.Names.{all_at, none_answered, none_else, quantity_stands, under_cycle, under_outcome, under_place, under_procedure, under_quality, under_rc, under_rc_com, under_target, under_values}
 use Rattle.gc_promise.proofs.Owning.{a_reply, fields_of, in_table, same_line, two_fields}
 use Rattle.gc_promise.proofs.Plain.{number_plain}
 use Rattle.gc_promise.proofs.Reading.{both_read, each_reads, none_read, row_reads}
@@ -63,7 +68,7 @@ no_reply word a u e (inr (inr is)) = e (ap first_of is)
 
 -- where the outcome is that of a reply, a line answered the command
 pub line_in : (end : End) → IsReplied (word_of end) → (line : List ℕ) × (answer_of end ≡ Some line)
-line_in (Answered answer line) is = (line, refl)
+line_in (Answered quality answer line) is = (line, refl)
 line_in (Unreadable line fault) is = (line, refl)
 line_in (Elsewhere line) is = (line, refl)
 line_in Late is = absurd (no_reply (codes "late") (λ e. omega (arith, e)) (λ e. omega (arith, e)) (λ e. omega (arith, e)) is)
@@ -84,29 +89,44 @@ nothing_in call name (reading.Refused code) none = refl
 nothing_in call name (reading.ComFault code) none = refl
 nothing_in call name (reading.Unreadable fault) none = refl
 
+-- two texts are equal where `Some` of the one equals `Some` of the other
 pub some_same : (x y : List ℕ) → Some x ≡ Some y → x ≡ y
 some_same x y e = cc
 
-module _ (reads : Call → List ℕ → Reading) (when : When) (text : List ℕ) (command : Command) (name : List ℕ) (k : ℕ) (is : slice_get quantity_names k ≡ Some name)
-    (line : List ℕ) (reply : ReplyFields) (said : Reading) (is_reading : IsReading command.call reply said) (same : reads command.call line ≡ said) where
+-- a command whose outcome is `answered` has an answer
+pub is_answered : (end : End) → word_of end ≡ codes "answered" → (quality : Quality) × (values : Option Answer) × (line : List ℕ) × (end ≡ Answered quality values line)
+is_answered (Answered quality values line) word = (quality, values, line, refl)
+is_answered (Unreadable l fault) word = absurd (not_answered (codes "unreadable") (λ e. omega (arith, e)) word)
+is_answered (Elsewhere l) word = absurd (not_answered (codes "elsewhere") (λ e. omega (arith, e)) word)
+is_answered Late word = absurd (not_answered (codes "late") (λ e. omega (arith, e)) word)
+is_answered Lost word = absurd (not_answered (codes "lost") (λ e. omega (arith, e)) word)
+is_answered Skipped word = absurd (not_answered (codes "skipped") (λ e. omega (arith, e)) word)
+is_answered Missed word = absurd (not_answered (codes "missed") (λ e. omega (arith, e)) word)
+
+-- a command whose outcome isn't `answered` has no quality
+pub without_quality : (end : End) → (word_of end ≡ codes "answered" → ⊥) → quality_text (quality_of end) ≡ []
+without_quality (Answered quality values line) other = absurd (other refl)
+without_quality (Unreadable l fault) other = refl
+without_quality (Elsewhere l) other = refl
+without_quality Late other = refl
+without_quality Lost other = refl
+without_quality Skipped other = refl
+without_quality Missed other = refl
+
+module _ (when : When) (text : List ℕ) (command : Command) (name : List ℕ) (k : ℕ) (is : slice_get quantity_names k ≡ Some name) (fields : ReplyFields) (told : Reading)
+    (is_told : IsReading command.call fields told) where
+  -- the field of the row under this name
   abbrev at_name : End → List ℕ
   at_name end = under name (header true) (map escaped (row_fields true when text command end))
 
-  stands : (end : End) → answer_of end ≡ Some line → IsRead reads command.call end → word_of end ≡ codes "answered" → at_name end ≡ escaped (quantity_in command.call said name)
-  stands (Answered (Some answer) l) answered read word =
-      let value : said ≡ reading.Value answer = sym same ∙ ap (reads command.call) (sym (some_same l line answered)) ∙ read.some answer l refl in
-      quantity_stands when text command name k is answer l (subst (IsReading command.call reply) value is_reading).2.of_call
+  -- where the command is answered by this line, the row has the line's quantity of this name
+  stands : (quality : Quality) (values : Option Answer) (line : List ℕ) → values ≡ answer_in told
+      → at_name (Answered quality values line) ≡ escaped (quantity_in command.call told name)
+  stands quality (Some answer) line has =
+      let value : told ≡ reading.Value answer = told_some told answer (sym has) in
+      quantity_stands when text command name k is quality answer line (subst (IsReading command.call fields) value is_told).2.of_call
       ∙ ap (λ (x : Reading). escaped (quantity_in command.call x name)) (sym value)
-  stands (Answered None l) answered read word =
-      let none : (answer : Answer) → said ≡ reading.Value answer → ⊥ =
-      λ answer value. read.none answer l refl (ap (reads command.call) (some_same l line answered) ∙ same ∙ value) in
-      none_answered when text command name k is l ∙ sym (nothing_in command.call name said none)
-  stands (Unreadable l fault) answered read word = absurd (not_answered (codes "unreadable") (λ e. omega (arith, e)) word)
-  stands (Elsewhere l) answered read word = absurd (not_answered (codes "elsewhere") (λ e. omega (arith, e)) word)
-  stands Late answered read word = absurd (not_answered (codes "late") (λ e. omega (arith, e)) word)
-  stands Lost answered read word = absurd (not_answered (codes "lost") (λ e. omega (arith, e)) word)
-  stands Skipped answered read word = absurd (not_answered (codes "skipped") (λ e. omega (arith, e)) word)
-  stands Missed answered read word = absurd (not_answered (codes "missed") (λ e. omega (arith, e)) word)
+  stands quality None line has = none_answered when text command name k is quality line ∙ sym (nothing_in command.call name told (told_none told (sym has)))
 
 -- Lists.
 
@@ -130,37 +150,53 @@ at_map f (x ∷ xs) (suc n) y e = at_map f xs n y e
 
 module _ {State : Type 0} (ends : Ends State) (kept : State → Option KeptReply) (course : Course) (reads : Call → List ℕ → Reading) (are : AreReadings reads)
     (acts : List Act) (ps : List Part) (ss : List (Stretch State)) (columns : Bool) where
+  -- the fields of a record's row
   abbrev fields : Record → List (List ℕ)
   fields r = fields_of course.layout columns course.names r
 
+  -- the field of a record's row under a name, as a reader gives it
   abbrev at : Record → List ℕ → List ℕ
   at r name = under name (header columns) (map escaped (fields r))
 
   module _ (r : Record) where
+    -- when and where the record's command was asked
     abbrev when : When
     when = when_of course.layout.run r
 
+    -- the name of the record's target
     abbrev text : List ℕ
     text = name_text r.command.target course.names
 
-    quantity_at : (b : Bool) → b ≡ true → (line : List ℕ) (reply : ReplyFields) (said : Reading) → IsReading r.command.call reply said → reads r.command.call line ≡ said
-        → answer_of r.end ≡ Some line → IsRead reads r.command.call r.end → word_of r.end ≡ codes "answered" → (name : List ℕ) → IsQuantity name
-        → under name (header b) (map escaped (row_fields b when text r.command r.end)) ≡ escaped (quantity_in r.command.call said name)
-    quantity_at true shows line reply said is_reading same answered read word name quantity =
-        stands reads when text r.command name quantity.0 quantity.1 line reply said is_reading same r.end answered read word
-    quantity_at false shows line reply said is_reading same answered read word name quantity = absurd (false≢true shows)
+    -- where the command is answered by a line, a row with columns of quantities (`b`) has the line's quantity under each name
+    -- of one
+    quantity_at : (b : Bool) → b ≡ true → (fields : ReplyFields) (told : Reading) → IsReading r.command.call fields told → (quality : Quality) (values : Option Answer) (line : List ℕ)
+        → r.end ≡ Answered quality values line → values ≡ answer_in told → (name : List ℕ) → IsQuantity name
+        → under name (header b) (map escaped (row_fields b when text r.command r.end)) ≡ escaped (quantity_in r.command.call told name)
+    quantity_at true shows fields told is_told quality values line is has name quantity =
+        ap (λ (end : End). under name (header true) (map escaped (row_fields true when text r.command end))) is
+        ∙ stands when text r.command name quantity.0 quantity.1 fields told is_told quality values line has
+    quantity_at false shows fields told is_told quality values line is has name quantity = absurd (false≢true shows)
 
-    no_quantity_at : (b : Bool) → b ≡ true → (word_of r.end ≡ codes "answered" → ⊥) → (name : List ℕ) → IsQuantity name → under name (header b) (map escaped (row_fields b when text r.command r.end)) ≡ []
-    no_quantity_at true shows other name quantity = none_else when text r.command name quantity.0 quantity.1 r.end (λ answer line e. other (ap word_of e))
+    -- where the command isn't answered, a row with columns of quantities (`b`) has nothing under each name of one
+    no_quantity_at : (b : Bool) → b ≡ true → (word_of r.end ≡ codes "answered" → ⊥) → (name : List ℕ) → IsQuantity name
+        → under name (header b) (map escaped (row_fields b when text r.command r.end)) ≡ []
+    no_quantity_at true shows other name quantity = none_else when text r.command name quantity.0 quantity.1 r.end (λ quality answer line e. other (ap word_of e))
     no_quantity_at false shows other name quantity = absurd (false≢true shows)
 
-    says : (line : List ℕ) → answer_of r.end ≡ Some line → (x : ReplyFields) × IsReply line x → IsRead reads r.command.call r.end → Says columns (at r) r.command.call line
-    says line answered reply read =
+    -- where a line with the fields of a reply answered the command, the row says what the line says
+    says : (line : List ℕ) → answer_of r.end ≡ Some line → (x : ReplyFields) × IsReply line x → IsAsListed reads course.tasks r
+        → Says columns (at r) (accepted_at course.tasks r.place) r.command.call line
+    says line answered reply listed =
         let same = same_line r.end line answered in
         let said = reply_columns line reply.0 reply.1 in
+        let accepted = accepted_at course.tasks r.place in
         let reading = each_reply r.command.call reply.0 in
-        let reads_so = are r.command.call line reading.0 (record { reply = reply.0; is_reply = reply.1; is_reading = reading.1 }) in
+        let told = each_reply r.command.call (taken (quality_in accepted reading.0) reply.0) in
         let word = under_outcome when text r.command r.end columns in
+        let by = judged reads are accepted r.command.call line reply.0 reply.1 reading.0 told.0 reading.1 told.1 in
+        let judges : (quality : Quality) (values : Option Answer) (l : List ℕ) → r.end ≡ Answered quality values l
+        → IsJudged reads are accepted r.command.call line reply.0 reply.1 reading.0 told.0 reading.1 told.1 quality values =
+        λ quality values l is. by quality values (subst (IsOfQuality reads accepted r.command.call quality values) (some_same l line (ap answer_of (sym is) ∙ answered)) (listed quality values l is)) in
         record {
           reply = reply.0;
           is_reply = reply.1;
@@ -168,15 +204,22 @@ module _ {State : Type 0} (ends : Ends State) (kept : State → Option KeptReply
               subst (λ (t : List ℕ). IsNumber t reply.0.rc_com) (sym (under_rc_com when text r.command r.end line same columns ∙ number_plain (com_of line) said.rc_com.digits)) said.rc_com;
           rc = subst (λ (t : List ℕ). IsNumber t reply.0.rc) (sym (under_rc when text r.command r.end line same columns ∙ number_plain (code_of line) said.rc.digits)) said.rc;
           values = under_values when text r.command r.end line same columns ∙ ap escaped said.values;
-          reading = reading.0;
-          is_reading = reading.1;
-          quantities = λ shows answers name quantity. quantity_at columns shows line reply.0 reading.0 reading.1 reads_so answered read (sym word ∙ answers) name quantity;
+          said = reading.0;
+          is_said = reading.1;
+          quality = λ answers.
+              let e = is_answered r.end (sym word ∙ answers) in
+              under_quality when text r.command r.end columns ∙ ap (λ (end : End). quality_text (quality_of end)) e.3 ∙ ap quality_word (judges e.0 e.1 e.2 e.3).quality_is;
+          told = told.0;
+          is_told = told.1;
+          quantities = λ shows answers name quantity.
+              let e = is_answered r.end (sym word ∙ answers) in
+              quantity_at columns shows (taken (quality_in accepted reading.0) reply.0) told.0 told.1 e.0 e.1 e.2 e.3 (judges e.0 e.1 e.2 e.3).values_are name quantity;
         }
 
     -- the row of a record is its own, by what is known of the record
-    row_own : IsOwnAnswer ends AnyState kept course.tasks ps ss r → IsTrueRecord course.plan course.tasks (scope_of course reads) acts r → IsRead reads r.command.call r.end
+    row_own : IsOwnAnswer ends AnyState kept course.tasks ps ss r → IsTrueRecord course.plan course.tasks (scope_of course reads) acts r → IsAsListed reads course.tasks r
         → IsOwn ends AnyState kept columns (at r) course.tasks ps ss r
-    row_own own came read =
+    row_own own came listed =
         let word = under_outcome when text r.command r.end columns in
         record {
           is_of = record {
@@ -189,8 +232,9 @@ module _ {State : Type 0} (ends : Ends State) (kept : State → Option KeptReply
           replied = λ is.
               let has = line_in r.end (subst IsReplied word is) in
               let true_one = came has.0 has.1 in
-              (has.0, says has.0 has.1 (a_reply has.0 _ true_one.id) read, own has.0 has.1);
+              (has.0, says has.0 has.1 (a_reply has.0 _ true_one.id) listed, own has.0 has.1);
           without = λ shows other name quantity. no_quantity_at columns shows (λ answers. other (word ∙ answers)) name quantity;
+          unqualified = λ other. under_quality when text r.command r.end columns ∙ without_quality r.end (λ answers. other (word ∙ answers));
         }
 
 -- A table.
@@ -200,18 +244,21 @@ head_reads : (headed columns : Bool) (form : Form) → form ≡ table columns �
 head_reads true columns form is = none_read
 head_reads false columns form is = subst (λ (f : Form). AreReadAs (head_text f) (header columns ∷ [])) (sym is) (names_read columns) where
   names_read : (b : Bool) → AreReadAs (head_text (table b)) (header b ∷ [])
-  names_read false = row_reads names (omega arith)
-  names_read true = row_reads (names ++ quantity_names) (omega arith)
+  names_read false = row_reads (names ++ last_names) (omega arith)
+  names_read true = row_reads (names ++ (quantity_names ++ last_names)) (omega arith)
 
 module _ {State : Type 0} (ends : Ends State) (kept : State → Option KeptReply) (is : IsAnInstrument ends AnyState kept) (course : Course) (columns : Bool)
     (form : course.layout.form ≡ table columns) (reads : Call → List ℕ → Reading) (are : AreReadings reads) (acts : List Act) (u : UnderWay State) (rs : List (field.Run State))
     (there : IsInField ends AnyState kept course.plan course.tasks (scope_of course reads) acts u rs) where
+  -- the parts of the run
   abbrev parts : List Part
   parts = parts_of course.plan course.tasks (opening course.plan (scope_of course reads)) acts
 
+  -- the stretches of the run
   abbrev over : List (Stretch State)
   over = stretches ends u rs
 
+  -- the row of a record, as a reader gives it
   abbrev row : Record → List (List ℕ)
   row r = map escaped (fields_of course.layout columns course.names r)
 
@@ -233,9 +280,10 @@ module _ {State : Type 0} (ends : Ends State) (kept : State → Option KeptReply
       (all_written (IsOwnAnswer ends AnyState kept course.tasks parts over) (records_in course reads acts) written others order faithful.own n r at)
       (all_written (IsTrueRecord course.plan course.tasks (scope_of course reads) acts) (records_in course reads acts) written others order
       (answers_true course.plan course.tasks (scope_of course reads) acts there.runs) n r at)
-      (all_written (λ (x : Record). IsRead reads x.command.call x.end) (records_in course reads acts) written others order
-      (ended_read course.plan course.tasks (scope_of course reads) acts) n r at)
+      (all_written (λ (x : Record). IsAsListed reads course.tasks x) (records_in course reads acts) written others order
+      (as_listed course.plan course.tasks (scope_of course reads) acts) n r at)
 
+  -- what a sink took of the run, after what it had, is the run's own table
   tabled : (result : Result Tally Stop) (had : List ℕ) (has : Option (List ℕ))
       → Took (text_in course.layout course.names) (records_in course reads acts) result (had ++ front_text course.layout) has
       → IsOwnTable ends AnyState kept course columns reads acts parts over result had has
@@ -264,6 +312,7 @@ module _ {State : Type 0} (ends : Ends State) (kept : State → Option KeptReply
             );
       }
 
+-- what a sink took of a run is its own table
 pub tables_own : {State : Type 0} → TablesAreTheirOwn State
 tables_own ends kept is course columns form old new result behind told had none some began reads are u rs there =
     tabled ends kept is course columns form reads are (acts_measured result told) u rs there result had new.taken

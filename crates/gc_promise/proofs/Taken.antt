@@ -21,11 +21,12 @@ use Rattle.gc_promise.specs.Tables.{AreWritten, acts_measured, records_in, scope
 
 -- The acts.
 
+-- the first elements of a joined list, as many as the first list has, are the first list
 take_front : (xs ys : List Act) → take (length xs) (xs ++ ys) ≡ xs
 take_front [] ys = refl
 take_front (x ∷ xs) ys = ap (λ (l : List Act). x ∷ l) (take_front xs ys)
 
--- all acts but the last one, where one stands behind the others, are the others
+-- all acts but the last one of `xs` and then `x` are `xs`
 but_last : (xs : List Act) (x : Act) → take (length (xs ++ x ∷ []) - 1) (xs ++ x ∷ []) ≡ xs
 but_last xs x =
     let many = length-append xs (x ∷ []) in
@@ -34,12 +35,14 @@ but_last xs x =
 -- The bytes.
 
 module _ (text : Record → List ℕ) where
-  -- what was written of records, behind these bytes
+  -- a sink that had the bytes `start` has these records' texts after them now, all or, where the output failed, the first ones
+  -- and a part of the next
   pub record Took (records : List Record) (result : Result Tally Stop) (start : List ℕ) (has : Option (List ℕ)) : Type 0 where
     pub torn : List ℕ
     pub are : AreWritten text records result torn
     pub is : has ≡ Some (start ++ (texts_of text are.written ++ torn))
 
+  -- what is appended to known bytes stands after them
   appended : (start bytes : List ℕ) (has : Option (List ℕ)) → Appends (Some start) has bytes → has ≡ Some (start ++ bytes)
   appended start bytes None e = absurd e
   appended start bytes (Some ys) e = ap Some e
@@ -52,6 +55,7 @@ module _ (text : Record → List ℕ) where
     is = appended start (texts_of text records) has took ∙ ap (λ (l : List ℕ). Some (start ++ l)) (sym (append-nil (texts_of text records)));
   }
 
+  -- a list is its first n elements and then the others
   parted : (n : ℕ) (xs : List ℕ) → xs ≡ take n xs ++ drop n xs
   parted zero xs = refl
   parted (suc n) [] = refl
@@ -72,7 +76,7 @@ module _ (text : Record → List ℕ) where
   }
 
   module _ (plan : Plan) (commands : List Task) (scope : Scope) (told : List Act) (start : List ℕ) (has : Option (List ℕ)) where
-    -- all records of these acts were written
+    -- where the texts of all records of these acts were written, `Took` holds
     took_of : (acts measured : List Act) (result : Result Tally Stop) → measured ≡ acts → Appends (Some start) has (texts_of text (stood plan commands scope acts).records)
         → Took (stood plan commands scope measured).records result start has
     took_of acts measured result e took =
@@ -91,7 +95,7 @@ module _ (text : Record → List ℕ) where
         took_of r.acts (acts_measured (Err (Run Output)) told) (Err (Run Output)) (ap (acts_measured (Err (Run Output))) r.tells ∙ but_last r.acts Closed) r.took
     ran_took (Err fault) r = took_of r.2.acts told (Err (Run fault)) r.2.tells r.2.took
 
--- what a sink took of a run is what was written of its records, behind what the sink had and what stands in front of the records
+-- what a sink took of a run is what was written of its records, after what the sink had and what stands in front of the records
 pub behind_took : (course : Course) (old new : Places) (result : Result Tally Stop) → RunsBehind course old new result →
     (told : List Act) (had : List ℕ) → old.acts ≡ Some [] → new.acts ≡ Some told → old.taken ≡ Some had → (reads : Call → List ℕ → Reading) → AreReadings reads →
     Took (text_in course.layout course.names) (records_in course reads (acts_measured result told)) result (had ++ front_text course.layout) new.taken

@@ -45,24 +45,29 @@ module _ (call : Call) where
   value_says line params id answer reads of_call values =
       record { reply = replied id params; is_reply = reply_found line (replied id params) reads; is_reading = (refl, refl, record { of_call = sym of_call; values = values }) }
 
+  -- the reply to command 0 says nothing but that its call was carried out
   pointed_says : (call_fields call).answer ≡ shape.Nothing → ReadsAs call pointed (Value Nothing)
   unfolding header_at reply_at digits
   pointed_says of_call = value_says pointed [] 0 Nothing refl of_call (no_params [] [] refl refl)
 
+  -- the reply to command 1 says angles and a distance at target 7
   measured_says : (call_fields call).answer ≡ shape.Measured → ReadsAs call measured (Value at_target)
   unfolding header_at reply_at digits rounded
   measured_says of_call =
       value_says measured (codes "2.25,1.625,110.0625") 1 at_target refl of_call (written_reads (answer_fields at_target).values (tt, (tt, (tt, tt))))
 
+  -- the reply to command 2 says angles and a distance away from target 8
   elsewhere_says : (call_fields call).answer ≡ shape.Measured → ReadsAs call elsewhere (Value away)
   unfolding header_at reply_at digits rounded
   elsewhere_says of_call = value_says elsewhere (codes "0.5,1.5,87.25") 2 away refl of_call (written_reads (answer_fields away).values (tt, (tt, (tt, tt))))
 
+  -- the reply to command 3 says the number 31
   numbered_says : (call_fields call).answer ≡ shape.Long → ReadsAs call numbered (Value (Long (pos 31)))
   unfolding header_at reply_at digits
   numbered_says of_call =
       value_says numbered (codes "31") 3 (Long (pos 31)) refl of_call (written_reads (value.Long (pos 31) ∷ []) ((omega (arith, ints), omega (arith, ints)), tt))
 
+  -- the reply to command 4 doesn't read: it has too few values
   empty_says : (call_fields call).answer ≡ shape.Long → ReadsAs call empty (Unreadable Count)
   unfolding header_at reply_at digits
   empty_says of_call =
@@ -83,7 +88,7 @@ patched reads (SimpleMea wait mode) = saying measured (Value at_target) (saying 
 patched reads InstrumentNo = saying numbered (Value (Long (pos 31))) (saying empty (Unreadable Count) (reads InstrumentNo))
 patched reads call = reads call
 
--- where a function says this reading of the line anyway, the reading put in front changes nothing
+-- where a function gives this reading of the line anyway, to put the reading in front changes nothing
 said_so : (line : List ℕ) (reading : Reading) (says : List ℕ → Reading) → says line ≡ reading → saying line reading says ≡ says
 said_so line reading says e = fun_ext (λ x. by_test x (pointwise nat_eq line x) refl) where
   by_test : (x : List ℕ) (same : Bool) → pointwise nat_eq line x ≡ same → (if same then reading else says x) ≡ says x
@@ -91,7 +96,7 @@ said_so line reading says e = fun_ext (λ x. by_test x (pointwise nat_eq line x)
   by_test x false t = refl
 
 module _ (reads : Call → List ℕ → Reading) (are : AreReadings reads) where
-  -- of each call `patched` says what the function says, because the function says these readings by the grammar
+  -- for each call `patched` gives what the function gives, which has these readings of the five replies by the grammar
   of_call : (call : Call) → patched reads call ≡ reads call
   of_call (Position hz v pos_mode atr_mode dummy) =
       let call = Position hz v pos_mode atr_mode dummy in said_so pointed (Value Nothing) (reads call) (are call pointed (Value Nothing) (pointed_says call refl))

@@ -18,19 +18,19 @@ use Rattle.gc_promise.specs.Eventful.{acts, commands, plan, scope}
 use Rattle.gc_promise.proofs.Eventful.{all_run}
 use Rattle.gc_promise.proofs.TrueReadings.{patched, patched_same}
 
--- behind one act more stands what that act makes of the model behind those before
+-- the model after some acts and one more is what that one makes of the model after the others
 after_more : (s : Model) (done : List Act) (act : Act) → after_all plan commands s (done ++ act ∷ []) ≡ after plan commands (after_all plan commands s done) act
 after_more s [] act = refl
 after_more s (d ∷ done) act = after_more (after plan commands s d) done act
 
 module _ (text : Record → List ℕ) where
-  -- what is seen at each of these acts, from this model on, behind the acts that were done
+  -- what is seen at each of these acts, from this model on, after the acts that were done
   abbrev turns_from : Model → List Act → List Act → List Turn
   turns_from s done [] = []
   turns_from s done (act ∷ acts) =
       record { acts = Some done; taken = Some (texts_of text s.records); lasts = true } ∷ turns_from (after plan commands s act) (done ++ act ∷ []) acts
 
-  -- so all that the acts before it settled is kept at each act
+  -- with these turns, at each act all that the acts before it settled is kept
   kept_from : (reads : Call → List ℕ → Reading) (s : Model) (done acts : List Act) → s ≡ stood plan commands (scope reads) done
       → AreKept plan commands (scope reads) text (Some []) (Some []) done acts (turns_from s done acts)
   kept_from reads s done [] is = tt
@@ -48,13 +48,16 @@ module _ (text : Record → List ℕ) where
   abbrev any : Call → List ℕ → Reading
   any call line = ComFault 0
 
+  -- what is seen at the acts of the run, whatever function says what replies say
   abbrev pub turns : List Turn
   turns = turns_by any
 
+  -- what is seen at the acts is the same with each function that says what replies say
   same_turns : (reads : Call → List ℕ → Reading) → turns_by reads ≡ turns
   unfolding is_elsewhere is_near header_at reply_at digits rounded
   same_turns reads = refl
 
+  -- with the patched readings the run keeps up: at each act all that the acts before it settled is kept
   keeps : (reads : Call → List ℕ → Reading) → KeepsUp plan commands (scope (patched reads)) text (Some []) (Some acts) (Some []) [] turns []
   keeps reads =
       record {
@@ -68,6 +71,6 @@ module _ (text : Record → List ℕ) where
             (kept_from (patched reads) (opening plan (scope (patched reads))) [] acts refl);
       }
 
-  -- so it is with whatever function says what replies say
+  -- with each function that says what replies say the run keeps up
   pub keeps_whole : (reads : Call → List ℕ → Reading) → AreReadings reads → KeepsUp plan commands (scope reads) text (Some []) (Some acts) (Some []) [] turns []
   keeps_whole reads are = subst (λ r. KeepsUp plan commands (scope r) text (Some []) (Some acts) (Some []) [] turns []) (patched_same reads are) (keeps reads)

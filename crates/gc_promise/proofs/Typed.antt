@@ -19,40 +19,59 @@ use Rattle.gc_promise.specs.Objects.{AreOfBytes}
 use Rattle.gc_promise.specs.Witness.{course}
 use Rattle.gc_promise.proofs.TrueReadings.{replied}
 
--- a line of bytes that reads as a reply with both codes 0
-of_bytes : (line params : List ℕ) (id : ℕ) → reply_at line ≡ Ok (replied id params) → AllByRecursion (λ b. b < 256) line → IsReplyOfBytes line
-of_bytes line params id reads small = (replied id params, reply_found line (replied id params) reads, All-from_recursion (λ b. b < 256) line small)
+-- whether each number is below 256
+abbrev are_bytes : List ℕ → Bool
+are_bytes [] = true
+are_bytes (b ∷ more) = nat_lt b 256 && are_bytes more
 
+-- each number is below 256 where `are_bytes` says so
+bytes_are : (line : List ℕ) → are_bytes line ≡ true → AllByRecursion (λ b. b < 256) line
+bytes_are [] e = tt
+bytes_are (b ∷ more) e = let both = both_true (nat_lt b 256) (are_bytes more) e in (ltb-true b 256 both.0, bytes_are more both.1)
+
+-- a line of bytes that reads as a reply with both codes 0 is a reply of bytes
+of_bytes : (line params : List ℕ) (id : ℕ) → reply_at line ≡ Ok (replied id params) → are_bytes line ≡ true → IsReplyOfBytes line
+of_bytes line params id reads small =
+    (replied id params, reply_found line (replied id params) reads, All-from_recursion (λ b. b < 256) line (bytes_are line small))
+
+-- the reply to command 0 is of bytes
 pointed_is : IsReplyOfBytes pointed
 unfolding header_at reply_at digits
-pointed_is = of_bytes pointed [] 0 refl (lit< tt, (lit< tt, (lit< tt, (lit< tt, (lit< tt, (lit< tt, (lit< tt, (lit< tt, (lit< tt, (lit< tt, tt))))))))))
+pointed_is = of_bytes pointed [] 0 refl refl
 
+-- the reply to command 1 is of bytes
 measured_is : IsReplyOfBytes measured
 unfolding header_at reply_at digits
-measured_is = of_bytes measured (codes "2.25,1.625,110.0625") 1 refl (lit< tt, (lit< tt, (lit< tt, (lit< tt, (lit< tt, (lit< tt, (lit< tt, (lit< tt, (lit< tt, (lit< tt, (lit< tt, (lit< tt, (lit< tt, (lit< tt, (lit< tt, (lit< tt, (lit< tt, (lit< tt, (lit< tt, (lit< tt, (lit< tt, (lit< tt, (lit< tt, (lit< tt, (lit< tt, (lit< tt, (lit< tt, (lit< tt, (lit< tt, (lit< tt, tt))))))))))))))))))))))))))))))
+measured_is = of_bytes measured (codes "2.25,1.625,110.0625") 1 refl refl
 
+-- the reply to command 2 is of bytes
 elsewhere_is : IsReplyOfBytes elsewhere
 unfolding header_at reply_at digits
-elsewhere_is = of_bytes elsewhere (codes "0.5,1.5,87.25") 2 refl (lit< tt, (lit< tt, (lit< tt, (lit< tt, (lit< tt, (lit< tt, (lit< tt, (lit< tt, (lit< tt, (lit< tt, (lit< tt, (lit< tt, (lit< tt, (lit< tt, (lit< tt, (lit< tt, (lit< tt, (lit< tt, (lit< tt, (lit< tt, (lit< tt, (lit< tt, (lit< tt, (lit< tt, tt))))))))))))))))))))))))
+elsewhere_is = of_bytes elsewhere (codes "0.5,1.5,87.25") 2 refl refl
 
+-- the reply to command 3 is of bytes
 numbered_is : IsReplyOfBytes numbered
 unfolding header_at reply_at digits
-numbered_is = of_bytes numbered (codes "31") 3 refl (lit< tt, (lit< tt, (lit< tt, (lit< tt, (lit< tt, (lit< tt, (lit< tt, (lit< tt, (lit< tt, (lit< tt, (lit< tt, (lit< tt, (lit< tt, tt)))))))))))))
+numbered_is = of_bytes numbered (codes "31") 3 refl refl
 
+-- the reply to command 4 is of bytes
 empty_is : IsReplyOfBytes empty
 unfolding header_at reply_at digits
-empty_is = of_bytes empty [] 4 refl (lit< tt, (lit< tt, (lit< tt, (lit< tt, (lit< tt, (lit< tt, (lit< tt, (lit< tt, (lit< tt, (lit< tt, tt))))))))))
+empty_is = of_bytes empty [] 4 refl refl
 
--- the answers of this run are of bytes
+-- the line in the ending of command 0 is of bytes
 points_end : IsEnd points_record.end
 points_end = (pointed_is, tt)
 
+-- the line in the ending of command 1 is of bytes
 chained_end : IsEnd chained_record.end
 chained_end = (measured_is, (tt, (tt, (tt, tt))))
 
+-- the line in the ending of command 3 is of bytes
 number_end : IsEnd number_record.end
 number_end = (numbered_is, ((omega (arith, ints), omega (arith, ints)), tt))
 
+-- the lines in the endings of all records of this run are of bytes
 ends : AllByRecursion (λ (r : Record). IsEnd r.end) records
 ends = (tt, (tt, (tt, (tt, (tt, (tt, (tt, (tt, (tt, (tt, (tt, (tt, (tt, (tt, (points_end, (chained_end, (elsewhere_is, (number_end, (empty_is, (tt, (tt, tt)))))))))))))))))))))
 

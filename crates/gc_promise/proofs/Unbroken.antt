@@ -10,11 +10,11 @@ use Rattle.gc_catalogue.specs.Answers.{answer_fields}
 use Rattle.gc_catalogue.specs.Calls.{call_fields}
 use Rattle.gc_catalogue.specs.declared.call.Call.{Call}
 use Rattle.gc_texts.specs.Cuts.{Lacks}
-use Rattle.gc_texts.specs.Endings.{End, Answered, Unreadable, Elsewhere, Late, Lost, Skipped, Missed}
+use Rattle.gc_texts.specs.Endings.{End, Answered, Unreadable, Elsewhere, Late, Lost, Skipped, Missed, quality_of, quality_text}
 use Rattle.gc_texts.specs.Logs.{escape, escaped, hex_digit, is_as_it_is}
 use Rattle.gc_texts.specs.Stamps.{stamp_text}
 use Rattle.gc_texts.specs.declared.commands.Command.{Command}
-use Rattle.gc_rows.specs.JsonLines.{Member, Text, Number, behind_backslash, ending_members, json_members, member_text, members_text, quantity_members, reply_members, sent_members, string_text, value_members, values_members, what_members, when_members, without_zeros}
+use Rattle.gc_rows.specs.JsonLines.{Member, Text, Number, behind_backslash, ending_members, json_members, last_members, member_text, members_text, more_members, quantity_members, reply_members, sent_members, string_text, value_members, values_members, what_members, when_members, without_zeros, worded_members}
 use Rattle.gc_rows.specs.Laws.{IsEnd, IsMember, IsPlainName, IsReplyOfBytes}
 use Rattle.gc_rows.specs.Quantities.{column_of, quantity_name, quantity_text}
 use Rattle.gc_rows.specs.Rows.{code_of, com_of, values_of}
@@ -26,11 +26,12 @@ use Rattle.gc_promise.proofs.Plain.{decimal_plain, number_plain}
 
 -- Texts.
 
--- two texts without a line feed, one behind the other, have none
+-- two texts without a line feed, one after the other, have none
 lacks_both : (xs ys : List ℕ) → Lacks 10 xs → Lacks 10 ys → Lacks 10 (xs ++ ys)
 lacks_both [] ys a b = b
 lacks_both (x ∷ xs) ys a b = (a.0, lacks_both xs ys a.1 b)
 
+-- a byte that a string of JSON shows as it is isn't a line feed
 shown_lacks : (b : ℕ) → is_as_it_is b ≡ true → b ≢ 10
 shown_lacks b is e = let bad : false ≡ true = subst (λ (x : ℕ). is_as_it_is x ≡ true) e is in cc
 
@@ -49,16 +50,18 @@ escaped_lacks : (bytes : List ℕ) → Lacks 10 (escaped bytes)
 escaped_lacks [] = tt
 escaped_lacks (b ∷ bs) = lacks_both (escape b) (escaped bs) (byte_lacks b) (escaped_lacks bs)
 
--- a text that escaping leaves has no line feed
+-- a text in which escaping changes nothing has no line feed
 plain_lacks : (text : List ℕ) → IsPlain text → Lacks 10 text
 plain_lacks text is = subst (Lacks 10) is (escaped_lacks text)
 
+-- a text without a line feed still has none once each double quote and backslash in it has a backslash before it
 mark_lacks : (text : List ℕ) → Lacks 10 text → Lacks 10 (flat_map behind_backslash text)
 mark_lacks [] no_feed = tt
 mark_lacks (b ∷ bs) no_feed =
     lacks_both (behind_backslash b) (flat_map behind_backslash bs)
     (cond_both ((b == 34) || (b == 92)) (92 ∷ b ∷ []) (b ∷ []) (Lacks 10) (λ _. ((λ e. omega (arith, e)), (no_feed.0, tt))) (λ _. (no_feed.0, tt))) (mark_lacks bs no_feed.1)
 
+-- a quotation mark isn't a line feed
 quote_lacks : Lacks 10 (codes "\"")
 quote_lacks = ((λ e. omega (arith, e)), tt)
 
@@ -68,13 +71,14 @@ string_lacks bytes =
     lacks_both (codes "\"" ++ flat_map behind_backslash (escaped bytes)) (codes "\"")
     (lacks_both (codes "\"") (flat_map behind_backslash (escaped bytes)) quote_lacks (mark_lacks (escaped bytes) (escaped_lacks bytes))) quote_lacks
 
+-- a plain name has no line feed
 name_lacks : (name : List ℕ) → IsPlainName name → Lacks 10 name
 name_lacks [] is = tt
 name_lacks (b ∷ bs) is = ((λ e. let low = is.0.0 in omega (arith, e, low)), name_lacks bs is.1)
 
 -- Members.
 
--- a number stands as it is
+-- the digits of a member that is a number stand as they are
 abbrev HasPlainDigits : Member → Type 0
 HasPlainDigits (Text name bytes) = Unit {0}
 HasPlainDigits (Number name digits) = IsPlain digits
@@ -95,21 +99,26 @@ members_lack (Number name digits ∷ ms) are plain =
     lacks_both (member_text (Number name digits)) (members_text ms)
     (lacks_both ((codes ",\"" ++ name) ++ codes "\":") digits (named_lacks name are.0.0) (plain_lacks digits plain.0)) (members_lack ms are.1 plain.1)
 
+-- where `HasPlainDigits` holds of the members of two lists, it holds of those of the joined list
 all_both : (xs ys : List Member) → AllByRecursion HasPlainDigits xs → AllByRecursion HasPlainDigits ys → AllByRecursion HasPlainDigits (xs ++ ys)
 all_both [] ys a b = b
 all_both (x ∷ xs) ys a b = (a.0, all_both xs ys a.1 b)
 
+-- the member on the moment at which a command went out has plain digits
 sent_plain : (sent : Option ℕ) → AllByRecursion HasPlainDigits (sent_members sent)
 sent_plain None = tt
 sent_plain (Some utc) = (tt, tt)
 
+-- the members on when and where have plain digits
 when_plain : (when : When) → AllByRecursion HasPlainDigits (when_members when)
 when_plain when = all_both (sent_members when.stamp.sent) _ (sent_plain when.stamp.sent) (tt, (decimal_plain when.stamp.cycle, (decimal_plain when.stamp.place, tt)))
 
+-- the members on a command have plain digits
 what_plain : (command : Command) (name : List ℕ) → AllByRecursion HasPlainDigits (what_members command name)
 what_plain command [] = (decimal_plain command.target, (decimal_plain (call_fields command.call).number, tt))
 what_plain command (b ∷ bs) = (decimal_plain command.target, (tt, (decimal_plain (call_fields command.call).number, tt)))
 
+-- the members on a reply of bytes have plain digits
 reply_plain : (line : List ℕ) → IsReplyOfBytes line → AllByRecursion HasPlainDigits (reply_members (Some line))
 reply_plain line is =
     let said = reply_columns line is.0 is.1 in
@@ -117,9 +126,10 @@ reply_plain line is =
     let second = zeros_gone (code_of line) is.0.rc said.rc in
     (number_plain (without_zeros (com_of line)) first.digits, (number_plain (without_zeros (code_of line)) second.digits, (tt, tt)))
 
+-- the members on how a command ended have plain digits
 ending_plain : (end : End) → IsEnd end → AllByRecursion HasPlainDigits (ending_members end)
-ending_plain (Answered (Some answer) line) is = (tt, reply_plain line is.0)
-ending_plain (Answered None line) is = (tt, reply_plain line is)
+ending_plain (Answered quality (Some answer) line) is = (tt, reply_plain line is.0)
+ending_plain (Answered quality None line) is = (tt, reply_plain line is)
 ending_plain (Unreadable line fault) is = (tt, (decimal_plain (fault_number fault), reply_plain line is))
 ending_plain (Elsewhere line) is = (tt, reply_plain line is)
 ending_plain Late is = (tt, tt)
@@ -127,10 +137,12 @@ ending_plain Lost is = (tt, tt)
 ending_plain Skipped is = (tt, tt)
 ending_plain Missed is = (tt, tt)
 
+-- escaping changes nothing in the text of a truth value
 boolean_plain : (b : Bool) → IsPlain (quantity_text (value.Bool b))
 boolean_plain true = refl
 boolean_plain false = refl
 
+-- the members for a value have plain digits
 value_plain : (name : List ℕ) (v : Value) (came : List ℕ) → AllByRecursion HasPlainDigits (value_members name v came)
 value_plain name (value.Double d) came = (double_plain d, (tt, tt))
 value_plain name (value.Long n) came = (signed_plain n, (tt, tt))
@@ -139,22 +151,30 @@ value_plain name (value.Byte n) came = (decimal_plain n, (tt, tt))
 value_plain name (value.Bool b) came = (boolean_plain b, (tt, tt))
 value_plain name (value.Text bytes) came = (tt, tt)
 
+-- the members for values, from a column on, have plain digits
 values_plain : (column : ℕ) (vs : List Value) (came : List ℕ) → AllByRecursion HasPlainDigits (values_members column vs came)
 values_plain column [] came = tt
 values_plain column (v ∷ vs) came =
     all_both (value_members (quantity_name column) v (before 44 came)) (values_members (column + 1) vs (behind 44 came)) (value_plain (quantity_name column) v (before 44 came))
     (values_plain (column + 1) vs (behind 44 came))
 
+-- the members for quantities have plain digits
 quantities_plain : (call : Call) (end : End) → AllByRecursion HasPlainDigits (quantity_members call end)
-quantities_plain call (Answered (Some answer) line) = values_plain (column_of call answer) (answer_fields answer).values (values_of line)
+quantities_plain call (Answered quality (Some answer) line) = values_plain (column_of call answer) (answer_fields answer).values (values_of line)
 quantities_plain call end = tt
+
+-- a member for a quality has no digits
+worded_plain : (word : List ℕ) → AllByRecursion HasPlainDigits (worded_members word)
+worded_plain [] = tt
+worded_plain (b ∷ bs) = (tt, tt)
 
 -- the digits of all members of a record stand as they are
 members_plain : (when : When) (name : List ℕ) (command : Command) (end : End) → IsEnd end → AllByRecursion HasPlainDigits (json_members when name command end)
 members_plain when name command end is =
-    let rest = ending_members end ++ quantity_members command.call end in
+    let rest = ending_members end ++ more_members command.call end in
     all_both (when_members when) (what_members command name ++ rest) (when_plain when)
-    (all_both (what_members command name) rest (what_plain command name) (all_both (ending_members end) (quantity_members command.call end) (ending_plain end is) (quantities_plain command.call end)))
+    (all_both (what_members command name) rest (what_plain command name) (all_both (ending_members end) (more_members command.call end) (ending_plain end is)
+    (all_both (quantity_members command.call end) (last_members end) (quantities_plain command.call end) (worded_plain (quality_text (quality_of end))))))
 
 -- the line of a record, without its line feed, has none
 pub line_unbroken : (when : When) (name : List ℕ) (command : Command) (end : End) → IsEnd end → AllByRecursion IsMember (json_members when name command end)

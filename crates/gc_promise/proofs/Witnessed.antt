@@ -1,4 +1,5 @@
--- The rows of a computed run are their own.
+-- The rows of the eventful run, computed, are their own: what stands in a row of an answer was made by the instrument on
+-- executing the very request of the row's cycle and place.
 use Rattle.std.proofs.Common.{ℕ, List, [], Some, Ok, false, refl, subst, sym}
 use Rattle.std.specs.Fmt.{digits}
 use Rattle.std.specs.List.{AllByRecursion}
@@ -28,6 +29,7 @@ use Rattle.gc_promise.proofs.Typed.{of_types}
 use Rattle.gc_promise.proofs.Objected.{objects_own}
 use Rattle.gc_promise.specs.Objects.{AreOfBytes}
 
+-- the row of each of these records, where it is an answer, is its own
 abbrev AreOwn : (Call → List ℕ → Reading) → List Record → Type 0
 AreOwn reads = AllByRecursion (IsOwnRow reporting AnyState nothing in_a_table [] commands (parts_of plan commands (opening plan (scope reads)) acts) (stretches reporting before runs))
 
@@ -47,7 +49,7 @@ is_measured form =
       keeps = for_readings _ (keeps_whole (text_in (layout_in form) []));
     }
 
--- with every function that gives the readings the run has rows of its own
+-- `HasOwnRows` holds of the eventful run, with every function that gives what each reply says of its call
 own_rows : (reads : Call → List ℕ → Reading) → AreReadings reads → HasOwnRows reads
 unfolding digits days_after
 own_rows reads are =
@@ -68,5 +70,6 @@ own_rows reads are =
           (is_measured Json) acts [] refl refl refl reads are before runs run.field (subst (AreOfBytes (course Json)) (sym run.written) of_types);
     }
 
+-- the eventful run meets all that the law on rows asks, and its rows are their own
 pub witnessed : SomeRowIsItsOwn
 witnessed = record { own = for_readings HasOwnRows own_rows; measured = λ form. (turns_in form, is_measured form) }

@@ -19,7 +19,9 @@ use Rattle.gc_client.specs.Rule.{heard}
 use Rattle.gc_client.specs.declared.window.TheConstants.{WINDOW}
 use Rattle.gc_texts.specs.Endings as end
 use Rattle.gc_texts.specs.Endings.{End}
+use Rattle.gc_texts.specs.Codes.{no_codes}
 use Rattle.gc_texts.specs.declared.near.Near.{Near}
+use Rattle.gc_texts.specs.declared.quality.Quality.TheVariants.{Fine}
 use Rattle.gc_texts.specs.declared.tasks.Task.{Task}
 use Rattle.gc_links.specs.Acts.{Act, Told, Put, Cut, Gave, Silent, Ended, Broke, Closed, Opened, Unopened}
 use Rattle.gc_station.specs.Beginnings.{IsAnew}
@@ -46,7 +48,8 @@ use Rattle.gc_field.specs.Witness.{asked, at, eight, exchanged, replies}
 
 -- The instrument.
 
--- its state is a text, which it sends as the parameters of every reply. It keeps no reply, and a start leaves it with no text
+-- the instrument: its state is a text, which it sends as the parameters of every reply. It keeps no reply, and a start leaves
+-- it with no text
 abbrev pub reporting : Ends (List ℕ)
 reporting =
     record {
@@ -65,7 +68,7 @@ plan = record { width = 7; deadline = 100; every = 150; cycles = 3; quiet = 10; 
 
 -- a command that waits 50 ms
 abbrev pub task : ℕ → Call → Bool → Option Near → Task
-task target call chained near = record { command = record { target = target; call = call }; deadline = 50; chained = chained; near = near }
+task target call chained near = record { command = record { target = target; call = call }; deadline = 50; chained = chained; near = near; accepted = no_codes }
 
 -- where a target stands: in this direction, within a hundredth of a radian
 abbrev pub stands : ℕ → Decimal → Decimal → Option Near
@@ -96,7 +99,7 @@ four = codes "%R1Q,2108,2:3000,1" ∷ codes "%R1Q,5003,3:" ∷ codes "%R1Q,5003,
 abbrev pub last : List ℕ
 last = codes "%R1Q,5003,6:"
 
--- the request line of the null procedure with this id
+-- the request line of the null procedure with this id, a single digit (48 is the digit 0)
 abbrev pub null : ℕ → List ℕ
 null id = codes "%R1Q,0," ++ (48 + id) ∷ codes ":"
 
@@ -186,9 +189,9 @@ begins_turns =
 
 -- The first cycle.
 
--- no reply to command 0 comes until its deadline, and the reply to a null procedure settles it as lost. So command 1, which is chained to it, is
--- skipped. Commands 2 to 6 go out, and behind their deadline two null procedures; no reply comes to any of these seven. Meanwhile the line is
--- dead: the connection is closed, and a third one is made
+-- no reply to command 0 comes until its deadline, and the reply to a null procedure settles it as lost. So command 1, which is
+-- chained to it, is skipped. Commands 2 to 6 go out, and after their deadline two null procedures; no reply comes to any of
+-- these seven. Meanwhile the line is dead: the connection is closed, and a third one is made
 abbrev pub breaks_acts : List Act
 breaks_acts =
     Told (at 40)
@@ -279,10 +282,11 @@ anew_turns =
 
 -- The second cycle, and the third.
 
--- the second cycle is missed, and the third begins at once. Command 0 is answered, and the others go out; the last request is cut behind five
--- bytes, and the connection is closed. Over a fifth one noise comes, a second reply to command 0, and the replies to commands 1 to 4, of which
--- one comes twice. Commands 5 and 6 are given up; the reply to command 5 comes late, and the reply to a null procedure settles command 6 as
--- lost
+-- the clock is read nine times: the second cycle begins and is missed, its seven commands are passed over, and the third cycle
+-- begins. Command 0 is answered, and the others go out; the last request is cut after five bytes, and the connection is closed.
+-- Over the fifth connection come noise, a second reply to command 0, and the replies to commands 1 to 4, that to command 3
+-- twice. Commands 5 and 6 are given up; the reply to command 5 comes late, and the reply to a null procedure settles command 6
+-- as lost
 abbrev pub chain_acts : List Act
 chain_acts =
     map (λ now. Told (at now)) (replicate 9 385)
@@ -356,7 +360,7 @@ acts = front ++ (anew_acts ++ chain_acts)
 abbrev pub first_run : Run (List ℕ)
 first_run = record { turns = begins_turns; moves = breaks_moves }
 
--- the run as two: until the station begins anew, and from there on; and what is behind its end, where nothing happens
+-- the run as two: until the station begins anew, and from there on; and what is after its end, where nothing happens
 abbrev pub runs : List (Run (List ℕ))
 runs = first_run ∷ record { turns = anew_turns; moves = chain_moves } ∷ record { turns = []; moves = [] } ∷ []
 
@@ -374,7 +378,8 @@ last_stretch = record { from = leaves (turned reporting anew_turns (begins left)
 
 -- The records of the run.
 
--- the record of a command that went out at the first of these moments, if it did, and ended at the second
+-- the record of a command of this cycle and place, for this target and with this call: it went out at the moment `sent`, if it
+-- did, and ended at the moment `utc`
 abbrev pub ended : Option ℕ → ℕ → ℕ → ℕ → ℕ → Call → End → Record
 ended sent utc cycle place target call end =
     record { sent = sent; utc = utc; cycle = cycle; place = place; command = record { target = target; call = call }; end = end }
@@ -385,11 +390,11 @@ at_target = Measured hz v (decimal (pos 1100625) 4 refl)
 
 -- the record of command 0 in the third cycle: answered, without values
 abbrev pub points_record : Record
-points_record = ended (Some 385) 390 3 0 7 points (end.Answered (Some Nothing) pointed)
+points_record = ended (Some 385) 390 3 0 7 points (end.Answered Fine (Some Nothing) pointed)
 
 -- the record of command 1 in the third cycle: answered, with what was measured at target 7
 abbrev pub chained_record : Record
-chained_record = ended (Some 390) 415 3 1 7 reads_all (end.Answered (Some at_target) measured)
+chained_record = ended (Some 390) 415 3 1 7 reads_all (end.Answered Fine (Some at_target) measured)
 
 -- the record of command 2 in the third cycle: elsewhere
 abbrev pub elsewhere_record : Record
@@ -397,7 +402,7 @@ elsewhere_record = ended (Some 390) 415 3 2 8 reads_all (end.Elsewhere elsewhere
 
 -- the record of command 3 in the third cycle: answered, with a number
 abbrev pub number_record : Record
-number_record = ended (Some 390) 415 3 3 1 InstrumentNo (end.Answered (Some (Long (pos 31))) numbered)
+number_record = ended (Some 390) 415 3 3 1 InstrumentNo (end.Answered Fine (Some (Long (pos 31))) numbered)
 
 -- the record of command 4 in the third cycle: unreadable
 abbrev pub unreadable_record : Record
@@ -441,8 +446,8 @@ connections [] = 0
 connections (Opened ∷ acts) = suc (connections acts)
 connections (_ ∷ acts) = connections acts
 
--- by a function that gives what replies say of their calls: `reporting` is an instrument, and the run is one in the field, which is over
--- behind these acts and has these records
+-- where `reads` gives what replies say of their calls: `reporting` is an instrument, and the run is one in the field, which is
+-- over after these acts and has these records
 pub record IsEventful (reads : Call → List ℕ → Reading) : Type 0 where
   pub is : IsAnInstrument reporting AnyState nothing
   pub field : IsInField reporting AnyState nothing plan commands (scope reads) acts before runs
@@ -458,7 +463,7 @@ pub record IsEventful (reads : Call → List ℕ → Reading) : Type 0 where
   pub begins_anew : IsAnew plan commands (scope reads) front (Told (at 345))
   pub up : left.up ≡ record { id = 6; call = InstrumentNo } ∷ record { id = 0; call = NullProc } ∷ []
   pub down : left.down ≡ codes "%R1P,0,2:0,27" ∷ []
-  -- the instrument starts anew in the third cycle, behind five executions
+  -- the instrument starts anew in the third cycle, after five executions
   pub starts : (world reporting last_stretch).wire.starts ≡ 5 ∷ []
   -- five connections are made
   pub connected : connections acts ≡ 5

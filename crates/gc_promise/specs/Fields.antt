@@ -1,5 +1,6 @@
--- What stands in a row of a table, or in an object, under each name: this project's own. Both are given by the function from a name to the
--- text under it, so that one definition serves both.
+-- What stands in a row of a table, or in an object, under each name: this project's own. Both are given by the function from a
+-- name to the text under it, so that one definition serves both. A part is what a station sees of its run from one beginning to
+-- the next, and a stretch what happens on the line meanwhile, once it has begun.
 use Rattle.std.specs.Prelude.{◌≡◌, ◌⊎◌, ℕ, Bool, true, List, [], ◌∷◌, map, Some, nat_eq, if◌then◌else◌, slice_get, codes, Option}
 use Rattle.std.specs.Cmp.Lexicographic.{pointwise}
 use Rattle.std.specs.Fmt.{decimal}
@@ -9,15 +10,21 @@ use Rattle.gc_catalogue.specs.Answers.{answer_fields}
 use Rattle.gc_catalogue.specs.Calls.{call_fields}
 use Rattle.gc_catalogue.specs.Readings.{IsReading}
 use Rattle.gc_catalogue.specs.declared.answer.Reading.{Reading}
-use Rattle.gc_catalogue.specs.declared.answer.Reading.TheVariants.{Value}
+use Rattle.gc_catalogue.specs.declared.answer.Reading.TheVariants as reading
 use Rattle.gc_catalogue.specs.declared.call.Call.{Call}
 use Rattle.gc_instrument.specs.State.{KeptReply}
+use Rattle.gc_texts.specs.Codes.{are_accepted}
 use Rattle.gc_texts.specs.Endings.{word_of}
 use Rattle.gc_texts.specs.Logs.{escaped}
+use Rattle.gc_texts.specs.Qualities.{quality_word}
+use Rattle.gc_texts.specs.declared.codes.Codes.{Codes}
+use Rattle.gc_texts.specs.declared.quality.Quality.{Quality}
+use Rattle.gc_texts.specs.declared.quality.Quality.TheVariants.{Fine, Warning, Refused}
 use Rattle.gc_texts.specs.declared.tasks.Task.{Task}
 use Rattle.gc_rows.specs.Quantities.{quantity_names, quantity_text}
 use Rattle.gc_rows.specs.Told.{quantities_told}
 use Rattle.gc_station.specs.Parts.{Part}
+use Rattle.gc_station.specs.Qualities.{accepted_at}
 use Rattle.gc_station.specs.Records.{Record}
 use Rattle.gc_world.specs.World.{Ends}
 use Rattle.gc_field.specs.Runs.{IsItsOwn}
@@ -49,28 +56,48 @@ IsQuantity name = (k : ℕ) × (slice_get quantity_names k ≡ Some name)
 -- the text of the quantity of this name in a reply to this call, by what the reply says of the call: an answer has the quantities of its
 -- call, in the manual's order. Empty where the reply has no such quantity, or is no answer
 abbrev pub quantity_in : Call → Reading → List ℕ → List ℕ
-quantity_in call (Value answer) name = under name (quantities_told (call_fields call).number) (map quantity_text (answer_fields answer).values)
+quantity_in call (reading.Value answer) name = under name (quantities_told (call_fields call).number) (map quantity_text (answer_fields answer).values)
 quantity_in call _ name = []
 
--- the row of a command that this line ended has the line's codes and parameters and, if rows have quantities and the command is answered,
--- the line's quantities
-pub record Says (has_quantities : Bool) (at : List ℕ → List ℕ) (call : Call) (line : List ℕ) : Type 0 where
+-- the quality of an answer whose reply says this, where these return codes are accepted: fine if both codes are 0, a warning if the return
+-- code is an accepted one, and else refused. (Where the values don't read, the command isn't answered.)
+abbrev pub quality_in : Codes → Reading → Quality
+quality_in accepted (reading.Value answer) = Fine
+quality_in accepted (reading.Refused code) = if are_accepted accepted code then Warning else Refused
+quality_in accepted (reading.ComFault code) = Refused
+quality_in accepted (reading.Unreadable fault) = Refused
+
+-- the fields of a reply from which a row has its quantities: those of a warning are taken with return code 0
+abbrev pub taken : Quality → ReplyFields → ReplyFields
+taken Fine reply = reply
+taken Warning reply = record reply { rc = 0 }
+taken Refused reply = reply
+
+-- the row of a command that this line ended has the line's codes and parameters. If the command is answered, the row has the quality of
+-- the answer, by the return codes that are accepted of the command; and, if rows have quantities, those of the line, which for a warning
+-- is read as if its return code were 0
+pub record Says (has_quantities : Bool) (at : List ℕ → List ℕ) (accepted : Codes) (call : Call) (line : List ℕ) : Type 0 where
   pub reply : ReplyFields
   pub is_reply : IsReply line reply
   pub rc_com : IsNumber (at (codes "rc_com")) reply.rc_com
   pub rc : IsNumber (at (codes "rc")) reply.rc
   pub values : at (codes "values") ≡ escaped reply.params
-  pub reading : Reading
-  pub is_reading : IsReading call reply reading
+  pub said : Reading
+  pub is_said : IsReading call reply said
+  pub quality : at (codes "outcome") ≡ codes "answered" → at (codes "quality") ≡ quality_word (quality_in accepted said)
+  pub told : Reading
+  pub is_told : IsReading call (taken (quality_in accepted said) reply) told
   pub quantities :
       has_quantities ≡ true → at (codes "outcome") ≡ codes "answered" →
-      (name : List ℕ) → IsQuantity name → at name ≡ escaped (quantity_in call reading name)
+      (name : List ℕ) → IsQuantity name → at name ≡ escaped (quantity_in call told name)
 
 module _ {State : Type 0} (ends : Ends State) (Good : State → Type 0) (kept : State → Option KeptReply) where
-  -- the row of a record is its own: it has the record's cycle, place, target, procedure and outcome. Where the outcome is that of a reply,
-  -- the row says what a line says that the instrument made on executing the request of that very cycle and place. Where the outcome isn't
-  -- `answered`, the row has no quantity
+  -- the row of record `r`, in which `at` gives the text under each name, is its own: it has the record's cycle, place, target,
+  -- procedure and outcome. Where the outcome is that of a reply, the row says what a line says that the instrument made on
+  -- executing the request of that very cycle and place, in a run with the parts `ps` and the stretches `ss`. Where the outcome
+  -- isn't `answered`, the row has neither a quantity nor a quality
   pub record IsOwn (has_quantities : Bool) (at : List ℕ → List ℕ) (commands : List Task) (ps : List Part) (ss : List (Stretch State)) (r : Record) : Type 0 where
     pub is_of : IsOf at r
-    pub replied : IsReplied (at (codes "outcome")) → (line : List ℕ) × Says has_quantities at r.command.call line × IsItsOwn ends Good kept commands ps ss r line
+    pub replied : IsReplied (at (codes "outcome")) → (line : List ℕ) × Says has_quantities at (accepted_at commands r.place) r.command.call line × IsItsOwn ends Good kept commands ps ss r line
     pub without : has_quantities ≡ true → (at (codes "outcome") ≡ codes "answered" → ⊥) → (name : List ℕ) → IsQuantity name → at name ≡ []
+    pub unqualified : (at (codes "outcome") ≡ codes "answered" → ⊥) → at (codes "quality") ≡ []

@@ -1,4 +1,5 @@
--- What is left of the rows of a run that was killed, over crashes of the machine, or behind a sync that failed: this project's own.
+-- What is left of the rows of a run that was killed, over crashes of the machine, or after a sync that failed: this project's
+-- own.
 use Rattle.std.specs.Prelude.{◌≡◌, ◌⊎◌, ℕ, Bool, true, false, List, [], ◌∷◌, ◌++◌, Option, Some, Result}
 use Rattle.gc_catalogue.specs.declared.answer.Reading.{Reading}
 use Rattle.gc_catalogue.specs.declared.call.Call.{Call}
@@ -22,10 +23,10 @@ use Rattle.gc_station.specs.declared.tally.Tally.{Tally}
 use Rattle.gc_measuring.specs.Measuring.{Places, Course, text_in, RunsBehind}
 use Rattle.gc_measuring.specs.Telling.{TellsAppended}
 use Rattle.gc_measuring.specs.declared.stop.Stop.{Stop}
-use Rattle.gc_words.specs.declared.station.Station.{Station}
+use Rattle.gc_words.specs.declared.settings.Settings.{Settings}
 
--- A run that appends to a file: what it measures, what was seen at its start and at its end, how it ended, the acts that its link told, and the
--- file that it left.
+-- a run that appends to a file: what it measures, what was seen at its start and at its end, how it ended, the acts that its
+-- link told, and the file that it left
 pub record RunOfFile (R : Type 0) : Type 0 where
   pub course : Course
   pub old : Places
@@ -34,8 +35,8 @@ pub record RunOfFile (R : Type 0) : Type 0 where
   pub told : List Act
   pub file : Followed R
 
--- the link told these acts from none on, and the file has what was appended to it since it was opened: as clause `told` of `append_at` says it
--- of the file that it hands back
+-- the link had told nothing before the run, and `told` are the acts that it has told since; and the file has what was appended
+-- to it since it was opened: as clause `told` of `append_at` says it of the file that it hands back
 pub record IsRunOfFile {R : Type 0} (run : RunOfFile R) : Type 0 where
   pub headed : run.course.layout.headed ≡ true
   pub none : run.old.acts ≡ Some []
@@ -44,17 +45,20 @@ pub record IsRunOfFile {R : Type 0} (run : RunOfFile R) : Type 0 where
   pub took : run.new.taken ≡ Some (bytes_in run.file)
   pub ran : RunsBehind run.course run.old run.new run.end
 
--- What that clause tells, by the ghost members of a source and of such files as sinks, is such a run, of that file, of these acts, and with what
--- was seen at each; or no act was made.
+-- what clause `told` of `append_at` says (`TellsAppended`) comes to this: either no act was made (`turns' ≡ turns`), or there is a run of
+-- this file, with these acts, which took the turns (what was seen at each act) from `turns` to `turns'`. `source` and `sink` are the
+-- ghost members of the program's input and of such files as sinks; `K` and `E` are the types of the output and the messages. The other
+-- arguments are `TellsAppended`'s own: `lasts`, whether a file is durable; `shown`, the bytes written to the messages; `has_log`,
+-- whether the run keeps a log
 abbrev pub AppendsAreRuns : {S R : Type 0} → Source S → Sink (Followed R) → Type 0 → Type 0 → Type 0
-AppendsAreRuns {S = S} {R = R} source sink K E = (lasts : Followed R → Bool) (shown : E → Option (List ℕ)) (has_log : Bool) (station : Station)
+AppendsAreRuns {S = S} {R = R} source sink K E = (lasts : Followed R → Bool) (shown : E → Option (List ℕ)) (has_log : Bool) (station : Settings)
     (old new : Streams S K E) (file : Followed R) (acts : Option (List Act)) (turns turns' : List Turn) (status : ℕ)
     → TellsAppended source sink lasts shown has_log station old new (Some file) acts turns turns' status
     → (turns' ≡ turns)
     ⊎ ((run : RunOfFile R) × IsRunOfFile run × (run.file ≡ file) × (acts ≡ Some run.told) × (run.old.turns ≡ turns) × (run.new.turns ≡ turns'))
 
--- A moment of such a run: an act, with what was seen at it, the acts that were done before it, and the file as it was then; and the calls that
--- this file had by the moment, since it was opened.
+-- a moment of such a run, at an act or after it: what was seen at that act (`turn`), the acts that were done before it, the
+-- file as it was then, and the calls that this file had had by the moment, since it was opened
 pub record Moment (R : Type 0) : Type 0 where
   pub run : RunOfFile R
   pub turn : Turn
@@ -93,9 +97,9 @@ abbrev pub rows_by : Course → (Call → List ℕ → Reading) → List Act →
 rows_by course reads acts =
     texts_of (text_in course.layout course.names) (stood course.plan course.tasks (record { turns = course.turns; reads = reads }) acts).records
 
--- the rows that are left of a run behind a moment: all that its file had taken at the act, and perhaps more. With the rows that
--- the run wrote into files before this one, what the file had taken at the act are the rows of all records that the acts of
--- `done` settled. No row is left but of a record that acts of the run settled
+-- `left` has the rows that are left of a run, after a moment. `settled`: the rows that the run had written by the moment's act,
+-- into this file and into others before it, are those of all records that the acts of `done` settled. `has`: all that this file
+-- had taken by then is left, and perhaps more. `own`: no other rows are left than of records that acts of the run settled
 pub record AreLeft {R : Type 0} (m : Moment R) (reads : Call → List ℕ → Reading) (left : List ℕ) : Type 0 where
   pub settled : bytes_in m.was ≡ rows_by m.run.course reads m.done
   pub more : List ℕ
@@ -109,12 +113,13 @@ pub record AreLeft {R : Type 0} (m : Moment R) (reads : Call → List ℕ → Re
 abbrev pub Opens : List ℕ → List ℕ → List Step → Type 0
 Opens head held steps = opening.Ran held steps (start_of head held)
 
--- what a crash may leave of a file behind these steps
+-- what a crash may leave of a file after these steps
 abbrev pub MayBeLeft : Life → List Step → List ℕ → Type 0
 MayBeLeft life steps left = MayLeave life.start (life.steps ++ steps) left
 
--- a run is killed at any moment, or the machine crashes, and earlier runs may have ended so, too. Whatever that leaves of the file, the next
--- start makes of it the table that was there at first, behind it rows of the earlier runs, and then the rows that are left of this run
+-- a run is killed at any moment, or the machine crashes, and earlier runs may have ended so, too. Whatever that leaves of the
+-- file, the next start makes of it the table that was there at first, after it rows of the earlier runs, and then the rows that
+-- are left of this run
 abbrev pub RowsOutlastCrashes : Type 0 → Type 0
 RowsOutlastCrashes R = (m : Moment R) → IsMoment m → (reads : Call → List ℕ → Reading) → AreReadings reads
     → (head first : List ℕ) → IsHead head → (earlier : List Run) → Happen head (settled first) earlier
@@ -125,7 +130,9 @@ RowsOutlastCrashes R = (m : Moment R) → IsMoment m → (reads : Call → List 
 
 -- Over failed syncs, too.
 
--- whether a file is in doubt behind these events
+-- whether a file is in doubt after these events, where `doubted` says whether it was before: a failed sync puts it in doubt,
+-- and so does a copy whose name isn't on the disk; a copy whose name is there, or a crash, ends the doubt; a run changes
+-- nothing
 abbrev pub doubted_by : Bool → List Event → Bool
 doubted_by doubted [] = doubted
 doubted_by doubted (Ran run ∷ events) = doubted_by doubted events
@@ -134,35 +141,35 @@ doubted_by doubted (Copied true ∷ events) = doubted_by false events
 doubted_by doubted (Copied false ∷ events) = doubted_by true events
 doubted_by doubted (Crashed left ∷ events) = doubted_by false events
 
--- how a run ends: its calls are done, and no more; or one more was a sync that failed, behind which a read returns `read` and
+-- how a run ends: its calls are done, and no more; or one more was a sync that failed, after which a read returns `read` and
 -- the disk holds `disk`
 pub data Ending : Type 0 where
   Stopped : Ending
   Unsynced : (read disk : List ℕ) → Ending
 
--- a run may end so behind these calls: behind a failed sync a read returns what such a sync may leave of what a read returned,
--- and the disk holds what it may leave of what the disk held
+-- a run may end in this way after these calls. Where a sync failed, `read` is what such a sync may leave of what a read
+-- returned before, and `disk` what it may leave of what the disk held
 abbrev pub Ends : Sides → List Step → Ending → Type 0
 Ends sides steps Stopped = Unit {0}
 Ends sides steps (Unsynced read disk) = Loses (later_by steps sides.read) read × Loses (later_by steps sides.disk) disk
 
--- how a file stands behind these calls and this ending
+-- how a file stands after these calls and this ending: what a read returns, and what the disk holds
 abbrev pub sides_ended : Sides → List Step → Ending → Sides
 sides_ended sides steps Stopped = done_by steps sides
 sides_ended sides steps (Unsynced read disk) = record { read = settled read; disk = settled disk }
 
--- whether a file is in doubt behind this ending
+-- whether a file is in doubt after this ending
 abbrev pub doubt_of : Ending → Bool
 doubt_of Stopped = false
 doubt_of (Unsynced read disk) = true
 
--- how a file that held `first`, all of it on the disk, stands behind these events
+-- how a file that held `first`, all of it on the disk, stands after these events
 abbrev pub sides_from : List ℕ → List Event → Sides
 sides_from first events = sides_after (one (settled first)) events
 
--- behind any events, in a file that isn't in doubt, a run ends at any moment, by a kill or by a sync that fails, and other events follow.
--- Whatever is found then, the next start makes of it the table that was there at first, rows of the earlier runs, the rows that are left of
--- this run, and rows of the later ones
+-- after any events, in a file that isn't in doubt, a run ends at any moment, by a kill or by a sync that fails, and other
+-- events follow. Whatever is found then, the next start makes of it the table that was there at first, rows of the earlier
+-- runs, the rows that are left of this run, and rows of the later ones
 abbrev pub RowsOutlastFailures : Type 0 → Type 0
 RowsOutlastFailures R = (m : Moment R) → IsMoment m → (reads : Call → List ℕ → Reading) → AreReadings reads
     → (head first : List ℕ) → IsHead head → (earlier : List Event) → Occur is_trusted head (one (settled first)) false earlier → doubted_by false earlier ≡ false

@@ -1,5 +1,6 @@
--- The rows of a station in the field, this project's own: what stands in the columns of a row of an answer was made by the instrument on
--- executing the very request of that row's cycle and place.
+-- The rows of a station in the field, this project's own: what stands in the columns of a row of an answer was made by the
+-- instrument on executing the very request of that row's cycle and place. A part is what a station sees of its run from one
+-- beginning to the next, and a stretch what happens on the line meanwhile, once it has begun.
 use Rattle.std.specs.Prelude.{◌≡◌, ℕ, Bool, List, [], ◌++◌, map, Option, Some, codes}
 use Rattle.std.specs.Fmt.{decimal}
 use Rattle.std.specs.List.{AllByRecursion}
@@ -41,7 +42,7 @@ column name fields = under name rows.names fields
 
 -- the fields of a row say the record's cycle, place, target, procedure and outcome, and the codes and parameters of the line of
 -- its reply
-pub record Says (fields : List (List ℕ)) (r : Record) (line : List ℕ) : Type 0 where
+pub record FieldsSay (fields : List (List ℕ)) (r : Record) (line : List ℕ) : Type 0 where
   pub cycle : column (codes "cycle") fields ≡ decimal r.cycle
   pub place : column (codes "place") fields ≡ decimal r.place
   pub target : column (codes "target") fields ≡ decimal r.command.target
@@ -55,13 +56,13 @@ pub record Says (fields : List (List ℕ)) (r : Record) (line : List ℕ) : Type
 
 module _ {State : Type 0} (ends : Ends State) (Good : State → Type 0) (kept : State → Option KeptReply) where
   -- the row of a record in a table is its own: a reader of comma-separated values gives it back as its fields, whatever stands
-  -- behind it; the fields say what the line of the record's reply says; and that line was made by the instrument on executing
+  -- after it; the fields say what the line of the record's reply says; and that line was made by the instrument on executing
   -- the request of the record's cycle and place
   pub record IsRowOwn (layout : Layout) (names : List Name) (commands : List Task) (ps : List Part) (ss : List (Stretch State)) (r : Record) (line : List ℕ) : Type 0 where
     pub fields : List (List ℕ)
     pub row : text_in layout names r ≡ row_of fields
     pub reads_back : (behind : List ℕ) → next_record default_config StartRecord [] [] (text_in layout names r ++ behind) ≡ Some (map escaped fields, StartRecord, behind)
-    pub says : Says fields r line
+    pub says : FieldsSay fields r line
     pub own : IsItsOwn ends Good kept commands ps ss r line
 
   -- where the record is an answer, its row is its own

@@ -1,5 +1,7 @@
--- What a station wrote of a run in the field, as it is read: this project's own. The bytes are those that a sink took of a run, as the clauses
--- of `measure_at` and `append_at` have it: what stands in front of the records, and their texts in order.
+-- What a station wrote of a run in the field, as it is read: this project's own. The bytes are those that a sink took of a run,
+-- as the clauses of `measure_at` and `append_at` have it: what stands in front of the records, and their texts in order. A part
+-- is what a station sees of its run from one beginning to the next, and a stretch what happens on the line meanwhile, once it
+-- has begun.
 use Rattle.std.specs.Prelude.{◌≡◌, ℕ, ◌-◌, ◌<◌, Bool, true, false, List, [], ◌∷◌, ◌++◌, length, take, Option, Some, Result, Err, if◌then◌else◌, slice_get}
 use Rattle.csv.specs.Reading.{default_config, records}
 use Rattle.gc_catalogue.specs.declared.answer.Reading.{Reading}
@@ -35,7 +37,7 @@ use Rattle.gc_promise.specs.Fields.{under, IsOwn}
 abbrev pub scope_of : Course → (Call → List ℕ → Reading) → Scope
 scope_of course reads = record { turns = course.turns; reads = reads }
 
--- the acts of a run, among those that its link told: all but the close behind an output that failed
+-- the acts of a run, among those that its link told: all but the close after an output that failed
 abbrev pub acts_measured : Result Tally Stop → List Act → List Act
 acts_measured (Err (Run Output)) told = take (length told - 1) told
 acts_measured _ told = told
@@ -51,7 +53,7 @@ abbrev pub IsTorn : (Record → List ℕ) → List Record → List ℕ → Type 
 IsTorn text [] torn = torn ≡ []
 IsTorn text (next ∷ later) torn = (rest : List ℕ) × (text next ≡ torn ++ rest) × (0 < length rest)
 
--- which records of a run were written whole: all of them, but where the output failed; and what was written behind these
+-- which records of a run were written whole: all of them, but where the output failed; and what was written after these
 pub record AreWritten (text : Record → List ℕ) (records : List Record) (result : Result Tally Stop) (torn : List ℕ) : Type 0 where
   pub written : List Record
   pub unwritten : List Record
@@ -68,21 +70,22 @@ table true = Columns
 
 -- the names of the columns of a table, with those of the quantities or without
 abbrev pub header : Bool → List (List ℕ)
-header false = rows.names
-header true = rows.names ++ quantity_names
+header false = rows.names ++ rows.last_names
+header true = rows.names ++ (quantity_names ++ rows.last_names)
 
 -- the header as a row, where it is written
 abbrev pub head_rows : Layout → Bool → List (List (List ℕ))
 head_rows layout columns = if layout.headed then [] else header columns ∷ []
 
--- the toolchain's reader of comma-separated values gives these rows of these bytes, and reads on behind them as at the start of a text
+-- the toolchain's reader of comma-separated values gives these rows of these bytes, and reads on after them as at the start of
+-- a text
 abbrev pub AreReadAs : List ℕ → List (List (List ℕ)) → Type 0
 AreReadAs bytes rows = (behind : List ℕ) → records default_config (bytes ++ behind) ≡ rows ++ records default_config behind
 
 module _ {State : Type 0} (ends : Ends State) (Good : State → Type 0) (kept : State → Option KeptReply) where
-  -- what a sink took of a run, behind what it had: a table, whose rows are the run's records, one for one and in order, each its own. Where the
-  -- output failed, a part of one more row may stand behind them. `behind` is said of the file of --append: behind earlier bytes, which a reader
-  -- takes for `earlier`, it goes on with these rows
+  -- what a sink took of a run, after what it had: a table, whose rows are the run's records, one for one and in order, each its
+  -- own. Where the output failed, a part of one more row may stand after them. `behind` is said of the file of --append: after
+  -- earlier bytes, which a reader takes for `earlier`, the reader goes on with these rows
   pub record IsOwnTable (course : Course) (columns : Bool) (reads : Call → List ℕ → Reading) (acts : List Act) (ps : List Part) (ss : List (Stretch State))
       (result : Result Tally Stop) (had : List ℕ) (has : Option (List ℕ)) : Type 0 where
     pub bytes : List ℕ

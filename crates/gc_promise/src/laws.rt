@@ -38,14 +38,15 @@ pub fn some_row_is_its_own()
     ensures { SomeRowIsItsOwn }
 {}
 
-/// What clause `told` of `append_at` says of the file that it hands back is a run as the next two laws speak of; or no act was made.
+/// What clause `told` of `append_at` says of the file that it hands back comes to this: either no act was made, or the file,
+/// the acts and what was seen at each of them are a run of a file (`RunOfFile`), of which the next two laws speak.
 pub fn appends_are_runs_of_files<'a, S: Source, K, E, R: Files<File = File> + 'a>()
     ensures { AppendsAreRuns S.Source ⟦<Followed<'a, R> as Sink>⟧ K E }
 {}
 
-/// Where a run that appends to a file with `sync` is killed at any moment, or the machine crashes, the next start makes of the file the table
-/// that was there before, rows of earlier runs, and behind them each row that the acts before this run's last act settled. Further rows may
-/// follow, but none that isn't the run's.
+/// Where a run that appends to a file with `sync` is killed at any moment, or the machine crashes, the next start makes of the
+/// file the table that was there before, rows of earlier runs, and after them each row that the acts before this run's last act
+/// settled. Further rows may follow, but none that isn't the run's.
 pub fn rows_outlast_crashes<R>()
     ensures { RowsOutlastCrashes R }
 {}

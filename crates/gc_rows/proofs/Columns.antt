@@ -1,4 +1,5 @@
--- The columns of a record: what stands before a mark and behind it, and what that is in the lines of requests and replies.
+-- The columns of a record. A mark is a byte that ends a field, as a comma (44) or a colon (58): what stands before the first
+-- mark of a text and behind it, and what that is in the lines of requests and replies.
 use Rattle.std.proofs.Common.{◌≡◌, ◌≢◌, ℕ, ◌+◌, ◌<◌, ◌==◌, List, [], ◌∷◌, ◌++◌, Option, Some, None, false, inl, inr, ◌⊎◌, IfSome, refl, sym, ap, subst, ◌∙◌, arith, append_assoc, append-nil}
 use Rattle.std.specs.Str.Parse.{AllDigits}
 use Rattle.std.proofs.lemmas.Bool.{cond-true, cond-false, eq-eqb}
@@ -14,12 +15,12 @@ use Rattle.gc_rows.specs.Laws.{ColumnsAreFields}
 use Rattle.gc_texts.specs.Cuts.{before, behind}
 use Rattle.gc_rows.specs.Rows.{com_of}
 
--- no digit is a mark outside the digits
+-- no digit (bytes 48 to 57) is a mark that isn't a digit
 no_digit : (d mark : ℕ) → d ≡ mark → IsInRange 48 57 d → mark < 48 ⊎ 57 < mark → ⊥
 no_digit d mark e range (inl low) = omega (arith, e, range.0, low)
 no_digit d mark e range (inr high) = omega (arith, e, range.1, high)
 
--- digits are neither commas nor colons
+-- digits lack each mark that isn't a digit, as a comma or a colon
 pub digits_lack : (mark : ℕ) (ds : List ℕ) → AllDigits 10 ds → mark < 48 ⊎ 57 < mark → Lacks mark ds
 digits_lack mark [] digits other = tt
 digits_lack mark (d ∷ ds) digits other = ((λ e. no_digit d mark e (digit_from_value d digits.0) other), digits_lack mark ds digits.1 other)
@@ -34,12 +35,14 @@ id_lacks : (id : Option ℕ) → IfSome id (λ i. i < 8) → Lacks 58 (id_text i
 id_lacks None small = tt
 id_lacks (Some i) small = ((λ e. absurd (omega (arith, e))), ((λ e. absurd (omega (arith, e, small))), tt))
 
--- what stands before the first comma of digits and an id is the digits
+-- `id_text` is an id behind a comma, or nothing where there is no id. In digits with it behind them, the digits are what stands
+-- before the first comma
 number_first : (ds : List ℕ) (id : Option ℕ) → Lacks 44 ds → before 44 (ds ++ id_text id) ≡ ds
 number_first ds None lacks = ap (before 44) (append-nil ds) ∙ before_none 44 ds lacks
 number_first ds (Some i) lacks = before_mark 44 ds ((48 + i) ∷ []) lacks
 
--- a code is what stands before the first comma, and the parameters what stands behind it
+-- where digits of a code end with nothing or with a comma and parameters (`EndsCode`), the digits are what stands before the
+-- first comma, and the parameters what stands behind it
 code_first : (ds tail params : List ℕ) → Lacks 44 ds → EndsCode tail params → (before 44 (ds ++ tail) ≡ ds) × (behind 44 (ds ++ tail) ≡ params)
 code_first ds tail params lacks (inl none) =
     let whole : ds ++ tail ≡ ds = ap (λ l. ds ++ l) none.0 ∙ append-nil ds in
@@ -47,7 +50,7 @@ code_first ds tail params lacks (inl none) =
 code_first ds tail params lacks (inr some) =
     (ap (λ l. before 44 (ds ++ l)) some ∙ before_mark 44 ds params lacks, ap (λ l. behind 44 (ds ++ l)) some ∙ behind_mark 44 ds params lacks)
 
--- the columns of a reply are its fields
+-- the law: the columns of a reply's line are its fields
 pub reply_columns : ColumnsAreFields
 reply_columns line r is =
     let number : Lacks 44 is.number = digits_lack 44 is.number is.is_number.digits (inl (omega arith)) in

@@ -1,4 +1,5 @@
--- Lines of JSON: the members of one, and what a reader of JSON makes of it.
+-- Lines of JSON: the members of one, and what a reader of JSON makes of it. `escape` and `print` are those of the library's
+-- writer of JSON, and `document` is its reader.
 use Rattle.std.proofs.Common.{◌≡◌, ◌<◌, ◌^◌, ◌==◌, ◌++◌, ◌∷◌, ◌∙◌, [], ℕ, List, Some, true, false, inl, inr, refl, sym, ap, subst, arith, append_assoc, append-nil}
 use Rattle.std.specs.Prelude.{◌||◌, codes, max, nat_lt}
 use Rattle.std.specs.List.{All, AllByRecursion, flat_map}
@@ -30,7 +31,8 @@ what_text old target procedure name =
     flat_map-append member_text name (Number (codes "procedure") procedure ∷ []) ∙ ap (λ l. n ++ l) (append-nil p) in
     append_assoc (old ++ t) n p ∙ append_assoc old t (n ++ p) ∙ ap (λ l. old ++ (t ++ l)) (sym last)
 
--- four lists of members, appended one after the other, are the members of all four as one list
+-- behind `front`, four lists of members, written one after the other, and the end of the line are the members of the lists
+-- joined and that end
 pub all_members : (front : List ℕ) (ws hs es qs : List Member)
     → ((((front ++ members_text ws) ++ members_text hs) ++ members_text es) ++ members_text qs) ++ codes "}\n" ≡ (front ++ members_text (ws ++ (hs ++ (es ++ qs)))) ++ codes "}\n"
 all_members front ws hs es qs =
@@ -44,7 +46,7 @@ all_members front ws hs es qs =
     append_assoc ((front ++ w) ++ h) e q ∙ append_assoc (front ++ w) h (e ++ q) ∙ append_assoc front w (h ++ (e ++ q)) in
     ap (λ l. l ++ codes "}\n") (grouped ∙ ap (λ l. front ++ l) (sym joined))
 
--- three texts, appended one after the other, are one text behind the first
+-- three texts that are appended one after the other to `old` are one text behind it
 pub three_members : (old a b c : List ℕ) → ((old ++ a) ++ b) ++ c ≡ old ++ (a ++ (b ++ (c ++ [])))
 three_members old a b c =
     append_assoc (old ++ a) b c ∙ append_assoc old a (b ++ c) ∙ ap (λ l. old ++ (a ++ (b ++ l))) (sym (append-nil c))
@@ -73,12 +75,13 @@ escapes_as (b ∷ bs) shown = ap (λ l. l ++ flat_map behind_backslash bs) (esca
 string_as : (bytes : List ℕ) → All (λ b. b < 256) bytes → flat_map behind_backslash (escaped bytes) ≡ escape (escaped bytes)
 string_as bytes are = escapes_as (escaped bytes) (recursion_from_All IsShown (escaped bytes) (escaped_prints bytes (recursion_from_All (λ b. b < 256) bytes are)))
 
--- a name stands as it is
+-- a plain name has no byte that a writer of JSON escapes
 name_as : (name : List ℕ) → IsPlainName name → name ≡ escape name
 name_as [] plain = refl
 name_as (b ∷ bs) plain = ap (λ l. b ∷ l) (name_as bs plain.1) ∙ ap (λ l. l ++ escape bs) (sym (escape_byte_plain b plain.0.1.0 plain.0.1.1 plain.0.0))
 
--- the pieces of a member, and what stands behind it, are the same text however they are grouped
+-- a comma (44), a name in double quotes (34), a colon (58), the text of a value, further members and the end of a line are the
+-- same bytes however they are grouped
 regroup : (name text others close : List ℕ)
     → ((((44 ∷ 34 ∷ name) ++ 34 ∷ 58 ∷ []) ++ text) ++ others) ++ close ≡ 44 ∷ (((34 ∷ (name ++ 34 ∷ [])) ++ 58 ∷ []) ++ (text ++ (others ++ close)))
 regroup name text others close =
@@ -124,7 +127,7 @@ started_as run below =
     let bytes = bytes_shown text (recursion_from_All IsShown text (stamp_shown run below)) in
     escapes_as (escaped text) (recursion_from_All IsShown (escaped text) (escaped_prints text bytes))
 
--- a line of JSON is its front with the closing brace, and a line feed
+-- a line that ends in a brace and a line feed is the line up to its brace, and the line feed
 pub front_of : (a m : List ℕ) → (a ++ m) ++ codes "}\n" ≡ (a ++ (m ++ codes "}")) ++ codes "\n"
 front_of a m =
     append_assoc a m (codes "}\n") ∙ ap (λ l. a ++ l) (sym (append_assoc m (codes "}") (codes "\n"))) ∙ sym (append_assoc a (m ++ codes "}") (codes "\n"))

@@ -1,4 +1,5 @@
--- The members of a record's line: their names are plain, their texts hold bytes, and their numbers are JSON's.
+-- The members of a record's line: their names are plain, their texts hold bytes, and their numbers are JSON's. That is
+-- `IsMember`; a member of which it holds is said to read back.
 use Rattle.std.proofs.Common.{zero, suc, ◌≡◌, ◌≢◌, ◌<◌, ◌≤◌, ◌^◌, ◌==◌, ◌++◌, ◌∷◌, ◌∙◌, [], ℕ, ◌+◌, List, Bool, true, false, cond, Option, Some, None, IfSome, length, drop, get_or, option_and_then, refl, sym, ap, subst, arith, append-nil}
 use Rattle.std.specs.Prelude.{codes, nat_lt, not, ◌&&◌}
 use Rattle.std.specs.Char.{is_ascii_digit}
@@ -30,9 +31,10 @@ use Rattle.gc_values.specs.declared.value.Value.{Value}
 use Rattle.gc_values.specs.declared.value.Value.TheVariants as value
 use Rattle.gc_values.proofs.OneText.{whole_text_once, decimal_text_once}
 use Rattle.gc_texts.specs.Endings.{End, Answered, Unreadable, Elsewhere, Late, Lost, Skipped, Missed}
-use Rattle.gc_rows.specs.JsonLines.{Text, Number, without_zeros, sent_members, when_members, name_members, what_members, reply_members, ending_members, value_members, values_members, quantity_members}
+use Rattle.gc_rows.specs.JsonLines.{Text, Number, without_zeros, sent_members, when_members, name_members, what_members, reply_members, ending_members, value_members, values_members, quantity_members, last_members, more_members}
 use Rattle.gc_rows.specs.Laws.{IsPlainName, IsMember, IsReplyOfBytes, IsAnswerOfBytes, IsEnd, IsWhen, ColumnsSay, RecordsAreMembers}
 use Rattle.gc_rows.specs.Quantities.{column_of, quantity_name, quantity_names}
+use Rattle.gc_texts.specs.declared.quality.Quality.TheVariants.{Fine, Warning, Refused}
 use Rattle.gc_texts.specs.Cuts.{before, behind}
 use Rattle.gc_rows.specs.Rows.{com_of, code_of, values_of}
 use Rattle.gc_texts.specs.Stamps.{stamp_text}
@@ -42,23 +44,26 @@ use Rattle.gc_rows.proofs.Columns.{reply_columns}
 use Rattle.gc_rows.proofs.JsonLines.{bytes_shown}
 use Rattle.gc_texts.proofs.LogStamps.{IsShown, stamp_shown}
 
--- where all of two lists have something, all of both together have it
+-- what holds of each item of two lists holds of each item of the lists joined
 all_both : {X : Type 0} (P : X → Type 0) (xs ys : List X) → AllByRecursion P xs → AllByRecursion P ys → AllByRecursion P (xs ++ ys)
 all_both P [] ys hx hy = hy
 all_both P (x ∷ xs) ys hx hy = (hx.0, all_both P xs ys hx.1 hy)
 
--- names: a byte that stands in one, and whether all of a text do
+-- whether a byte may stand in a plain name: printable ASCII but the double quote and the backslash
 abbrev is_fit : ℕ → Bool
 is_fit b = (nat_lt 31 b && nat_lt b 127) && (not (b == 34) && not (b == 92))
 
+-- whether each byte of a name may stand in a plain name
 abbrev are_fit : List ℕ → Bool
 are_fit [] = true
 are_fit (b ∷ bs) = is_fit b && are_fit bs
 
+-- where `a && b` is true, a is
 left : (a b : Bool) → (a && b) ≡ true → a ≡ true
 left true b e = refl
 left false b e = e
 
+-- where `a && b` is true, b is
 right : (a b : Bool) → (a && b) ≡ true → b ≡ true
 right true b e = e
 right false b e = let bad : false ≡ true = e in cc
@@ -67,7 +72,7 @@ right false b e = let bad : false ≡ true = e in cc
 other : (b mark : ℕ) → not (b == mark) ≡ true → b ≢ mark
 other b mark e is = let bad : not (mark == mark) ≡ true = subst (λ x. not (x == mark) ≡ true) is e in absurd (false≢true (ap not (sym (eq-eqb mark mark refl)) ∙ bad))
 
--- a name that passes the test is plain
+-- a name that passes the test `are_fit` is plain
 plain_name : (name : List ℕ) → are_fit name ≡ true → IsPlainName name
 plain_name [] e = tt
 plain_name (b ∷ bs) e =
@@ -79,7 +84,7 @@ plain_name (b ∷ bs) e =
       plain_name bs (right (is_fit b) (are_fit bs) e),
     )
 
--- a name that passes the test is of bytes
+-- a name that passes the test `are_fit` is of bytes
 plain_bytes : (name : List ℕ) → are_fit name ≡ true → AllByRecursion (λ b. b < 256) name
 plain_bytes [] e = tt
 plain_bytes (b ∷ bs) e =
@@ -88,12 +93,12 @@ plain_bytes (b ∷ bs) e =
     let below = ltb-true b 127 (right (nat_lt 31 b) (nat_lt b 127) shown) in
     (omega (arith, below), plain_bytes bs (right (is_fit b) (are_fit bs) e))
 
--- each of these names is plain
+-- whether each of these names passes the test `are_fit`
 abbrev all_fit : List (List ℕ) → Bool
 all_fit [] = true
 all_fit (name ∷ names) = are_fit name && all_fit names
 
--- where each of these names is plain, the one at a place is
+-- where each of these names passes the test `are_fit`, the one at place n does
 name_fits : (names : List (List ℕ)) (n : ℕ) → all_fit names ≡ true → are_fit (get_or names n []) ≡ true
 name_fits [] n e = refl
 name_fits (name ∷ names) zero e = left (are_fit name) (all_fit names) e
@@ -107,7 +112,7 @@ quantity_named column = plain_name (quantity_name column) (name_fits quantity_na
 text_named : (name : List ℕ) → IsPlainName name → IsPlainName (name ++ codes "_text")
 text_named name is = all_both (λ b. (32 ≤ b) × ((b ≢ 34) × (b ≢ 92))) name (codes "_text") is (plain_name (codes "_text") refl)
 
--- that all of a text are bytes, in one form, gives it in the other
+-- that all numbers of a list are below 256, from its form by recursion to its form by `All`
 all_bytes : (bs : List ℕ) → AllByRecursion (λ b. b < 256) bs → All (λ b. b < 256) bs
 all_bytes bs h = All-from_recursion (λ b. b < 256) bs h
 
@@ -129,25 +134,27 @@ behind_bytes mark (b ∷ bs) h = cond_both (b == mark) bs (behind mark bs) (AllB
 values_bytes : (line : List ℕ) → All (λ b. b < 256) line → AllByRecursion (λ b. b < 256) (values_of line)
 values_bytes line h = behind_bytes 44 (behind 58 (behind 44 line)) (behind_bytes 58 (behind 44 line) (behind_bytes 44 line (recursion_from_All (λ b. b < 256) line h)))
 
--- of digits, and no digit behind them, exactly the digits come first
+-- where no digit follows `ds`, which are digits, the run of digits at the front of `ds` and `rest` is as long as `ds`
 digits_run : (ds rest : List ℕ) → AreDigits ds → prefix_len is_ascii_digit rest ≡ 0 → prefix_len is_ascii_digit (ds ++ rest) ≡ length ds
 digits_run [] rest h none = none
 digits_run (d ∷ ds) rest h none =
     let more = digits_run ds rest h.1 none in
     ap (λ b. cond b (1 + prefix_len is_ascii_digit (ds ++ rest)) 0) (and_from _ _ (le-leb 48 d h.0.0) (le-leb d 57 h.0.1)) ∙ omega (arith, more)
 
--- a reader of digits goes on behind them
+-- where no digit follows `ds`, which are digits, the library's reader of digits takes `ds` and leaves `rest`
 digits_then : (ds rest : List ℕ) → AreDigits ds → 0 < length ds → prefix_len is_ascii_digit rest ≡ 0 → after_digits (ds ++ rest) ≡ Some rest
 digits_then ds rest h some none =
     ap (λ n. cond (n == 0) None (Some (drop n (ds ++ rest)))) (digits_run ds rest h none)
     ∙ ap (λ b. cond b None (Some (drop (length ds) (ds ++ rest)))) (ne_eqb (length ds) 0 (λ e. omega (arith, some, e))) ∙ ap Some (drop_at ds rest _ refl)
 
--- a reader that takes no digit behind a leading zero goes on behind the digits of a number, too
+-- a reader that takes a leading zero alone, and else all digits, leaves `rest` behind digits of which a leading zero stands
+-- alone; `z` is whether the first digit is a zero
 first_digit : (z : Bool) (d : ℕ) (ds rest : List ℕ) → (z ≡ true → ds ≡ []) → after_digits (d ∷ ds ++ rest) ≡ Some rest → cond z (Some (ds ++ rest)) (after_digits (d ∷ ds ++ rest)) ≡ Some rest
 first_digit true d ds rest alone more = ap (λ l. Some (l ++ rest)) (alone refl)
 first_digit false d ds rest alone more = more
 
--- a reader of a number goes on behind its whole part
+-- where no digit follows a whole part, the library's reader takes the whole part and leaves `rest`; and the whole part begins
+-- with no minus
 whole_then : (ds rest : List ℕ) → IsWholePart ds → prefix_len is_ascii_digit rest ≡ 0 → (after_whole (ds ++ rest) ≡ Some rest) × ((head (ds ++ rest) == 45) ≡ false)
 whole_then [] rest is none = let some = is.some in absurd (omega (arith, some))
 whole_then (d ∷ ds) rest is none = (
@@ -155,7 +162,8 @@ whole_then (d ∷ ds) rest is none = (
   ne_eqb d 45 (λ e. let digit = is.are_digits.0 in omega (arith, e, digit)),
 )
 
--- a sign, a whole part, and what ends a number, are a number of JSON
+-- a minus or none, a whole part, and a rest that the reader takes to its end as a fraction and an exponent, are together a
+-- number of JSON
 signed_then : (negative : Bool) (ds rest : List ℕ) → IsWholePart ds → prefix_len is_ascii_digit rest ≡ 0
     → option_and_then after_exponent (after_fraction rest) ≡ Some [] → IsNumber (minus_where negative ++ (ds ++ rest))
 unfolding after_number
@@ -169,7 +177,7 @@ signed_then false ds rest is none ends =
 whole_number : (negative : Bool) (ds : List ℕ) → IsWholePart ds → IsNumber (minus_where negative ++ ds)
 whole_number negative ds is = subst (λ l. IsNumber (minus_where negative ++ l)) (append-nil ds) (signed_then negative ds [] is refl refl)
 
--- a point and digits end a number
+-- a point and digits are taken to their end as a fraction, with no exponent
 fraction_ends : (ds : List ℕ) → AreDigits ds → 0 < length ds → option_and_then after_exponent (after_fraction (46 ∷ ds)) ≡ Some []
 fraction_ends ds digits some = ap (λ l. option_and_then after_exponent (after_digits l)) (sym (append-nil ds)) ∙ ap (option_and_then after_exponent) (digits_then ds [] digits some refl)
 
@@ -182,7 +190,7 @@ decimal_form_number : (text : List ℕ) → HasDecimalForm text → IsNumber tex
 decimal_form_number text form =
     subst IsNumber (sym form.text_is) (signed_then form.negative form.whole (46 ∷ form.fraction) form.whole_is refl (fraction_ends form.fraction form.fraction_is.are_digits form.fraction_is.some))
 
--- digits of a number are digits of a text
+-- digits as std has them (`AllDigits 10`) are digits as gc_values has them (`AreDigits`)
 digits_are : (ds : List ℕ) → AllDigits 10 ds → AreDigits ds
 digits_are [] h = tt
 digits_are (d ∷ ds) h = (digit_from_value d h.0, digits_are ds h.1)
@@ -252,8 +260,8 @@ reply_are line is =
 
 -- the members that say how a command ended read back
 ending_are : (end : End) → IsEnd end → AllByRecursion IsMember (ending_members end)
-ending_are (Answered (Some answer) line) is = (outcome (codes "answered") refl, reply_are line is.0)
-ending_are (Answered None line) is = (outcome (codes "answered") refl, reply_are line is)
+ending_are (Answered quality (Some answer) line) is = (outcome (codes "answered") refl, reply_are line is.0)
+ending_are (Answered quality None line) is = (outcome (codes "answered") refl, reply_are line is)
 ending_are (Unreadable line fault) is =
     (outcome (codes "unreadable") refl, ((plain_name (codes "fault") refl, IsNumber-decimal (fault_number fault) (fault_fits fault)), reply_are line is))
 ending_are (Elsewhere line) is = (outcome (codes "elsewhere") refl, reply_are line is)
@@ -262,7 +270,8 @@ ending_are Lost is = (outcome (codes "lost") refl, tt)
 ending_are Skipped is = (outcome (codes "skipped") refl, tt)
 ending_are Missed is = (outcome (codes "missed") refl, tt)
 
--- a value: a number in its type, or a text of bytes
+-- a value whose members read back: of a byte that it is below 256, and of a text that its bytes are; of other values nothing is
+-- asked
 abbrev HoldsBytes : Value → Type 0
 HoldsBytes (value.Double d) = Unit {0}
 HoldsBytes (value.Long z) = Unit {0}
@@ -317,9 +326,20 @@ answer_holds (MeasuredMode hz v distance mode) is = (tt, (tt, (tt, (tt, tt))))
 
 -- the members of an answer's quantities read back
 quantities_are : (call : Call) (end : End) → IsEnd end → AllByRecursion IsMember (quantity_members call end)
-quantities_are call (Answered (Some answer) line) is =
+quantities_are call (Answered quality (Some answer) line) is =
     values_are (column_of call answer) (answer_fields answer).values (values_of line) (answer_holds answer is.1) (values_bytes line is.0.2)
 quantities_are call end is = tt
+
+-- the member of a quality reads back
+quality_is : (text : List ℕ) → are_fit text ≡ true → IsMember (Text (codes "quality") text)
+quality_is text fit = (plain_name (codes "quality") refl, all_bytes text (plain_bytes text fit))
+
+-- the member behind all others reads back
+last_are : (end : End) → AllByRecursion IsMember (last_members end)
+last_are (Answered Fine answer line) = (quality_is (codes "ok") refl, tt)
+last_are (Answered Warning answer line) = (quality_is (codes "warning") refl, tt)
+last_are (Answered Refused answer line) = (quality_is (codes "refused") refl, tt)
+last_are end = tt
 
 -- the law: all members of a record's line read back
 pub are_members : RecordsAreMembers
@@ -328,5 +348,7 @@ are_members when name command end is bytes target ended =
     let hs = what_members command name in
     let es = ending_members end in
     let qs = quantity_members command.call end in
-    all_both IsMember ws (hs ++ (es ++ qs)) (when_are when is)
-    (all_both IsMember hs (es ++ qs) (what_are command name bytes target) (all_both IsMember es qs (ending_are end ended) (quantities_are command.call end ended)))
+    let ls = last_members end in
+    all_both IsMember ws (hs ++ (es ++ (qs ++ ls))) (when_are when is)
+    (all_both IsMember hs (es ++ (qs ++ ls)) (what_are command name bytes target)
+    (all_both IsMember es (qs ++ ls) (ending_are end ended) (all_both IsMember qs ls (quantities_are command.call end ended) (last_are end))))

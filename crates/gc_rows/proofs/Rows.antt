@@ -1,9 +1,11 @@
--- Rows: the fields of one, and what a reader of comma-separated values makes of it.
-use Rattle.std.proofs.Common.{◌≡◌, ◌==◌, ◌<◌, ◌≤◌, ◌++◌, ◌∷◌, ◌∙◌, [], ℕ, List, Bool, Some, true, false, inl, inr, refl, sym, ap, arith, append_assoc, length, map}
+-- Rows: the fields of one, and what a reader of comma-separated values makes of it. The writer and the reader of
+-- comma-separated values are the library's.
+use Rattle.std.proofs.Common.{◌≡◌, ◌==◌, ◌<◌, ◌≤◌, ◌++◌, ◌∷◌, ◌∙◌, [], ℕ, zero, suc, ◌-◌, List, Bool, Some, true, false, inl, inr, refl, sym, ap, arith, append_assoc, length, map, replicate}
 use Rattle.std.specs.Prelude.{◌||◌, codes}
 use Rattle.std.specs.List.{All, AllByRecursion, flat_map, list_any}
 use Rattle.std.proofs.lemmas.Grind.{flat_map-append}
 use Rattle.std.proofs.lemmas.Bool.{cases_Bool, cond_both, eqb-true}
+use Rattle.std.proofs.lemmas.List.{length-map}
 use Rattle.std.proofs.lemmas.List.Elements.{recursion_from_All, All-from_recursion, All-append}
 use Rattle.csv.specs.Machine.{next_record}
 use Rattle.csv.specs.Reading.{default_config, records_from}
@@ -13,11 +15,14 @@ use Rattle.csv.specs.declared.parser.State.TheVariants.{StartRecord}
 use Rattle.csv.proofs.RoundTrip.{read-write-many}
 use Rattle.gc_rows.specs.Laws.{RowsReadBack, RowsArePrintable}
 use Rattle.gc_texts.specs.Logs.{escaped}
-use Rattle.gc_rows.specs.Rows.{is_special, within_quotes, csv_field, field_text, behind_comma, behind_commas, row_of}
+use Rattle.gc_rows.specs.Quantities.{quantity_text}
+use Rattle.gc_rows.specs.Rows.{is_special, within_quotes, csv_field, field_text, behind_comma, behind_commas, row_of, spread, value_text}
+use Rattle.gc_values.specs.declared.value.Value.{Value}
 use Rattle.gc_texts.proofs.LogStamps.{IsShown, escaped_prints}
 use Rattle.gc_texts.proofs.Logs.{one_text}
 
--- five lists of fields, appended one after the other with a line feed behind them, are one row
+-- the field of the run and four lists of fields, each field behind a comma, and then a line feed, are one row of all these
+-- fields
 pub all_fields : (run : List ℕ) (ws hs es qs : List (List ℕ))
     → (((((field_text run) ++ behind_commas ws) ++ behind_commas hs) ++ behind_commas es) ++ behind_commas qs) ++ codes "\n" ≡ row_of (run ∷ (ws ++ (hs ++ (es ++ qs))))
 all_fields run ws hs es qs =
@@ -33,7 +38,35 @@ all_fields run ws hs es qs =
     append_assoc ((a ++ w) ++ h) e q ∙ append_assoc (a ++ w) h (e ++ q) ∙ append_assoc a w (h ++ (e ++ q)) in
     ap (λ l. l ++ n) (grouped ∙ ap (λ l. a ++ l) (sym joined))
 
--- three tests have one result, however they are joined
+-- empty fields, each behind a comma, are as many commas
+blanks_text : (n : ℕ) → behind_commas (replicate n []) ≡ replicate n 44
+blanks_text zero = refl
+blanks_text (suc n) = ap (λ l. 44 ∷ l) (blanks_text n)
+
+-- values, each as a quantity behind a comma, are their texts behind commas
+values_text : (values : List Value) → flat_map value_text values ≡ behind_commas (map quantity_text values)
+values_text [] = refl
+values_text (v ∷ vs) = ap (λ l. value_text v ++ l) (values_text vs)
+
+-- behind any bytes: `first` commas, the values as quantities, and a comma for each further column are the values in their columns
+pub spread_text : (old : List ℕ) (first : ℕ) (values : List Value)
+    → ((old ++ replicate first 44) ++ flat_map value_text values) ++ replicate (24 - first - length values) 44 ≡ old ++ behind_commas (spread first (map quantity_text values))
+spread_text old first values =
+    let texts = map quantity_text values in
+    let front : List (List ℕ) = replicate first [] in
+    let left = 24 - first - length values in
+    let back : List (List ℕ) = replicate left [] in
+    let joined : behind_commas (front ++ (texts ++ back)) ≡ behind_commas front ++ (behind_commas texts ++ behind_commas back) =
+    flat_map-append behind_comma front (texts ++ back) ∙ ap (λ l. behind_commas front ++ l) (flat_map-append behind_comma texts back) in
+    ap (λ l. ((old ++ l) ++ flat_map value_text values) ++ replicate left 44) (sym (blanks_text first))
+    ∙ ap (λ l. ((old ++ behind_commas front) ++ l) ++ replicate left 44) (values_text values)
+    ∙ ap (λ l. ((old ++ behind_commas front) ++ behind_commas texts) ++ l) (sym (blanks_text left))
+    ∙ append_assoc (old ++ behind_commas front) (behind_commas texts) (behind_commas back)
+    ∙ append_assoc old (behind_commas front) (behind_commas texts ++ behind_commas back)
+    ∙ ap (λ l. old ++ l) (sym joined)
+    ∙ ap (λ n. old ++ behind_commas (front ++ (texts ++ replicate (24 - first - n) []))) (sym (length-map values quantity_text))
+
+-- `or` of three tests is the same, however they are grouped, and with `false` added twice
 or_same : (x y z : Bool) → ((x || y) || z) ≡ (((x || (y || z)) || false) || false)
 or_same true y z = refl
 or_same false true z = refl
@@ -58,14 +91,14 @@ same_quoted (b ∷ bs) = elim (cases_Bool (b == 34)) [
   | inr other ↦ rw other (ap (λ l. b ∷ l) (same_quoted bs))
 ]
 
--- a field is what that writer writes
+-- a field is what the writer of comma-separated values writes of its text
 same_field : (text : List ℕ) → csv_field text ≡ csv.field_text default_writer text
 same_field text = elim (cases_Bool (list_any is_special text)) [
   | inl special ↦ rw (special, sym (same_any text) ∙ special) (ap (λ l. 34 ∷ (l ++ 34 ∷ [])) (same_quoted text))
   | inr plain ↦ rw (plain, sym (same_any text) ∙ plain) refl
 ]
 
--- fields behind commas are what that writer writes
+-- fields, each behind a comma, are what the writer of comma-separated values writes of them
 same_fields : (fields : List (List ℕ)) → behind_commas fields ≡ fields_text default_writer (map escaped fields)
 unfolding fields_text
 same_fields [] = refl

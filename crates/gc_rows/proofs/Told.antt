@@ -1,5 +1,6 @@
--- The values of an answer stand under their names, and a row has as many fields as its header.
-use Rattle.std.proofs.Common.{◌≡◌, ◌≤◌, ℕ, suc, ◌+◌, ◌-◌, true, false, List, [], ◌++◌, length, map, replicate, Some, None, refl, ap, arith}
+-- The values of an answer stand under their names, and a row has as many fields as its header. Quantities are the values of
+-- answers; a row has 24 columns for them, of which an answer fills those from its own column on.
+use Rattle.std.proofs.Common.{◌≡◌, ◌≤◌, ℕ, suc, ◌+◌, ◌-◌, true, false, List, [], ◌++◌, length, map, replicate, Some, None, refl, ap, arith, ◌∙◌}
 use Rattle.std.proofs.lemmas.List.{length-append, length-map, length-replicate}
 use Rattle.gc_catalogue.specs.Answers.{answer_fields}
 use Rattle.gc_catalogue.specs.declared.answer.Answer.{Answer}
@@ -8,8 +9,8 @@ use Rattle.gc_catalogue.specs.declared.call.Call.{Call}
 use Rattle.gc_catalogue.specs.declared.call.Call.TheVariants.{GetPrecision, ComVersion, InstrumentNo, InstrumentName, GetDate, IntTemp, CsvVersion, GetStation, GetHeight, GetFace, GetAngle, SimpleMea, QuickDist, GetPrism, MeasDistance}
 use Rattle.gc_texts.specs.Endings.{End, Answered}
 use Rattle.gc_rows.specs.Quantities.{column_of, column_of_long, quantity_names, quantity_text}
-use Rattle.gc_rows.specs.Records.{names}
-use Rattle.gc_rows.specs.Rows.{spread, quantity_fields, row_fields}
+use Rattle.gc_rows.specs.Records.{names, last_names}
+use Rattle.gc_rows.specs.Rows.{spread, quantity_fields, last_fields, row_fields}
 use Rattle.gc_rows.specs.Told.{QuantitiesHaveTheirNames, RowsFillTheirColumns}
 use Rattle.gc_texts.specs.declared.commands.Command.{Command}
 use Rattle.gc_rows.specs.declared.when.When.{When}
@@ -81,22 +82,26 @@ spread_fills first texts fits =
     omega (arith, a, b, c, d, fits)
 
 -- however a command ended, its quantities have 24 fields
-quantities_fill : (call : Call) (end : End) → length (quantity_fields call end) ≡ 24
-quantities_fill call (Answered (Some answer) line) =
+pub quantities_fill : (call : Call) (end : End) → length (quantity_fields call end) ≡ 24
+quantities_fill call (Answered quality (Some answer) line) =
     let texts = map quantity_text (answer_fields answer).values in
     let few = answer_fits call answer in
     let same = length-map (answer_fields answer).values quantity_text in
     spread_fills (column_of call answer) texts (omega (arith, few, same))
 quantities_fill call end = refl
 
+-- however a command ended, its quantities and, behind them, its quality have 25 fields
+more_fill : (call : Call) (end : End) → length (quantity_fields call end ++ last_fields end) ≡ 25
+more_fill call end = length-append (quantity_fields call end) (last_fields end) ∙ ap (λ n. n + 1) (quantities_fill call end)
+
 -- a row without quantities has a field for each name of its header
-csv_fills : (when : When) (name : List ℕ) (command : Command) (end : End) → length (row_fields false when name command end) ≡ length names
-csv_fills when name command (Answered answer line) = refl
+csv_fills : (when : When) (name : List ℕ) (command : Command) (end : End) → length (row_fields false when name command end) ≡ length (names ++ last_names)
+csv_fills when name command (Answered quality answer line) = refl
 csv_fills when name command end = refl
 
 -- a row with quantities has a field for each name of its header
-columns_fill : (when : When) (name : List ℕ) (command : Command) (end : End) → length (row_fields true when name command end) ≡ length (names ++ quantity_names)
-columns_fill when name command (Answered answer line) = ap (λ n. suc (suc (suc (suc (suc (suc (suc (suc (suc (suc (suc (suc (suc n))))))))))))) (quantities_fill command.call (Answered answer line))
+columns_fill : (when : When) (name : List ℕ) (command : Command) (end : End) → length (row_fields true when name command end) ≡ length (names ++ (quantity_names ++ last_names))
+columns_fill when name command (Answered quality answer line) = ap (λ n. suc (suc (suc (suc (suc (suc (suc (suc (suc (suc (suc (suc (suc n))))))))))))) (more_fill command.call (Answered quality answer line))
 columns_fill when name command end = refl
 
 -- the law: each row has a field for each name of its header

@@ -12,7 +12,7 @@ use Rattle.gc_values.specs.declared.value.Value.{Value}
 use Rattle.gc_values.specs.declared.value.Value.TheVariants as value
 use Rattle.gc_texts.specs.declared.commands.Command.{Command}
 use Rattle.gc_rows.specs.declared.when.When.{When}
-use Rattle.gc_texts.specs.Endings.{End, Answered, word_of, fault_of, line_of}
+use Rattle.gc_texts.specs.Endings.{End, Answered, word_of, fault_of, line_of, quality_of, quality_text}
 use Rattle.gc_texts.specs.Logs.{escaped}
 use Rattle.gc_rows.specs.Quantities.{column_of, quantity_name, quantity_text}
 use Rattle.gc_texts.specs.Cuts.{before, behind}
@@ -31,7 +31,7 @@ in_quotes text = codes "\"" ++ flat_map behind_backslash text ++ codes "\""
 abbrev pub string_text : List ℕ → List ℕ
 string_text bytes = in_quotes (escaped bytes)
 
--- a member: its name, and a string that holds these bytes, or a number with these digits
+-- a member of an object: its name, and its value, which is a string that holds these bytes, or a number with these digits
 pub data Member : Type 0 where
   Text : (name bytes : List ℕ) → Member
   Number : (name digits : List ℕ) → Member
@@ -103,21 +103,36 @@ reply_members (Some line) =
 abbrev pub ending_members : End → List Member
 ending_members end = Text (codes "outcome") (word_of end) ∷ (fault_members (fault_of end) ++ reply_members (line_of end))
 
--- a value of this name, which came as this text: a number in its one written form and as it came, or a text
+-- the members of a value under this name. A text gives one, its bytes. A number gives two: the number in its one written form,
+-- and, under the name with `_text`, how the reply's line wrote it (`came`)
 abbrev pub value_members : List ℕ → Value → List ℕ → List Member
 value_members name (value.Text bytes) came = Text name bytes ∷ []
 value_members name v came = Number name (quantity_text v) ∷ Text (name ++ codes "_text") came ∷ []
 
--- the members of values, the first of which stands in this column; `came` are the same values as they came, with commas between them
+-- the members of values, the first of which has the name of this column, and each other that of the next; `came` are the same
+-- values as the reply's line wrote them, with commas between them
 abbrev pub values_members : ℕ → List Value → List ℕ → List Member
 values_members column [] came = []
 values_members column (v ∷ vs) came = value_members (quantity_name column) v (before 44 came) ++ values_members (column + 1) vs (behind 44 came)
 
 -- the quantities of a call's answer, where its command ended with one
 abbrev pub quantity_members : Call → End → List Member
-quantity_members call (Answered (Some answer) line) = values_members (column_of call answer) (answer_fields answer).values (values_of line)
+quantity_members call (Answered quality (Some answer) line) = values_members (column_of call answer) (answer_fields answer).values (values_of line)
 quantity_members call _ = []
 
--- the members of a record's line, but the first
+-- a member for the word of a quality; none where the word is empty
+abbrev pub worded_members : List ℕ → List Member
+worded_members [] = []
+worded_members (b ∷ bs) = Text (codes "quality") (b ∷ bs) ∷ []
+
+-- the member behind all others: the quality of the command's answer, where it was answered
+abbrev pub last_members : End → List Member
+last_members end = worded_members (quality_text (quality_of end))
+
+-- the members of the quantities of a call's answer, and behind them the one of its quality
+abbrev pub more_members : Call → End → List Member
+more_members call end = quantity_members call end ++ last_members end
+
+-- the members of a record's object behind the first, which is `run`
 abbrev pub json_members : When → List ℕ → Command → End → List Member
-json_members when name command end = when_members when ++ (what_members command name ++ (ending_members end ++ quantity_members command.call end))
+json_members when name command end = when_members when ++ (what_members command name ++ (ending_members end ++ more_members command.call end))

@@ -14,7 +14,7 @@ use Rattle.gc_catalogue.specs.declared.answer.Answer.TheVariants as answers
 use Rattle.gc_lines.specs.Numbers as numbers
 use Rattle.gc_lines.specs.Replies.{ReplyFields, IsReply}
 use Rattle.gc_rows.specs.Quantities.{quantity_names}
-use Rattle.gc_rows.specs.Records.{names, head_text}
+use Rattle.gc_rows.specs.Records.{names, last_names, head_text}
 use Rattle.gc_rows.specs.JsonLines.{Member, Text, Number, json_line, json_members}
 use Rattle.gc_rows.specs.Rows.{com_of, code_of, values_of, row_of}
 use Rattle.gc_rows.specs.declared.record.Form.TheVariants.{Csv, Columns}
@@ -33,14 +33,16 @@ pub record ColumnsSay (line : List ℕ) (r : ReplyFields) : Type 0 where
 abbrev pub ColumnsAreFields : Type 0
 ColumnsAreFields = (line : List ℕ) (r : ReplyFields) → IsReply line r → ColumnsSay line r
 
--- a reader of comma-separated values gives each row of two fields and more back as its fields, whatever bytes these hold, and reads on behind it; it gives back a
--- table of rows, and what stands in front of it is the row of the columns' names; and no two lists of bytes are written as one field
+-- rows read back by a reader of comma-separated values, whatever bytes their fields hold. `row`: a row of two fields or more
+-- gives its fields, and the reader goes on behind the row. `table`: rows of two fields or more give a table of their fields.
+-- `names`: what stands in front of all records is the row of the columns' names. `once`: no two lists of bytes have one escaped
+-- form, in which a field is read back
 pub record RowsReadBack : Type 0 where
   pub row : (fields : List (List ℕ)) (behind : List ℕ) → 1 < length fields
       → next_record default_config StartRecord [] [] (row_of fields ++ behind) ≡ Some (map escaped fields, StartRecord, behind)
   pub table : (rows : List (List (List ℕ))) → AllByRecursion (λ fields. 1 < length fields) rows
       → records_from default_config (length rows) StartRecord (flat_map row_of rows) ≡ map (map escaped) rows
-  pub names : (head_text Csv ≡ row_of names) × (head_text Columns ≡ row_of (names ++ quantity_names))
+  pub names : (head_text Csv ≡ row_of (names ++ last_names)) × (head_text Columns ≡ row_of (names ++ (quantity_names ++ last_names)))
   pub once : (xs ys : List ℕ) → All (λ b. b < 256) xs → All (λ b. b < 256) ys → escaped xs ≡ escaped ys → xs ≡ ys
 
 -- a row whose fields hold bytes is printable, before its line feed
@@ -57,7 +59,8 @@ abbrev pub IsMember : Member → Type 0
 IsMember (Text name bytes) = IsPlainName name × All (λ b. b < 256) bytes
 IsMember (Number name digits) = IsPlainName name × IsNumber digits
 
--- what members say, in their order: a text, whose bytes are escaped as in a row, and a number with its digits
+-- members as a reader of JSON gives them back, in their order: a text as a string, whose bytes are escaped as in a row, and a
+-- number by its digits
 abbrev pub members_read : List Member → json.Members
 members_read [] = json.no_members
 members_read (Text name bytes ∷ members) = json.member name (json.string (escaped bytes)) (members_read members)
@@ -67,7 +70,8 @@ members_read (Number name digits ∷ members) = json.member name (json.number di
 abbrev pub record_read : ℕ → List Member → json.Members
 record_read run members = json.member (codes "run") (json.string (escaped (stamp_text run))) (members_read members)
 
--- a line of JSON whose members are `IsMember`, without its line feed, reads as an object of the run's moment and these, in their order
+-- a line of JSON whose members are `IsMember`, without its line feed, reads as an object of the run's moment and these members,
+-- in their order
 abbrev pub JsonLinesReadBack : Type 0
 JsonLinesReadBack =
     (run : ℕ) (members : List Member) → run < 2 ^ 64 → AllByRecursion IsMember members
@@ -84,8 +88,8 @@ IsAnswerOfBytes answer = IsFittingAnswer answer
 
 -- how a command can end: a line, if it ended with one, is of bytes and reads as a reply, and an answer's numbers and text fit
 abbrev pub IsEnd : End → Type 0
-IsEnd (Answered (Some answer) line) = IsReplyOfBytes line × IsAnswerOfBytes answer
-IsEnd (Answered None line) = IsReplyOfBytes line
+IsEnd (Answered quality (Some answer) line) = IsReplyOfBytes line × IsAnswerOfBytes answer
+IsEnd (Answered quality None line) = IsReplyOfBytes line
 IsEnd (Unreadable line fault) = IsReplyOfBytes line
 IsEnd (Elsewhere line) = IsReplyOfBytes line
 IsEnd Late = Unit {0}
@@ -100,7 +104,8 @@ pub record IsWhen (when : When) : Type 0 where
   pub cycle : when.stamp.cycle < 2 ^ 64
   pub place : when.stamp.place < 2 ^ 64
 
--- each member of a record's line has a plain name, and holds bytes or a number of JSON: so the line reads back
+-- each member of a record's line has a plain name, and holds bytes or a number of JSON, so that the line reads back by
+-- `JsonLinesReadBack`
 abbrev pub RecordsAreMembers : Type 0
 RecordsAreMembers =
     (when : When) (name : List ℕ) (command : Command) (end : End)

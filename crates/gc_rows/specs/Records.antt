@@ -30,7 +30,7 @@ spaced_line (Some line) = codes " " ++ escaped line
 abbrev pub ending_text : End → List ℕ
 ending_text end = codes " " ++ word_of end ++ spaced_fault (fault_of end) ++ spaced_line (line_of end)
 
--- the line of a record
+-- the line of a record: when its command ended, the command's place, its target, and how it ended
 abbrev pub record_line : When → Command → End → List ℕ
 record_line when command end =
     stamp_text when.stamp.utc ++ codes " " ++ decimal when.stamp.place ++ codes " " ++ decimal command.target ++ ending_text end ++ codes "\n"
@@ -48,14 +48,19 @@ names =
     codes "run" ∷ codes "sent" ∷ codes "time" ∷ codes "cycle" ∷ codes "place" ∷ codes "target" ∷ codes "name" ∷ codes "procedure"
     ∷ codes "outcome" ∷ codes "fault" ∷ codes "rc_com" ∷ codes "rc" ∷ codes "values" ∷ []
 
--- what stands in front of all records
+-- the names of the columns behind all others
+abbrev pub last_names : List (List ℕ)
+last_names = codes "quality" ∷ []
+
+-- what stands in front of all records: the names of the columns as a row, in the forms that have columns
 abbrev pub head_text : Form → List ℕ
 head_text Lines = []
 head_text Json = []
-head_text Csv = row_of names
-head_text Columns = row_of (names ++ quantity_names)
+head_text Csv = row_of (names ++ last_names)
+head_text Columns = row_of (names ++ (quantity_names ++ last_names))
 
--- what a file of records begins with: what stands in front of all, and in a file of JSON, in which nothing does, how each line begins
+-- the bytes that a file of records begins with: what stands in front of all records, or, in a file of JSON, in front of which
+-- nothing stands, the bytes that each line begins with
 abbrev pub sign_text : Form → List ℕ
 sign_text Json = codes "{\"run\":\""
 sign_text Lines = head_text Lines

@@ -11,7 +11,7 @@ use Rattle.gc_values.specs.declared.fault.ValueFault.{ValueFault}
 use Rattle.gc_values.specs.declared.value.Value.{Value}
 use Rattle.gc_texts.specs.declared.commands.Command.{Command}
 use Rattle.gc_rows.specs.declared.when.When.{When}
-use Rattle.gc_texts.specs.Endings.{End, Answered, word_of, fault_of, line_of}
+use Rattle.gc_texts.specs.Endings.{End, Answered, word_of, fault_of, line_of, quality_of, quality_text}
 use Rattle.gc_texts.specs.Cuts.{before, behind}
 use Rattle.gc_texts.specs.Logs.{escaped}
 use Rattle.gc_rows.specs.Quantities.{column_of, quantity_text}
@@ -89,22 +89,27 @@ ending_fields end = word_of end ∷ fault_field (fault_of end) ∷ reply_fields 
 abbrev pub value_text : Value → List ℕ
 value_text value = behind_comma (quantity_text value)
 
--- these texts in 24 columns, the first of them in this one, and the other columns empty
+-- 24 fields: the texts stand in columns one behind the other, the first in column `first`, counted from 0, and the other
+-- columns are empty
 abbrev pub spread : ℕ → List (List ℕ) → List (List ℕ)
 spread first texts = replicate first [] ++ (texts ++ replicate (24 - first - length texts) [])
 
 -- the quantities of a call's answer, each in its column; all columns are empty where its command ended without one
 abbrev pub quantity_fields : Call → End → List (List ℕ)
-quantity_fields call (Answered (Some answer) line) = spread (column_of call answer) (map quantity_text (answer_fields answer).values)
+quantity_fields call (Answered quality (Some answer) line) = spread (column_of call answer) (map quantity_text (answer_fields answer).values)
 quantity_fields call _ = replicate 24 []
 
--- the fields of the quantities if a row has columns for them, else none
+-- the field behind all others: the quality of the command's answer, and empty where it wasn't answered
+abbrev pub last_fields : End → List (List ℕ)
+last_fields end = quality_text (quality_of end) ∷ []
+
+-- the fields behind the first thirteen: those of the quantities if a row has columns for them (`true`), and the one of the quality
 abbrev pub more_fields : Bool → Call → End → List (List ℕ)
-more_fields true call end = quantity_fields call end
-more_fields false call end = []
+more_fields true call end = quantity_fields call end ++ last_fields end
+more_fields false call end = last_fields end
 
 -- the fields of a record's row: when its run began, when its command was sent and ended, and which one of the run it was; the target, its
--- name and the procedure; how the command ended; and, if `columns` asks for them, a field for each quantity
+-- name and the procedure; how the command ended; if `columns` asks for them, a field for each quantity; and last the quality of the answer
 abbrev pub row_fields : Bool → When → List ℕ → Command → End → List (List ℕ)
 row_fields columns when name command end =
     stamp_text when.run ∷ (when_fields when ++ (what_fields command name ++ (ending_fields end ++ more_fields columns command.call end)))

@@ -5,7 +5,7 @@ ghost use Rattle.std.specs.List.{flat_map};
 ghost use Rattle.arrayvec.specs.ArrayVec.{array_vec_len};
 ghost use Rattle.gc_texts.specs.Endings.{ending_seen};
 ghost use Rattle.gc_texts.specs.Logs.{escaped};
-ghost use Rattle.gc_rows.specs.JsonLines.{behind_backslash, in_quotes, named, string_text, text_member, number_member, members_text, without_zeros, sent_members, when_members, name_members, what_members, fault_members, reply_members, ending_members, value_members, values_members, quantity_members, json_line, json_members};
+ghost use Rattle.gc_rows.specs.JsonLines.{behind_backslash, in_quotes, named, string_text, text_member, number_member, members_text, without_zeros, sent_members, when_members, name_members, what_members, fault_members, reply_members, ending_members, value_members, values_members, quantity_members, worded_members, last_members, more_members, json_line, json_members};
 
 use crate::quantity::{answer_values, column_of, quantity_name, quantity_text};
 use crate::row::texts_of;
@@ -35,7 +35,7 @@ fn append_behind_backslashes<const N: usize>(line: &mut ArrayVec<u8, N>, text: &
     }
 }
 
-// Appends a string that holds these bytes.
+// Appends a string that holds these bytes, escaped first as in a line of a log and then as JSON has it.
 fn append_string<const N: usize>(line: &mut ArrayVec<u8, N>, bytes: &[u8])
     requires short { length bytes.now ≤ 514 }
     requires room { array_vec_len line.old + 8 * length bytes.now + 2 ≤ N }
@@ -47,7 +47,7 @@ fn append_string<const N: usize>(line: &mut ArrayVec<u8, N>, bytes: &[u8])
     append(line, b"\"");
 }
 
-// Appends the name of a member, which is `name` with `ending` behind it, behind a comma and with its colon.
+// Appends a comma, the name of a member within double quotes, and a colon. The name is `name` with `ending` behind it.
 fn append_name<const N: usize>(line: &mut ArrayVec<u8, N>, name: &[u8], ending: &[u8])
     requires short { length name.now ≤ 32 }
     requires ends { length ending.now ≤ 5 }
@@ -198,7 +198,8 @@ fn append_ending<const N: usize>(line: &mut ArrayVec<u8, N>, ending: Ending<'_>)
     append_reply(line, ending.line());
 }
 
-// Appends the members of a value: a number in its one written form, and behind it the text `came` of that number; or a text.
+// Appends the members of a value. A text gives one: its bytes as a string, under this name. A number gives two: the number in
+// its one written form, under this name, and behind it, under the name with `_text`, how the reply's line wrote it (`came`).
 fn append_value<const N: usize>(line: &mut ArrayVec<u8, N>, name: &[u8], value: &Value, came: &[u8])
     requires named { length name.now ≤ 32 }
     requires short { length came.now ≤ 514 }
@@ -245,7 +246,7 @@ fn append_quantities<const N: usize>(line: &mut ArrayVec<u8, N>, call: &Call, en
     ensures text { line.new.items ≡ line.old.items ++ members_text (quantity_members call.now (ending_seen ending.entry)) }
     ensures room { array_vec_len line.new ≤ array_vec_len line.old + 28416 }
 {
-    if let Ending::Answered(Some(answer), reply) = ending {
+    if let Ending::Answered(_, Some(answer), reply) = ending {
         append_values(
             line,
             column_of(call, answer),
@@ -253,6 +254,28 @@ fn append_quantities<const N: usize>(line: &mut ArrayVec<u8, N>, call: &Call, en
             texts_of(reply).values,
         );
     }
+}
+
+// Appends the member `quality`, which holds this word. Where the word is empty, nothing is appended.
+fn append_quality<const N: usize>(line: &mut ArrayVec<u8, N>, word: &[u8])
+    requires short { length word.now ≤ 16 }
+    requires room { array_vec_len line.old + 171 ≤ N }
+    ensures text { line.new.items ≡ line.old.items ++ members_text (worded_members word.now) }
+    ensures room { array_vec_len line.new ≤ array_vec_len line.old + 171 }
+{
+    if !word.is_empty() {
+        append_text(line, b"quality", word);
+    }
+}
+
+// Appends a member for each quantity of a command's answer, and behind them the member of the answer's quality.
+fn append_more<const N: usize>(line: &mut ArrayVec<u8, N>, call: &Call, ending: Ending<'_>)
+    requires { array_vec_len line.old + 28587 ≤ N }
+    ensures text { line.new.items ≡ line.old.items ++ members_text (more_members call.now (ending_seen ending.entry)) }
+    ensures room { array_vec_len line.new ≤ array_vec_len line.old + 28587 }
+{
+    append_quantities(line, call, ending);
+    append_quality(line, ending.quality_text());
 }
 
 /// The line of JSON of a record, whose target has this name; without one the name is empty.
@@ -271,7 +294,7 @@ pub(crate) fn json_line(
     append_when(&mut line, when);
     append_what(&mut line, command, name);
     append_ending(&mut line, ending);
-    append_quantities(&mut line, &command.call, ending);
+    append_more(&mut line, &command.call, ending);
     append(&mut line, b"}\n");
     line
 }

@@ -3,7 +3,8 @@
 ghost use Rattle.gc_rows.specs.Told.{QuantitiesHaveTheirNames, RowsFillTheirColumns};
 ghost use Rattle.gc_rows.specs.Laws.{ColumnsAreFields, RowsReadBack, RowsArePrintable, JsonLinesReadBack, RecordsAreMembers};
 
-/// The columns of a record that stand for a reply are its communication code, its return code and its values.
+/// The columns `rc_com`, `rc` and `values` of a record are the fields of the reply's line: its communication code, its return
+/// code and its values.
 pub fn columns_are_a_replys_fields()
     ensures { ColumnsAreFields }
 {}
@@ -19,19 +20,20 @@ pub fn rows_are_printable()
     ensures { RowsArePrintable }
 {}
 
-/// A line of JSON, whose members have plain names and hold bytes or numbers of JSON, reads as an object of these members, in their order,
-/// whatever the bytes.
+/// A line of JSON, whose members have plain names and hold bytes or numbers of JSON, reads as an object of these members, in
+/// their order, whatever the bytes.
 pub fn json_lines_read_back()
     ensures { JsonLinesReadBack }
 {}
 
-/// The members of a record's line are such that it reads back: plain names, texts of bytes, and numbers of JSON.
+/// Each record's line of JSON is one of which `json_lines_read_back` speaks: its members have plain names and hold bytes or
+/// numbers of JSON.
 pub fn records_are_members()
     ensures { RecordsAreMembers }
 {}
 
-/// The values of an answer stand under the names of the quantities that its procedure returns by the manual's procedure tables. The
-/// columns of a row and the members of an object have these names.
+/// The values of an answer stand under the names of the quantities that its procedure returns by the manual's procedure tables.
+/// The columns of a row and the members of an object have these names.
 pub fn quantities_have_their_names()
     ensures { QuantitiesHaveTheirNames }
 {}

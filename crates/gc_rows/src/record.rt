@@ -19,7 +19,8 @@ use itoa::Buffer;
 /// How records are written.
 #[derive(Clone, Copy, Debug, PartialEq, Eq)]
 pub enum Form {
-    /// Each a line: the moment, the place, the target, and how the command ended, with the bytes of the reply as in a row.
+    /// Each a line: the moment, the place, the target, and how the command ended, with the bytes of the reply escaped as in a
+    /// log.
     Lines,
     /// Each a row of comma-separated values, quoted as RFC 4180 has it, with the names of the columns in front of all.
     Csv,
@@ -29,22 +30,22 @@ pub enum Form {
     Json,
 }
 
-/// What stands in front of all records: the names of the columns, or nothing.
+/// What stands in front of all records in this form: the names of the columns, or nothing.
 pub fn head(form: Form) -> &'static [u8]
     ensures { result.now ≡ head_text form }
 {
     match form {
         Form::Lines | Form::Json => b"",
         Form::Csv => {
-            b"run,sent,time,cycle,place,target,name,procedure,outcome,fault,rc_com,rc,values\n"
+            b"run,sent,time,cycle,place,target,name,procedure,outcome,fault,rc_com,rc,values,quality\n"
         }
         Form::Columns => {
-            b"run,sent,time,cycle,place,target,name,procedure,outcome,fault,rc_com,rc,values,hz_rad,v_rad,distance_m,mode,easting_m,northing_m,height_m,instrument_height_m,reflector_height_m,face,prism_type,temperature_c,places,release,version,subversion,serial,instrument,year,month,day,hour,minute,second\n"
+            b"run,sent,time,cycle,place,target,name,procedure,outcome,fault,rc_com,rc,values,hz_rad,v_rad,distance_m,mode,easting_m,northing_m,height_m,instrument_height_m,reflector_height_m,face,prism_type,temperature_c,places,release,version,subversion,serial,instrument,year,month,day,hour,minute,second,quality\n"
         }
     }
 }
 
-/// What a file of records in this form begins with, where any record stands in it.
+/// The bytes that a file of records in this form begins with, once it has a record: by them it is told from a foreign file.
 pub fn sign(form: Form) -> &'static [u8]
     ensures { result.now ≡ sign_text form }
 {
@@ -110,7 +111,7 @@ fn record_line(when: &When, command: &Command, ending: Ending<'_>) -> ArrayVec<u
     line
 }
 
-// How a command ended: its word, the number of its fault and the line of the reply, as it stands in a row, each behind a space.
+// How a command ended: its word, the number of its fault, and the line of the reply, escaped as in a log; each behind a space.
 fn ending_text(ending: Ending<'_>) -> ArrayVec<u8, ENDING_ROOM>
     ensures { result.items ≡ ending_text (ending_seen ending.entry) }
 {
@@ -134,7 +135,7 @@ fn append_fault<const N: usize>(text: &mut ArrayVec<u8, N>, fault: Option<ValueF
     }
 }
 
-// Appends the line of a reply behind a space, as it stands in a row, where there is one.
+// Appends the line of a reply, escaped as in a log, behind a space, where there is one.
 fn append_line<const N: usize>(text: &mut ArrayVec<u8, N>, line: Option<&Line>)
     requires { array_vec_len text.old + 2049 ≤ N }
     ensures { text.new.items ≡ text.old.items ++ spaced_line (option_map (λ l. l.now.items) line.entry) }

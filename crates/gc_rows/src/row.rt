@@ -1,16 +1,18 @@
 //! Rows: a record as a row of comma-separated values, quoted as RFC 4180 has it, of printable ASCII alone.
 
-ghost use Rattle.std.specs.Prelude.{◌≡◌, ℕ, ◌+◌, ◌*◌, ◌≤◌, ◌++◌, length, option_map, replicate};
+ghost use Rattle.std.specs.Prelude.{◌≡◌, ℕ, ◌+◌, ◌*◌, ◌≤◌, ◌++◌, length, map, option_map, replicate};
 ghost use Rattle.std.specs.List.{flat_map, list_any};
 ghost use Rattle.arrayvec.specs.ArrayVec.{array_vec_len};
 ghost use Rattle.gc_texts.specs.Cuts.{before, behind};
 ghost use Rattle.gc_texts.specs.Endings.{ending_seen};
-ghost use Rattle.gc_rows.specs.Rows.{com_of, code_of, values_of, is_special, within_quotes, csv_field, field_text, behind_comma, behind_commas, fault_field, reply_fields, ending_fields, moment_text, when_fields, what_fields, quantity_fields, more_fields, value_text, row_of, row_fields};
+ghost use Rattle.gc_rows.specs.Rows.{com_of, code_of, values_of, is_special, within_quotes, csv_field, field_text, behind_comma, behind_commas, fault_field, reply_fields, ending_fields, moment_text, when_fields, what_fields, quantity_fields, last_fields, more_fields, spread, value_text, row_of, row_fields};
+ghost use Rattle.gc_rows.specs.Quantities.{column_of, quantity_text};
+ghost use Rattle.gc_catalogue.specs.Answers.{answer_fields};
 
 use crate::quantity::{QUANTITIES, answer_values, column_of, quantity_text};
 use crate::when::When;
 use arrayvec::ArrayVec;
-use gc_catalogue::Call;
+use gc_catalogue::{Answer, Call};
 use gc_lines::{Line, append};
 use gc_texts::{Command, Ending, STAMP_ROOM, before, behind, escaped, stamp_text};
 use gc_values::{Value, ValueFault};
@@ -96,7 +98,7 @@ fn append_quoted<const N: usize>(row: &mut ArrayVec<u8, N>, text: &[u8])
     }
 }
 
-// Appends a field that holds these bytes.
+// Appends a field that holds these bytes, escaped as in a line of a log.
 fn append_field<const N: usize>(row: &mut ArrayVec<u8, N>, bytes: &[u8])
     requires short { length bytes.now ≤ 514 }
     requires room { array_vec_len row.old + 8 * length bytes.now + 2 ≤ N }
@@ -106,7 +108,7 @@ fn append_field<const N: usize>(row: &mut ArrayVec<u8, N>, bytes: &[u8])
     append_quoted(row, &escaped(bytes));
 }
 
-// Appends a field that holds these bytes, behind a comma.
+// Appends a comma and a field that holds these bytes, escaped as in a line of a log.
 fn append_next<const N: usize>(row: &mut ArrayVec<u8, N>, bytes: &[u8])
     requires short { length bytes.now ≤ 514 }
     requires room { array_vec_len row.old + 8 * length bytes.now + 3 ≤ N }
@@ -174,8 +176,8 @@ fn fault_text(fault: Option<ValueFault>) -> ArrayVec<u8, 20>
     text
 }
 
-// Appends what a reply's line says: its communication code, its return code, and its values. The three fields are empty where there
-// is no reply.
+// Appends what a reply's line says: its communication code, its return code, and its values. The three fields are empty where
+// there is no reply.
 fn append_reply<const N: usize>(row: &mut ArrayVec<u8, N>, line: Option<&Line>)
     requires { array_vec_len row.old + 12297 ≤ N }
     ensures text { row.new.items ≡ row.old.items ++ behind_commas (reply_fields (option_map (λ l. l.now.items) line.entry)) }
@@ -215,6 +217,19 @@ fn append_values<const N: usize>(row: &mut ArrayVec<u8, N>, values: &[Value])
     }
 }
 
+// Appends the quantities of an answer to a call, each in its column; the other columns are empty.
+fn append_answer<const N: usize>(row: &mut ArrayVec<u8, N>, call: &Call, answer: &Answer)
+    requires { array_vec_len row.old + 3200 ≤ N }
+    ensures text { row.new.items ≡ row.old.items ++ behind_commas (spread (column_of call.now answer.now) (map quantity_text (answer_fields answer.now).values)) }
+    ensures room { array_vec_len row.new ≤ array_vec_len row.old + 3200 }
+{
+    let values = answer_values(answer);
+    let first = column_of(call, answer);
+    append_blanks(row, first);
+    append_values(row, &values);
+    append_blanks(row, QUANTITIES - first - values.len());
+}
+
 // Appends the quantities of a command's answer, each in its column. All columns are empty where it ended without one.
 fn append_quantities<const N: usize>(row: &mut ArrayVec<u8, N>, call: &Call, ending: Ending<'_>)
     requires { array_vec_len row.old + 3200 ≤ N }
@@ -222,30 +237,46 @@ fn append_quantities<const N: usize>(row: &mut ArrayVec<u8, N>, call: &Call, end
     ensures room { array_vec_len row.new ≤ array_vec_len row.old + 3200 }
 {
     match ending {
-        Ending::Answered(Some(answer), _) => {
-            let values = answer_values(answer);
-            let first = column_of(call, answer);
-            append_blanks(row, first);
-            append_values(row, &values);
-            append_blanks(row, QUANTITIES - first - values.len());
-        }
+        Ending::Answered(_, Some(answer), _) => append_answer(row, call, answer),
         _ => append_blanks(row, QUANTITIES),
     }
 }
 
-// Appends the quantities of a command's answer, each in its column, where `columns` is true, and else nothing.
+// Appends the quality of a command's answer; an empty field where the command wasn't answered.
+fn append_last<const N: usize>(row: &mut ArrayVec<u8, N>, ending: Ending<'_>)
+    requires { array_vec_len row.old + 131 ≤ N }
+    ensures text { row.new.items ≡ row.old.items ++ behind_commas (last_fields (ending_seen ending.entry)) }
+    ensures room { array_vec_len row.new ≤ array_vec_len row.old + 131 }
+{
+    append_next(row, ending.quality_text());
+}
+
+// Appends the quantities of a command's answer, each in its column, and behind them the quality.
+fn append_both<const N: usize>(row: &mut ArrayVec<u8, N>, call: &Call, ending: Ending<'_>)
+    requires { array_vec_len row.old + 3331 ≤ N }
+    ensures text { row.new.items ≡ row.old.items ++ behind_commas (quantity_fields call.now (ending_seen ending.entry) ++ last_fields (ending_seen ending.entry)) }
+    ensures room { array_vec_len row.new ≤ array_vec_len row.old + 3331 }
+{
+    append_quantities(row, call, ending);
+    append_last(row, ending);
+}
+
+// Appends the quantities of a command's answer, each in its column, where `columns` is true. Then, in any case, it appends the
+// answer's quality.
 fn append_more<const N: usize>(
     row: &mut ArrayVec<u8, N>,
     columns: bool,
     call: &Call,
     ending: Ending<'_>,
 )
-    requires { array_vec_len row.old + 3200 ≤ N }
+    requires { array_vec_len row.old + 3331 ≤ N }
     ensures text { row.new.items ≡ row.old.items ++ behind_commas (more_fields columns call.now (ending_seen ending.entry)) }
-    ensures room { array_vec_len row.new ≤ array_vec_len row.old + 3200 }
+    ensures room { array_vec_len row.new ≤ array_vec_len row.old + 3331 }
 {
     if columns {
-        append_quantities(row, call, ending);
+        append_both(row, call, ending);
+    } else {
+        append_last(row, ending);
     }
 }
 

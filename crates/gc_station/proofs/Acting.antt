@@ -1,4 +1,7 @@
--- What each act leaves of the weaker record.
+-- Each act keeps the weaker record `Mid` (see `Midway`), which holds in the midst of an act, before what waits is lost: the
+-- counts, the client, the marks and the records belong together (`Sound`), and the phase fits them (`Placed`). An act is one
+-- call of the link, with what came of it. A mark says which command a waiting request is of, or `None` of a null procedure; a
+-- piece is the bytes that one read gave.
 use Rattle.std.proofs.Common.{◌≡◌, ℕ, ◌<◌, inl, ◌&&◌, ◌||◌, Bool, true, false, not, List, [], ◌∷◌, length, if◌then◌else◌, nat_eq, nat_lt, Option, Some, None, refl, sym, ap, subst}
 use Rattle.std.proofs.lemmas.Bool.{eqb-true}
 use Rattle.gc_lines.specs.Frames.{rest_behind}
@@ -24,7 +27,8 @@ use Rattle.gc_station.proofs.Invariant.{is_bare, is_done, says_done}
 use Rattle.gc_station.proofs.Midway.{Placed, SoundAt, PlacedAt, Mid, clash, sound_moment, sound_settles}
 use Rattle.gc_station.proofs.Walk.{asked_along, closed_along}
 
--- the phase of a run that fails leaves the marks and the kept bytes in their places, unless it fails for being done
+-- the phase after a failure for `why`, closing where there is a connection (`up`) and over where there is none, is `Placed`,
+-- unless `why` is `Done`
 fail_placed : (p : Progress) (rest : List ℕ) (marks : List (Option Mark)) (why : Cause) (up : Bool) → is_done why ≡ false → Placed (if up then Closing why else Over why) p.left p.unsent rest marks
 fail_placed p rest marks why true other = record { empty = λ e. cc; finished = λ e. absurd (clash (is_done why) e other) }
 fail_placed p rest marks why false other = record { empty = λ e. cc; finished = λ e. absurd (clash (is_done why) e other) }
@@ -48,7 +52,8 @@ pub mid_put : (plan : Plan) (commands : List Task) (requests : ℕ) (f : Model �
 mid_put plan commands requests f s (Cut bytes n) mid = mid_fail plan commands (f s) (cause.Write requests n) refl mid
 mid_put plan commands requests f s act mid = mid
 
--- the phase behind a lost connection, or a failed attempt, leaves the marks in their places
+-- the phase after a lost connection or a failed attempt is `Placed`: the run is over as done (`done`), or it pauses (`some`: a
+-- try is left, or none is needed), or it is over for `why`, which isn't `Done`
 again_placed : (why : Cause) (left unsent : ℕ) (rest : List ℕ) (marks : List (Option Mark)) (done some : Bool) → is_done why ≡ false → rest ≡ [] → (done ≡ true → (left ≡ 0) × (unsent ≡ 0))
     → Placed (if done then Over cause.Done else if some then Pausing else Over why) left unsent rest marks
 again_placed why left unsent rest marks true some other none finished = record { empty = λ e. cc; finished = λ e. let it = finished refl in (it.0, it.1, inl refl) }
@@ -58,12 +63,13 @@ again_placed why left unsent rest marks false false other none finished = record
 -- where a run is finished no cycle and no command is left
 all_sent : (n : ℕ) (p : Progress) → is_finished n p ≡ true → (p.left ≡ 0) × (p.unsent ≡ 0)
 all_sent n p e = three (nat_eq p.left 0) (nat_eq p.unsent 0) (nat_eq n 0) e refl refl where
+  -- the lemma above, by the three tests of `is_finished`
   three : (a b c : Bool) → (a && b && c) ≡ true → nat_eq p.left 0 ≡ a → nat_eq p.unsent 0 ≡ b → (p.left ≡ 0) × (p.unsent ≡ 0)
   three true true c e x y = (eqb-true p.left 0 x, eqb-true p.unsent 0 y)
   three true false c e x y = cc
   three false b c e x y = cc
 
--- the progress behind a lost connection, or a failed attempt, leaves the marks in their places
+-- where no bytes of a line are kept, the progress after a lost connection or a failed attempt, not for `Done`, is `PlacedAt`
 placed_again : (plan : Plan) (n : ℕ) (why : Cause) (p : Progress) (rest : List ℕ) (marks : List (Option Mark)) → is_done why ≡ false → rest ≡ [] → PlacedAt (again plan n why p) rest marks
 placed_again plan n why p rest marks other none = again_placed why p.left p.unsent rest marks (is_finished n p) (is_spared plan why p || nat_lt 0 p.tries) other none (all_sent n p)
 
@@ -72,18 +78,18 @@ pub mid_open : (plan : Plan) (commands : List Task) (s : Model) (act : Act) → 
 mid_open plan commands s Opened is mid = (mid.0, record { empty = λ e. mid.1.empty (ap is_bare is); finished = λ e. cc })
 mid_open plan commands s act is mid = (mid.0, placed_again plan (commands_in s.marks) cause.Open s.progress s.rest s.marks refl (mid.1.empty (ap is_bare is)))
 
--- the end of a run leaves the marks in their places, if a run that is done has nothing left to be sent
+-- the end of a run, with no bytes of a line kept, is `Placed`, if a run that is done has nothing left to be sent
 over_placed : (why : Cause) (p : Progress) (marks : List (Option Mark)) → (is_done why ≡ true → (p.left ≡ 0) × (p.unsent ≡ 0)) → Placed (Over why) p.left p.unsent [] marks
 over_placed why p marks done = record { empty = λ e. cc; finished = λ e. let it = done e in (it.0, it.1, inl refl) }
 
--- a close leaves the marks in their places, if one for being done has nothing left to be sent
+-- the progress after a close is `PlacedAt`, with no bytes of a line kept, if at a close for `Done` nothing is left to be sent
 close_placed : (plan : Plan) (w : Waiting) (why : Cause) (p : Progress) (marks : List (Option Mark)) → (why ≡ cause.Done → (p.left ≡ 0) × (p.unsent ≡ 0)) → PlacedAt (closed plan w why p) [] marks
 close_placed plan w cause.Done p marks done = over_placed cause.Done p marks (λ e. done refl)
 close_placed plan w cause.Clock p marks done = over_placed cause.Clock p marks (λ e. cc)
 close_placed plan w cause.Turns p marks done = over_placed cause.Turns p marks (λ e. cc)
 close_placed plan w why p marks done = placed_again plan w.commands why p [] marks refl refl
 
--- a close keeps the counts, the client and the records
+-- a close keeps `SoundAt`: it leaves the counts, the client, the marks and the records
 close_sound : (plan : Plan) (commands : List Task) (s : Model) (w : Waiting) (why : Cause) → SoundAt plan commands s.progress s.client s.marks s.records
     → SoundAt plan commands (closed plan w why s.progress) s.client s.marks s.records
 close_sound plan commands s w why sound = closed_along (λ (q : Progress). SoundAt plan commands q s.client s.marks s.records) plan w why s.progress sound sound
@@ -102,6 +108,7 @@ pub record Listening (plan : Plan) (commands : List Task) (s : Model) : Type 0 w
 same_next : (c : ById) (line : List ℕ) (o : Option ℕ) → (hears c line o).client.next ≡ c.next
 same_next c line None = refl
 same_next c line (Some id) = by_place (nat_lt (place_in c id) (length c.waiting)) where
+  -- the lemma above, whether a request with the line's id waits (`true`) or not
   by_place : (b : Bool) → (id_settled c line (place_in c id) b).client.next ≡ c.next
   by_place true = refl
   by_place false = refl
@@ -160,7 +167,7 @@ mid_piece plan commands s until piece m mid =
 
 -- Nothing came.
 
--- the end of a pause leaves the marks in their places
+-- the end of a pause, if it ends (`b`), keeps `Placed`
 down_placed : (b : Bool) (phase : Phase) (left unsent : ℕ) (rest : List ℕ) (marks : List (Option Mark)) → phase ≡ Pausing
     → Placed phase left unsent rest marks → Placed (if b then Down else phase) left unsent rest marks
 down_placed true phase left unsent rest marks is placed = record { empty = λ e. placed.empty (ap is_bare is); finished = λ e. cc }

@@ -1,4 +1,5 @@
--- Facts of every run: what holds at the start, and behind each act of a run, holds behind a whole run.
+-- Facts of every run: what holds at the start, and after each act of a run, holds after a whole run. An act is one call of the
+-- link, with what came of it.
 use Rattle.std.proofs.Common.{◌≡◌, List, [], ◌∷◌, ◌++◌, sym, ap, ◌∙◌, subst}
 use Rattle.gc_texts.specs.declared.tasks.Task.{Task}
 use Rattle.gc_station.specs.declared.plan.Plan.{Plan}
@@ -12,7 +13,8 @@ use Rattle.gc_station.proofs.Counts.{ended_progress}
 use Rattle.gc_station.proofs.Going.{after_all-append}
 
 module _ (plan : Plan) (commands : List Task) where
-  -- a fact of the acts so far, and of the model behind them: if each act of a run keeps it, each run does
+  -- a fact P of the acts so far, and of the model after them, holds after each run from s on, if it holds at s, and each act of a
+  -- run keeps it
   pub always : (s : Model) (P : List Act → Model → Type 0)
       → ((done : List Act) (act : Act) → Runs plan commands s done → Performs commands (after_all plan commands s done) (action_at plan (after_all plan commands s done)) act
       → P done (after_all plan commands s done) → P (done ++ act ∷ []) (after plan commands (after_all plan commands s done) act))
@@ -22,20 +24,22 @@ module _ (plan : Plan) (commands : List Task) where
       always (after plan commands s act) (λ (done : List Act) (t : Model). P (act ∷ done) t)
       (λ done next runs' o p. step (act ∷ done) next (runs.0, runs') o p) (step [] act tt runs.0 start) acts runs.1
 
-  -- a fact of the acts so far, and of the progress behind them: if each act of a run keeps it, each run does
+  -- a fact P of the progress, and of the acts so far, holds after each run from s on, if it holds at s, and each act of a run
+  -- keeps it
   pub always_far : (s : Model) (P : Progress → List Act → Type 0)
       → ((done : List Act) (act : Act) → Runs plan commands s done → Performs commands (after_all plan commands s done) (action_at plan (after_all plan commands s done)) act
       → P (after_all plan commands s done).progress done
       → P (moved plan commands (action_at plan (after_all plan commands s done)) (with_progress turned (after_all plan commands s done)) act).progress (done ++ act ∷ []))
       → P s.progress [] → (acts : List Act) → Runs plan commands s acts → P (after_all plan commands s acts).progress acts
   always_far s P step start acts runs = always s (λ (done : List Act) (t : Model). P t.progress done) far start acts runs where
+    -- each act keeps P of the model's progress: the loss of what waits, at the end of an act, changes no progress
     far : (done : List Act) (act : Act) → Runs plan commands s done → Performs commands (after_all plan commands s done) (action_at plan (after_all plan commands s done)) act
         → P (after_all plan commands s done).progress done → P (after plan commands (after_all plan commands s done) act).progress (done ++ act ∷ [])
     far done act runs o p =
         let t = after_all plan commands s done in
         subst (λ (q : Progress). P q (done ++ act ∷ [])) (sym (ended_progress (moved plan commands (action_at plan t) (with_progress turned t) act))) (step done act runs o p)
 
--- the progress behind one act more is what the act makes of it: what is lost then changes no progress
+-- the progress after one act more is what `moved` makes of it: the loss of what waits, at the end of the act, changes no progress
 pub progress_behind : (plan : Plan) (commands : List Task) (scope : Scope) (done : List Act) (act : Act)
     → (stood plan commands scope (done ++ act ∷ [])).progress ≡ (moved plan commands (action_at plan (stood plan commands scope done))
     (with_progress turned (stood plan commands scope done)) act).progress

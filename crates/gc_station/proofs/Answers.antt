@@ -1,5 +1,6 @@
--- Each record is of its very request: an answer came behind it, with its id, and in time; a late reply came too late; and a lost one is
--- lost for a cause.
+-- Each record is of its very request: an answer came after it, with its id, and in time; a late reply came too late; and a lost
+-- one is lost for a cause. Each act keeps `IsHonest` (of `Waiting`): the requests that wait were put among the acts, and the
+-- records are true. An act is one call of the link, with what came of it.
 use Rattle.std.proofs.Common.{◌≡◌, ◌⊎◌, inl, inr, ℕ, ◌+◌, ◌-◌, ◌%◌, ◌<◌, ◌≤◌, Bool, true, false, List, [], ◌∷◌, ◌++◌, length, drop, if◌then◌else◌, Option, Some, None, nat_eq, refl, sym, ap, ◌∙◌, subst, arith, append_assoc, append-nil, length-append}
 use Rattle.std.specs.List.{AllByRecursion}
 use Rattle.std.proofs.lemmas.Bool.Decides.{nat_tests}
@@ -49,17 +50,19 @@ puts_still bytes (Put out) o d = tt
 puts_still bytes (Cut out n) o d = tt
 puts_still bytes act o d = absurd o
 
--- the client once a request was sent, where the window has room
+-- the client (the first argument) once a request with this target, call and deadline was sent, where the window has room: the
+-- next id is counted on, and one more request waits
 abbrev pub with_sent : ById → ℕ → Call → ℕ → ById
 with_sent c target call deadline = record { next = (c.next + 1) % 8; waiting = c.waiting ++ pending_of target call deadline ∷ [] }
 
--- where the window has room, a send isn't refused, and leaves that client
+-- where the window has room, a send isn't refused, and leaves the client `with_sent`
 pub client_is : (c : ById) (target : ℕ) (call : Call) (deadline : ℕ) → length c.waiting < 7 → client_sent c (sends WINDOW c target call deadline) ≡ with_sent c target call deadline
 client_is c target call deadline room = ap (λ (b : Bool). client_sent c (id_send c target call deadline b)) (not_full (length c.waiting) 7 room) where
+  -- a number below 7 isn't 7
   not_full : (n w : ℕ) → n < w → nat_eq n w ≡ false
   not_full n w low = grind (arith, nat_tests, low)
 
--- an act that sends a request keeps what every run keeps of the requests that wait: one more waits, behind the others
+-- an act that sends a request keeps `Honest`: one more request waits, behind the others
 sent_honest : (plan : Plan) (commands : List Task) (scope : Scope) (acts : List Act) (act : Act) (c : ById) (marks : List (Option Mark))
     (records : List Record) (target : ℕ) (call : Call) (deadline : ℕ) (mark : Option Mark)
     → ((d : ℕ) → IsBefore d act) → c.next < 8 → length c.waiting < 7 → length marks ≡ length c.waiting
@@ -87,7 +90,7 @@ sent_honest plan commands scope acts act c marks records target call deadline ma
       written = h.written;
     }
 
--- the request that goes out is one that was put among the acts, as the last of them
+-- the request that goes out waits as `Waits` says, put as the last of the acts
 asked_here : (plan : Plan) (commands : List Task) (scope : Scope) (acts : List Act) (act : Act) (target : ℕ) (call : Call) (deadline : ℕ) (mark : Option Mark)
     → Invariant plan commands (stood plan commands scope acts)
     → length (stood plan commands scope acts).client.waiting < 7 → (0 < length (stood plan commands scope acts).client.waiting → IsAsking (action_at plan (stood plan commands scope acts)))
@@ -113,11 +116,12 @@ asked_here plan commands scope acts act target call deadline mark fine room asks
       stays = tt;
     }
 
+-- `Send` and `Flush` send a request of the client
 is_asking : (o : Action) → (o ≡ actions.Send) ⊎ (o ≡ actions.Flush) → IsAsking o
 is_asking o (inl is) = subst (λ (x : Action). IsAsking x) (sym is) tt
 is_asking o (inr is) = subst (λ (x : Action). IsAsking x) (sym is) tt
 
--- an act that sends a command keeps what every run keeps
+-- an act that sends a command keeps `Honest`
 command_honest : (plan : Plan) (commands : List Task) (scope : Scope) (acts : List Act) (act : Act) (target : ℕ) (call : Call)
     → Invariant plan commands (stood plan commands scope acts) → IsHonest plan commands scope acts (acts ++ act ∷ []) (stood plan commands scope acts)
     → action_at plan (stood plan commands scope acts) ≡ actions.Send → length (stood plan commands scope acts).client.waiting < 7
@@ -139,7 +143,7 @@ command_honest plan commands scope acts act target call fine h is room puts =
           ap (λ (x : Mark). x.sent) (sym same);
     }) (λ m its. refl) puts) h
 
--- the act that sends the next command keeps what every run keeps
+-- the act that sends the next command keeps `IsHonest`
 first_honest : (plan : Plan) (commands : List Task) (scope : Scope) (acts : List Act) (act : Act) (next_is_chained : Bool) (left : List Task)
     → Invariant plan commands (stood plan commands scope acts) → IsHonest plan commands scope acts (acts ++ act ∷ []) (stood plan commands scope acts)
     → action_at plan (stood plan commands scope acts) ≡ actions.Send → length (stood plan commands scope acts).client.waiting < 7
@@ -162,7 +166,7 @@ first_honest plan commands scope acts act next_is_chained (task ∷ others) fine
     ∙ client_is s.client task.command.target task.command.call (deadline_behind plan commands scope acts) room))
     (command_honest plan commands scope acts act task.command.target task.command.call fine h is room puts)
 
--- an act that sends a null procedure behind commands keeps what every run keeps
+-- an act that sends a null procedure after commands keeps `IsHonest`
 null_honest : (plan : Plan) (commands : List Task) (scope : Scope) (acts : List Act) (act : Act) (f : Progress → Progress)
     → Invariant plan commands (stood plan commands scope acts) → IsHonest plan commands scope acts (acts ++ act ∷ []) (stood plan commands scope acts)
     → length (stood plan commands scope acts).client.waiting < 7 → (0 < length (stood plan commands scope acts).client.waiting → IsAsking (action_at plan (stood plan commands scope acts)))
@@ -174,10 +178,11 @@ null_honest plan commands scope acts act f fine h room asks puts =
     subst (λ (c : ById). Honest plan commands scope (acts ++ act ∷ []) (acts ++ act ∷ []) c (s.marks ++ None ∷ []) s.records) (sym (client_is s.client 0 NullProc d room))
     (sent_honest plan commands scope acts act s.client s.marks s.records 0 NullProc d None (puts_still _ act puts) fine.digit room fine.paired
     (asked_here plan commands scope acts act 0 NullProc d None fine room asks (λ m its. absurd (never m its)) (λ m its. absurd (never m its)) puts) h) where
+      -- a null procedure has no mark
       never : (m : Mark) → None ≡ Some m → ⊥
       never m e = cc
 
--- a write that is cut keeps what a whole one keeps
+-- `IsHonest` holds after a write, whole or cut, if it holds after a whole one
 put_honest : (plan : Plan) (commands : List Task) (scope : Scope) (acts : List Act) (requests : ℕ) (f : Model → Model) (t : Model) (act : Act)
     → IsHonest plan commands scope acts acts (f t) → IsHonest plan commands scope acts acts (after_put requests f t act)
 put_honest plan commands scope acts requests f t (Cut out n) h = h
@@ -191,18 +196,20 @@ unsent_true : (plan : Plan) (commands : List Task) (scope : Scope) (all : List A
 unsent_true plan commands scope all true utc mark command = record { answered = λ line e. cc; late = λ e. cc; lost = λ e. cc }
 unsent_true plan commands scope all false utc mark command = record { answered = λ line e. cc; late = λ e. cc; lost = λ e. cc }
 
+-- the record of the first of these commands, which isn't sent, is true
 skips_first_true : (plan : Plan) (commands : List Task) (scope : Scope) (all : List Act) (p : Progress) (m : Moment) (mark : Mark) (left : List Task)
     → AllByRecursion (IsTrue plan commands scope all) (skips_first p m mark left)
 skips_first_true plan commands scope all p m mark [] = tt
 skips_first_true plan commands scope all p m mark (task ∷ others) = (unsent_true plan commands scope all p.missed (skipped_at m p) mark task.command, tt)
 
+-- the record of the next command, where it isn't sent, is true
 skips_true : (plan : Plan) (commands : List Task) (scope : Scope) (all : List Act) (p : Progress) (act : Act) → AllByRecursion (IsTrue plan commands scope all) (skips plan commands p act)
 skips_true plan commands scope all p (Told m) = skips_first_true plan commands scope all p m (mark_next plan commands p) (drop (place_next commands p) commands)
 skips_true plan commands scope all p act = tt
 
 -- Each action.
 
--- an act that reads the clock keeps what every run keeps
+-- an act that reads the clock keeps `IsHonest`
 clock_honest : (plan : Plan) (commands : List Task) (scope : Scope) (acts : List Act) (act : Act) (f : Moment → Progress → Progress) (s : Model)
     → IsHonest plan commands scope acts (acts ++ act ∷ []) s → ReadsClock act
     → IsHonest plan commands scope (acts ++ act ∷ []) (acts ++ act ∷ []) (after_clock f (with_progress turned s) act)
@@ -210,14 +217,14 @@ clock_honest plan commands scope acts (Told m) f s h o = moment_told plan comman
 clock_honest plan commands scope acts Untold f s h o = still plan commands scope acts Untold _ _ _ (λ d. tt) h
 clock_honest plan commands scope acts act f s h o = absurd o
 
--- an attempt to connect keeps what every run keeps
+-- an attempt to connect keeps `IsHonest`
 open_honest : (plan : Plan) (commands : List Task) (scope : Scope) (acts : List Act) (act : Act) (s : Model) → IsHonest plan commands scope acts (acts ++ act ∷ []) s → IsOpening act
     → IsHonest plan commands scope (acts ++ act ∷ []) (acts ++ act ∷ []) (after_open plan (with_progress turned s) act)
 open_honest plan commands scope acts Opened s h o = still plan commands scope acts Opened _ _ _ (λ d. tt) h
 open_honest plan commands scope acts Unopened s h o = still plan commands scope acts Unopened _ _ _ (λ d. tt) h
 open_honest plan commands scope acts act s h o = absurd o
 
--- a read keeps what every run keeps, whatever came of it
+-- a read keeps `IsHonest`, whatever came of it
 read_honest : (plan : Plan) (commands : List Task) (scope : Scope) (acts : List Act) (until : Until) (act : Act) (tail : List Record)
     → Invariant plan commands (stood plan commands scope acts) → IsHonest plan commands scope acts (acts ++ act ∷ []) (stood plan commands scope acts)
     → IsReading act
@@ -236,7 +243,7 @@ read_honest plan commands scope acts until act tail fine h o ends = absurd o
 close_still : (act : Act) → act ≡ Closed → (d : ℕ) → IsBefore d act
 close_still act is d = subst (λ (x : Act). IsBefore d x) (sym is) tt
 
--- each act keeps what every run keeps, before what is lost by it
+-- each act keeps `IsHonest`, before what waits is lost
 moved_honest : (plan : Plan) (commands : List Task) (scope : Scope) (acts : List Act) (action : Action) (act : Act) (tail : List Record)
     → Invariant plan commands (stood plan commands scope acts) → IsHonest plan commands scope acts (acts ++ act ∷ []) (stood plan commands scope acts)
     → action_at plan (stood plan commands scope acts) ≡ action → IsFor plan (stood plan commands scope acts).progress (waiting_of (stood plan commands scope acts)) action
@@ -277,7 +284,7 @@ moved_honest plan commands scope acts (actions.Read until) act tail fine h is ne
 moved_honest plan commands scope acts (actions.Close why) act tail fine h is needs o ends = still plan commands scope acts act _ _ _ (close_still act o) h
 moved_honest plan commands scope acts (actions.Stop why) act tail fine h is needs o ends = absurd o
 
--- acts of a run keep what every run keeps
+-- acts of a run keep `IsHonest`
 honest_along : (plan : Plan) (commands : List Task) (scope : Scope) (done acts : List Act)
     → IsHonest plan commands scope done done (stood plan commands scope done) → Runs plan commands (stood plan commands scope done) acts
     → IsHonest plan commands scope (done ++ acts) (done ++ acts) (stood plan commands scope (done ++ acts))

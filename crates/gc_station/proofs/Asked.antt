@@ -1,4 +1,8 @@
--- The turns of a station's parts: what they leave unanswered, and that each part begins before its client takes a step.
+-- The turns of a station's parts, and which ids of the word they leave. A part reaches from one beginning to the next. The word
+-- is the ids of a beginning's null procedures, and what is left of it are those that aren't answered yet; `the_word` is all
+-- eight. `AreBegun word parts`: the lines of each part but the last answered all ids of its beginning, `word` for the first
+-- part and all eight for each later one; and the last part did so, too, or has no step of the client. An act is one call of the
+-- link, with what came of it.
 use Rattle.std.proofs.Common.{◌≡◌, inl, inr, ℕ, ◌||◌, ◌&&◌, Bool, true, false, not, List, [], ◌∷◌, ◌++◌, drop, map, if◌then◌else◌, refl, sym, ◌∙◌, ap, subst}
 use Rattle.gc_client.specs.Beginning.{the_word, left_by}
 use Rattle.gc_client.specs.Rule.{heard}
@@ -33,6 +37,7 @@ pub left_append : (word : List ℕ) (xs ys : List (List ℕ)) → left_behind wo
 left_append word [] ys = refl
 left_append word (line ∷ xs) ys = left_append (left_by word (heard line)) xs ys
 
+-- turns that hear these lines hear exactly these
 heard_lines : (lines : List (List ℕ)) → heard_in (map part.Hears lines) ≡ lines
 heard_lines [] = refl
 heard_lines (line ∷ lines) = ap (λ l. line ∷ l) (heard_lines lines)
@@ -80,7 +85,7 @@ module _ (plan : Plan) (commands : List Task) where
   turns_plain s (action.Read until) (Gave piece m) h = absurd h
   turns_plain s o act h = refl
 
-  -- behind an act while the station begins, the ids that are left are those that the lines of the act leave
+  -- after an act while the station begins, the ids that are left are those that the lines of the act leave
   pub word_after : (s : Model) (act : Act) → Performs commands s (action_at plan s) act → has_begun s.progress ≡ false
       → (after plan commands s act).progress.word ≡ left_behind s.progress.word (heard_in (beginning s (action_at plan s) act).turns)
   word_after s act obeys begins = word_left plan commands s act obeys begins ∙ ap (λ l. left_behind s.progress.word l) (sym (heard_by s (action_at plan s) act obeys))
@@ -101,7 +106,7 @@ module _ (plan : Plan) (commands : List Task) where
   marks_none s (action.Read until) (Gave piece m) = refl
   marks_none s o act = refl
 
--- two empty lists, one behind the other, are empty
+-- where two lists are empty, they are empty joined
 pub nil_both : {A : Type 0} (xs ys : List A) → xs ≡ [] → ys ≡ [] → xs ++ ys ≡ []
 nil_both [] ys e f = f
 nil_both (x ∷ xs) ys e f = cc
@@ -115,20 +120,21 @@ FirstHasNone (p ∷ ps) = p.turns ≡ []
 left_both : (word : List ℕ) (xs ys : List part.Turn) → left_behind word (heard_in (xs ++ ys)) ≡ left_behind (left_behind word (heard_in xs)) (heard_in ys)
 left_both word xs ys = ap (λ l. left_behind word l) (heard_append xs ys) ∙ left_append word (heard_in xs) (heard_in ys)
 
--- parts have begun with one more act in front, of a part that still begins, if they have begun with the ids that its lines leave
+-- where the part p of an act of a beginning is joined to the front of the first part: the parts then have begun from `word`
+-- (`AreBegun`), if without p they have begun from the ids that the lines of p leave of `word`
 begun_on : (word : List ℕ) (p : Part) (ps : List Part) → p.steps ≡ [] → AreBegun (left_behind word (heard_in p.turns)) ps → AreBegun word (in_front p false ps)
 begun_on word p [] e h = inl e
 begun_on word p (q ∷ []) e (inl f) = inl (nil_both p.steps q.steps e f)
 begun_on word p (q ∷ []) e (inr f) = inr (left_both word p.turns q.turns ∙ f)
 begun_on word p (q ∷ r ∷ ps) e h = (left_both word p.turns q.turns ∙ h.0, h.1)
 
--- parts that have begun still have with a part in front that is joined to the first of them
+-- where the parts have begun with no id left (`AreBegun []`), they still have with p joined to the front of the first part
 begun_in : (p : Part) (ps : List Part) → AreBegun [] ps → AreBegun [] (in_front p false ps)
 begun_in p [] h = inr (left_none (heard_in p.turns))
 begun_in p (q ∷ []) h = inr (left_none (heard_in (p.turns ++ q.turns)))
 begun_in p (q ∷ r ∷ ps) h = (left_none (heard_in (p.turns ++ q.turns)), h.1)
 
--- parts that begin with the whole word still do behind a part that has begun
+-- where parts have begun from all eight ids, p and these parts after it have begun with no id left: p had begun already
 begun_out : (p : Part) (ps : List Part) → AreBegun the_word ps → AreBegun [] (p ∷ ps)
 begun_out p [] h = inr (left_none (heard_in p.turns))
 begun_out p (q ∷ ps) h = (left_none (heard_in p.turns), h)
@@ -137,25 +143,29 @@ module _ (plan : Plan) (commands : List Task) where
   -- where nothing is lost the station has begun
   pub goes_begun : (t : Model) → loses_all t.progress ≡ false → has_begun t.progress ≡ true
   goes_begun t e = still (has_begun t.progress) (is_over t.progress) e where
+    -- the lemma above, by whether the station has begun, and whether the run is over
     still : (b over : Bool) → (not b || over) ≡ false → b ≡ true
     still true over e = refl
     still false over e = cc
 
-  -- the part behind one that ends begins with the whole word, or no act follows
+  -- where a part ends with the model t, the acts after it begin with all eight ids; or the run is over, and there are none
   next_begun : (t : Model) (acts : List Act) → loses_all t.progress ≡ true → (has_begun t.progress ≡ false → t.progress.word ≡ the_word)
       → Runs plan commands t acts → AreBegun t.progress.word (parts_of plan commands t acts)
       → AreBegun the_word (parts_of plan commands t acts)
   next_begun t acts loses anew runs h = by_case (has_begun t.progress) refl loses where
+    -- where the run is over no act follows, so the parts are the one in which nothing happens
     none_over : (acts : List Act) → is_over t.progress ≡ true → Runs plan commands t acts → AreBegun the_word (parts_of plan commands t acts)
     none_over [] over runs = inl refl
     none_over (act ∷ acts) over runs = absurd (over_stays plan commands t act over runs.0)
 
+    -- the lemma above, by whether the station has begun (b): if it hasn't, its word is whole; if it has, the run is over
     by_case : (b : Bool) → has_begun t.progress ≡ b → (not b || is_over t.progress) ≡ true → AreBegun the_word (parts_of plan commands t acts)
     by_case true e over = none_over acts over runs
     by_case false e over = subst (λ w. AreBegun w (parts_of plan commands t acts)) (anew e) h
 
-  -- parts that have begun still have with an act in front, whether the station has begun or not, and whether the part ends or
-  -- not
+  -- where the parts of the acts after `act` have begun from the ids that it leaves, the parts with `act` in front have begun
+  -- from the ids before it. `begun` is whether the station had begun before the act, and `lost` whether all that waits is lost
+  -- at its end
   parts_begun_with : (s : Model) (act : Act) (acts : List Act) (begun lost : Bool) → has_begun s.progress ≡ begun → loses_all (after plan commands s act).progress ≡ lost
       → Performs commands s (action_at plan s) act → Runs plan commands (after plan commands s act) acts
       → AreBegun (after plan commands s act).progress.word (parts_of plan commands (after plan commands s act) acts)
@@ -177,7 +187,7 @@ module _ (plan : Plan) (commands : List Task) where
       subst (λ w. AreBegun w (p ∷ parts_of plan commands t acts)) (sym (word_of s.progress.word e))
       (begun_out p (parts_of plan commands t acts) (next_begun t acts f (λ begins. word_anew plan commands s act obeys e begins) runs h))
 
-  -- all parts of a run have begun but the last
+  -- all parts of a run have begun, as `AreBegun` says
   pub parts_begun : (s : Model) (acts : List Act) → Runs plan commands s acts → AreBegun s.progress.word (parts_of plan commands s acts)
   parts_begun s [] runs = inl refl
   parts_begun s (act ∷ acts) runs =
@@ -191,10 +201,12 @@ module _ (plan : Plan) (commands : List Task) where
   none_in_front p false [] e h = e
   none_in_front p false (q ∷ ps) e h = nil_both p.turns q.turns e (h refl)
 
+  -- the part of a command that goes out has no turns
   none_asking : (now : ℕ) (mark : Mark) (tasks : List Task) → (part.asking_first now mark tasks).turns ≡ []
   none_asking now mark [] = refl
   none_asking now mark (task ∷ others) = refl
 
+  -- the part of an action that puts bytes has no turns
   none_putting : (s : Model) (o : Action) → (part.putting plan commands s o).turns ≡ []
   none_putting s action.Flush = refl
   none_putting s action.Send = none_asking s.progress.moment.elapsed (mark_next plan commands s.progress) (drop (place_next commands s.progress) commands)

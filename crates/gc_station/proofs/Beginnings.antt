@@ -1,4 +1,6 @@
--- A beginning goes on by its answers, and no command goes out before the last of them.
+-- A beginning goes on by its answers, and no command goes out before the last of them. The word is the ids of a beginning that
+-- aren't answered yet; a line answers the first of them if it has that id. An act is one call of the link, with what came of
+-- it.
 use Rattle.std.proofs.Common.{◌≡◌, inl, inr, ℕ, Bool, true, false, List, [], ◌∷◌, ◌++◌, length, Option, Some, None, nat_eq, refl, sym, ap, ◌∙◌, subst}
 use Rattle.std.specs.List.{filter_map}
 use Rattle.std.proofs.lemmas.Bool.{eqb-true}
@@ -30,22 +32,26 @@ use Rattle.gc_station.proofs.Midway.{clash}
 use Rattle.gc_station.proofs.Quiets.{asks_only}
 use Rattle.gc_station.proofs.Words.{word_moved, renews_only, renews_needs}
 
--- Where a line leaves what a subsequence of later ids answers, its id stands before them.
+-- Lines answer the ids of a word, the null procedures that aren't answered yet, in their order: the word is a subsequence of the
+-- lines' ids.
 
--- if these ids are answered behind a line, the ids that were left before the line are answered by its id and these
+-- if what `line` leaves of the word is a subsequence of the ids of `others` and then `ids`, the word is a subsequence of the id
+-- of `line`, the ids of `others` and then `ids`
 left_answered : (word : List ℕ) (line : List ℕ) (others : List (List ℕ)) (ids : List ℕ)
     → IsSubsequence (left_by word (heard line)) (filter_map heard others ++ ids) → IsSubsequence word (filter_map heard (line ∷ others) ++ ids)
 left_answered [] line others ids h = tt
 left_answered (asked ∷ rest) line others ids h = by_id (heard line) refl h where
+  -- the lemma above, where the line has an id: the word's first one (`true`) or another
   by_test : (id : ℕ) (b : Bool) → nat_eq id asked ≡ b → IsSubsequence (left_by_one b asked rest) (filter_map heard others ++ ids) → IsSubsequence (asked ∷ rest) (id ∷ (filter_map heard others ++ ids))
   by_test id true e h = inl (sym (eqb-true id asked e), h)
   by_test id false e h = inr h
 
+  -- the lemma above, by the id that the line has, if it has one
   by_id : (o : Option ℕ) → heard line ≡ o → IsSubsequence (left_by (asked ∷ rest) o) (filter_map heard others ++ ids) → IsSubsequence (asked ∷ rest) (filter_map heard (line ∷ others) ++ ids)
   by_id None e h = rw e h
   by_id (Some id) e h = rw e (by_test id (nat_eq id asked) refl h)
 
--- if these ids are answered behind lines, the ids that were left before the lines are answered by them and these
+-- if what these lines leave of the word is a subsequence of `ids`, the word is a subsequence of the lines' ids and then `ids`
 lines_answered : (word : List ℕ) (lines : List (List ℕ)) (ids : List ℕ) → IsSubsequence (left_behind word lines) ids → IsSubsequence word (filter_map heard lines ++ ids)
 lines_answered word [] ids h = h
 lines_answered word (line ∷ others) ids h = left_answered word line others ids (lines_answered (left_by word (heard line)) others ids h)
@@ -77,14 +83,15 @@ module _ (plan : Plan) (commands : List Task) where
   none_left [] ids e = tt
   none_left (asked ∷ others) ids e = cc
 
-  -- if the ids left behind an act are answered, those before it are answered by the lines of the act and these
+  -- if the word after an act is a subsequence of `ids`, the word before it is a subsequence of the ids of the act's lines and
+  -- then `ids`; `begun` is whether the station had begun before the act
   one_before : (s : Model) (act : Act) (ids : List ℕ) (begun : Bool) → has_begun s.progress ≡ begun → Performs commands s (action_at plan s) act
       → IsSubsequence (after plan commands s act).progress.word ids
       → IsSubsequence s.progress.word (filter_map heard (heard_at s act) ++ ids)
   one_before s act ids true begun obeys h = none_left s.progress.word _ begun
   one_before s act ids false begins obeys h = lines_answered s.progress.word (heard_at s act) ids (subst (λ (w : List ℕ). IsSubsequence w ids) (word_after s act obeys begins) h)
 
-  -- where the station has begun behind acts, their lines answer the ids that were left before
+  -- where the station has begun after these acts, the word before them is a subsequence of the ids of the lines that they bring
   none_before : (s : Model) (acts : List Act) → Runs plan commands s acts → has_begun (after_all plan commands s acts).progress ≡ true
       → IsSubsequence s.progress.word (filter_map heard (heard_behind plan commands s acts))
   none_before s [] runs begun = none_left s.progress.word [] begun
@@ -94,12 +101,13 @@ module _ (plan : Plan) (commands : List Task) where
       subst (λ (all : List ℕ). IsSubsequence s.progress.word all) (sym (filter_map-append heard (heard_at s act) (heard_behind plan commands u acts)))
       (one_before s act ids (has_begun s.progress) refl runs.0 (none_before u acts runs.1 begun))
 
--- where a command or a null procedure behind commands goes out, the station has begun
+-- where a command or a null procedure after commands goes out, the station has begun
 asking_begun : (plan : Plan) (s : Model) (o : Action) → IsAsking o → IsFor plan s.progress (waiting_of s) o → has_begun s.progress ≡ true
 asking_begun plan s actions.Send asks needs = needs.1
 asking_begun plan s actions.Flush asks needs = needs.1
 asking_begun plan s o asks needs = absurd asks
 
+-- no command goes out before the last answer of a beginning
 pub none_before_the_last : NoneBeforeTheLastAnswer
 none_before_the_last plan commands scope earlier between runs asks =
     let t = stood plan commands scope (earlier ++ between) in
@@ -114,11 +122,12 @@ module _ (plan : Plan) (commands : List Task) (scope : Scope) (acts : List Act) 
   abbrev here : Model
   here = stood plan commands scope acts
 
-  -- the model behind the act
+  -- the model after the act
   abbrev there : Model
   there = stood plan commands scope (acts ++ act ∷ [])
 
-  -- an act of a run, while the station begins, is `IsOfBeginning`
+  -- an act of a run, while the station begins, is `IsOfBeginning`: the client is new, a request that goes out is the null
+  -- procedure of the first id left, and the act's lines answer ids in order
   of_beginning : Performs commands here (action_at plan here) act → has_begun here.progress ≡ false → IsOfBeginning plan commands scope acts act
   of_beginning obeys begins =
       let fine = fine_stood plan commands scope acts in
@@ -131,7 +140,8 @@ module _ (plan : Plan) (commands : List Task) (scope : Scope) (acts : List Act) 
         left = ap (λ (x : Model). x.progress.word) (after_all-append plan commands (opening plan scope) acts (act ∷ [])) ∙ word_after plan commands here act obeys begins;
       }
 
-  -- an act of a run at which the station begins anew is `IsAnew`
+  -- an act of a run at which the station begins anew is `IsAnew`: it reads the clock where seven requests wait, all given up;
+  -- after it the client is new, and all eight ids are left
   is_anew : Performs commands here (action_at plan here) act → has_begun here.progress ≡ true → has_begun there.progress ≡ false → IsAnew plan commands scope acts act
   is_anew obeys begun begins =
       let far = progress_behind plan commands scope acts act in
@@ -148,7 +158,7 @@ module _ (plan : Plan) (commands : List Task) (scope : Scope) (acts : List Act) 
         client = (fine_stood plan commands scope (acts ++ act ∷ [])).begins begins;
       }
 
-  -- each act of a run is as `BeginsSo` says
+  -- each act of a run is as `BeginsSo` says: `IsOfBeginning` while the station begins, and `IsAnew` where it begins anew
   pub begins_so : Runs plan commands (opening plan scope) (acts ++ act ∷ []) → BeginsSo plan commands scope acts act
   begins_so runs =
       let obeys = (runs_split plan commands (opening plan scope) acts [] act runs).1 in

@@ -1,4 +1,7 @@
--- What is written down of a client's steps: how each request ended, by its mark.
+-- What is written down of a client's steps: how each request ended, by its mark. A course is what a client has sent and settled
+-- so far, and the client after that. A step is a send, a line heard, a moment told or a restart. `Books` says that a part's
+-- steps take a client, its marks and its records to those after them; `Wrote` says the same of the marks and the records alone,
+-- by what was settled and sent.
 use Rattle.std.proofs.Common.{◌≡◌, ℕ, zero, suc, ◌+◌, ◌<◌, ◌≤◌, Bool, true, false, List, [], ◌∷◌, ◌++◌, length, map, drop, Option, Some, None, refl, sym, ◌∙◌, ap, subst, arith, append_assoc, append-nil}
 use Rattle.std.specs.Prelude.{slice_get}
 use Rattle.std.specs.List.{AllByRecursion}
@@ -11,24 +14,31 @@ use Rattle.gc_catalogue.specs.declared.answer.Reading.TheVariants as kind
 use Rattle.gc_client.specs.OneForOne.{Asked, Course, Step, Send, Hear, Expire, Restart, sent_on, goes, course, of_settled, of_pending}
 use Rattle.gc_client.specs.Rule.{ById, Outcome, Answered, Late, Lost, Sending, Settlement, fresh, heard, hears, expires, lost, id_send, sends}
 use Rattle.gc_client.proofs.OneForOne.{heard_parts, lost_parts}
+use Rattle.gc_texts.specs.Codes.{are_accepted}
 use Rattle.gc_texts.specs.Nears.{is_elsewhere}
+use Rattle.gc_texts.specs.Zeroed.{as_zero}
+use Rattle.gc_texts.specs.declared.quality.Quality.{Quality}
+use Rattle.gc_texts.specs.declared.quality.Quality.TheVariants as quality
+use Rattle.gc_texts.specs.declared.near.Expected.{Expected}
 use Rattle.gc_texts.specs.declared.near.Near.{Near}
 use Rattle.gc_texts.specs.declared.tasks.Task.{Task}
 use Rattle.gc_station.specs.declared.mark.Mark.{Mark}
-use Rattle.gc_station.specs.Marks.{value_as, answer_as, end_of, record_of, records_of}
+use Rattle.gc_station.specs.Marks.{value_as, warned_as, refused_as, answer_as, end_of, record_of, records_of}
 use Rattle.gc_station.specs.Records.{Record}
 use Rattle.gc_station.specs.Model.{client_sent}
 use Rattle.gc_station.specs.Parts.{Turn, Part, only_turns, only, nothing, joined, asking, IsOf, AreOf, went_out, sent_with, sent_of, timeless}
 
 -- Steps.
 
--- the course of this client that has sent and settled nothing
+-- the course at its start: this client has sent and settled nothing
 abbrev pub course_at : ById → Course
 course_at c = record { sent = []; settlements = []; client = c }
 
+-- this client after one step
 abbrev pub stepped : ById → Step → ById
 stepped c s = (goes 7 (course_at c) s).client
 
+-- this client after these steps, in order
 abbrev pub client_after : ById → List Step → ById
 client_after c [] = c
 client_after c (s ∷ ss) = client_after (stepped c s) ss
@@ -43,26 +53,26 @@ abbrev pub sent_by : ById → List Step → List Asked
 sent_by c [] = []
 sent_by c (s ∷ ss) = (goes 7 (course_at c) s).sent ++ sent_by (stepped c s) ss
 
--- a client behind two lists of steps is the one behind the second, from the one behind the first on
+-- a client after two lists of steps is the one after the second, from the one after the first on
 pub client_append : (c : ById) (first later : List Step) → client_after c (first ++ later) ≡ client_after (client_after c first) later
 client_append c [] later = refl
 client_append c (s ∷ first) later = client_append (stepped c s) first later
 
--- two lists of steps settle what the first settles and then what the second settles behind it
+-- two lists of steps settle what the first settles and then what the second settles after it
 pub settled_append : (c : ById) (first later : List Step) → settled_by c (first ++ later) ≡ settled_by c first ++ settled_by (client_after c first) later
 settled_append c [] later = refl
 settled_append c (s ∷ first) later =
     ap (λ k. (goes 7 (course_at c) s).settlements ++ k) (settled_append (stepped c s) first later)
     ∙ sym (append_assoc (goes 7 (course_at c) s).settlements (settled_by (stepped c s) first) (settled_by (client_after (stepped c s) first) later))
 
--- two lists of steps send what the first sends and then what the second sends behind it
+-- two lists of steps send what the first sends and then what the second sends after it
 pub sent_append : (c : ById) (first later : List Step) → sent_by c (first ++ later) ≡ sent_by c first ++ sent_by (client_after c first) later
 sent_append c [] later = refl
 sent_append c (s ∷ first) later =
     ap (λ k. (goes 7 (course_at c) s).sent ++ k) (sent_append (stepped c s) first later)
     ∙ sym (append_assoc (goes 7 (course_at c) s).sent (sent_by (stepped c s) first) (sent_by (client_after (stepped c s) first) later))
 
--- what a send adds to a course is what it adds to the course of the same client that has sent and settled nothing
+-- a send adds the same to any course as to one at its start with the same client
 sent_parts : (x : Course) (target : ℕ) (call : Call) (o : Option (Sending ById))
     → ((sent_on x target call o).settlements ≡ x.settlements ++ (sent_on (course_at x.client) target call o).settlements)
     × ((sent_on x target call o).sent ≡ x.sent ++ (sent_on (course_at x.client) target call o).sent)
@@ -70,7 +80,7 @@ sent_parts : (x : Course) (target : ℕ) (call : Call) (o : Option (Sending ById
 sent_parts x target call None = (sym (append-nil x.settlements), sym (append-nil x.sent), refl)
 sent_parts x target call (Some s) = (sym (append-nil x.settlements), refl, refl)
 
--- what a step adds to a course is what it adds to the course of the same client that has sent and settled nothing
+-- a step adds the same to any course as to one at its start with the same client
 goes_parts : (x : Course) (s : Step)
     → ((goes 7 x s).settlements ≡ x.settlements ++ (goes 7 (course_at x.client) s).settlements)
     × ((goes 7 x s).sent ≡ x.sent ++ (goes 7 (course_at x.client) s).sent) × ((goes 7 x s).client ≡ stepped x.client s)
@@ -97,23 +107,27 @@ course_sent (s ∷ ss) x =
     let now = (goes 7 (course_at x.client) s).sent in
     course_sent ss y ∙ ap (λ l. l ++ sent_by y.client ss) p.1 ∙ ap (λ c. (x.sent ++ now) ++ sent_by c ss) p.2 ∙ append_assoc x.sent now (sent_by (stepped x.client s) ss)
 
--- the client of a course behind steps is its client behind them
+-- the client of a course after steps is its client after them
 pub course_client : (steps : List Step) (x : Course) → (course 7 x steps).client ≡ client_after x.client steps
 course_client [] x = refl
 course_client (s ∷ ss) x = course_client ss (goes 7 x s) ∙ ap (λ c. client_after c ss) (goes_parts x s).2
 
 -- Lists.
 
+-- what is left of two lists in a row without their first n elements, where the first list has n: that of the first, and the
+-- second
 drop_append : {A : Type 0} (n : ℕ) (xs ys : List A) → n ≤ length xs → drop n (xs ++ ys) ≡ drop n xs ++ ys
 drop_append zero xs ys le = refl
 drop_append (suc n) [] ys le = absurd (omega (arith, le))
 drop_append (suc n) (x ∷ xs) ys le = drop_append n xs ys (omega (arith, le))
 
+-- an empty list stays empty where elements are dropped
 drop_none : {A : Type 0} (n : ℕ) (xs : List A) → xs ≡ [] → drop n xs ≡ []
 drop_none zero xs e = e
 drop_none (suc n) [] e = refl
 drop_none (suc n) (x ∷ xs) e = cc
 
+-- to drop as many elements as the settlements `ss`, and then as `ts`, is to drop as many as both
 drop_twice : {A : Type 0} (ss ts : List Settlement) (xs : List A) → drop (length ts) (drop (length ss) xs) ≡ drop (length (ss ++ ts)) xs
 drop_twice [] ts xs = refl
 drop_twice (s ∷ ss) ts [] = drop_none (length ts) [] refl
@@ -131,7 +145,7 @@ records_timeless reads utc (m ∷ ms) [] = refl
 records_timeless reads utc (None ∷ ms) (s ∷ ss) = records_timeless reads utc ms ss
 records_timeless reads utc (Some mark ∷ ms) (s ∷ ss) = ap (λ rs. record_of reads 0 mark s ∷ rs) (records_timeless reads utc ms ss)
 
--- the records of settlements and of others behind them: the marks of the first are taken out for the second
+-- the records of two lists of settlements are those of the first and, by the marks that are left, those of the second
 records_append : (reads : Call → List ℕ → Reading) (ms : List (Option Mark)) (ss ts : List Settlement)
     → records_of reads 0 ms (ss ++ ts) ≡ records_of reads 0 ms ss ++ records_of reads 0 (drop (length ss) ms) ts
 records_append reads [] [] ts = refl
@@ -140,7 +154,7 @@ records_append reads (m ∷ ms) [] ts = refl
 records_append reads (None ∷ ms) (s ∷ ss) ts = records_append reads ms ss ts
 records_append reads (Some mark ∷ ms) (s ∷ ss) ts = ap (λ rs. record_of reads 0 mark s ∷ rs) (records_append reads ms ss ts)
 
--- the marks of later requests don't count: with more marks behind them, settlements have the same records
+-- settlements have the same records with more marks behind those of their requests
 records_more : (reads : Call → List ℕ → Reading) (ms more : List (Option Mark)) (ss : List Settlement) → length ss ≤ length ms → records_of reads 0 (ms ++ more) ss ≡ records_of reads 0 ms ss
 records_more reads [] more [] le = records_none reads 0 more
 records_more reads [] more (s ∷ ss) le = absurd (omega (arith, le))
@@ -149,22 +163,34 @@ records_more reads (None ∷ ms) more (s ∷ ss) le = records_more reads ms more
 records_more reads (Some mark ∷ ms) more (s ∷ ss) le = ap (λ rs. record_of reads 0 mark s ∷ rs) (records_more reads ms more ss (omega (arith, le)))
 
 -- a command that an answer ended went out, whether it was measured elsewhere or not
-value_sent : (away : Bool) (answer : Answer) (line : List ℕ) → went_out (value_as away answer line) ≡ true
-value_sent true answer line = refl
-value_sent false answer line = refl
+value_sent : (q : Quality) (away : Bool) (answer : Answer) (line : List ℕ) → went_out (value_as q away answer line) ≡ true
+value_sent q true answer line = refl
+value_sent q false answer line = refl
+
+-- a command that a reply with an accepted return code ended went out
+warned_sent : (near : Option Near) (zeroed : Reading) (line : List ℕ) → went_out (warned_as near zeroed line) ≡ true
+warned_sent near (kind.Value answer) line = value_sent quality.Warning (is_elsewhere near answer) answer line
+warned_sent near (kind.Refused code) line = refl
+warned_sent near (kind.ComFault code) line = refl
+warned_sent near (kind.Unreadable fault) line = refl
+
+-- a command that a refusal ended went out, whether its return code is accepted or not
+refused_sent : (accepted : Bool) (near : Option Near) (zeroed : Reading) (line : List ℕ) → went_out (refused_as accepted near zeroed line) ≡ true
+refused_sent true near zeroed line = warned_sent near zeroed line
+refused_sent false near zeroed line = refl
 
 -- a command that a reply in time ended went out
-end_sent : (near : Option Near) (reading : Reading) (line : List ℕ) → went_out (answer_as near reading line) ≡ true
-end_sent near (kind.Value answer) line = value_sent (is_elsewhere near answer) answer line
-end_sent near (kind.Refused code) line = refl
-end_sent near (kind.ComFault code) line = refl
-end_sent near (kind.Unreadable fault) line = refl
+end_sent : (expected : Expected) (reading zeroed : Reading) (line : List ℕ) → went_out (answer_as expected reading zeroed line) ≡ true
+end_sent expected (kind.Value answer) zeroed line = value_sent quality.Fine (is_elsewhere expected.near answer) answer line
+end_sent expected (kind.Refused code) zeroed line = refused_sent (are_accepted expected.accepted code) expected.near zeroed line
+end_sent expected (kind.ComFault code) zeroed line = refl
+end_sent expected (kind.Unreadable fault) zeroed line = refl
 
 -- a command whose request was settled went out, however it ended
-pub ended_sent : (reads : Call → List ℕ → Reading) (near : Option Near) (call : Call) (o : Outcome) → went_out (end_of reads near call o) ≡ true
-ended_sent reads near call (Answered line) = end_sent near (reads call line) line
-ended_sent reads near call Late = refl
-ended_sent reads near call Lost = refl
+pub ended_sent : (reads : Call → List ℕ → Reading) (expected : Expected) (call : Call) (o : Outcome) → went_out (end_of reads expected call o) ≡ true
+ended_sent reads expected call (Answered line) = end_sent expected (reads call line) (reads call (as_zero line)) line
+ended_sent reads expected call Late = refl
+ended_sent reads expected call Lost = refl
 
 -- all records of settlements are of commands that went out
 records_sent : (reads : Call → List ℕ → Reading) (utc : ℕ) (ms : List (Option Mark)) (ss : List Settlement) → sent_of (records_of reads utc ms ss) ≡ records_of reads utc ms ss
@@ -173,9 +199,9 @@ records_sent reads utc (m ∷ ms) [] = refl
 records_sent reads utc (None ∷ ms) (s ∷ ss) = records_sent reads utc ms ss
 records_sent reads utc (Some mark ∷ ms) (s ∷ ss) =
     let r = record_of reads utc mark s in
-    ap (λ (b : Bool). sent_with b r (sent_of (records_of reads utc ms ss))) (ended_sent reads mark.near s.call s.outcome) ∙ ap (λ rs. r ∷ rs) (records_sent reads utc ms ss)
+    ap (λ (b : Bool). sent_with b r (sent_of (records_of reads utc ms ss))) (ended_sent reads mark.expected s.call s.outcome) ∙ ap (λ rs. r ∷ rs) (records_sent reads utc ms ss)
 
--- records behind others that went out are in order behind them
+-- the record r, if its command went out (b), may be put in front of `xs` before `ys` are appended, or after
 sent_more : (b : Bool) (r : Record) (xs ys : List Record) → sent_with b r (xs ++ ys) ≡ sent_with b r xs ++ ys
 sent_more true r xs ys = refl
 sent_more false r xs ys = refl
@@ -190,7 +216,8 @@ pub sent_records : (reads : Call → List ℕ → Reading) (rs : List Record) (u
     → sent_of (rs ++ records_of reads utc ms ss) ≡ sent_of rs ++ records_of reads utc ms ss
 sent_records reads rs utc ms ss = sent_both rs (records_of reads utc ms ss) ∙ ap (λ xs. sent_of rs ++ xs) (records_sent reads utc ms ss)
 
--- where `AreOf` holds of marks and requests, and of others, it holds of both, one behind the other
+-- `AreOf` says of marks and requests, one for one, that each request is of the command that its mark names. Where it holds of
+-- `ms` and `xs`, and of `ns` and `ys`, it holds of both joined
 pub of_append : (commands : List Task) (ms ns : List (Option Mark)) (xs ys : List Asked) → AreOf commands ms xs → AreOf commands ns ys → AreOf commands (ms ++ ns) (xs ++ ys)
 of_append commands [] ns [] ys h g = g
 of_append commands [] ns (x ∷ xs) ys h g = absurd h
@@ -211,6 +238,7 @@ of_at commands [] [] n mark h e = cc
 of_at commands [] (x ∷ xs) n mark h e = absurd h
 of_at commands (m ∷ ms) [] n mark h e = absurd h
 of_at commands (m ∷ ms) (x ∷ xs) zero mark h e = (x, refl, subst (λ (k : Option Mark). IsOf commands k x) (same m mark e) h.0) where
+  -- equal options have equal marks
   same : (m mark : Option Mark) → Some m ≡ Some mark → m ≡ mark
   same m mark e = cc
 of_at commands (m ∷ ms) (x ∷ xs) (suc n) mark h e = of_at commands ms xs n mark h.1 e
@@ -225,8 +253,8 @@ all_records reads P (Some mark ∷ ms) (s ∷ ss) f = (f 0 mark s refl refl, all
 
 -- What is written down.
 
--- these settlements, of the requests with the marks `ms` and then of those that go out meanwhile, with the marks `more`, leave the last
--- marks and make the last records
+-- a station with the marks `ms` and the records `rs` sends the requests `asks`, with the marks `more`, and the settlements `ss`
+-- come: then it has the marks `ms'` and the records `rs'`, which are compared without their moments
 pub record Wrote (reads : Call → List ℕ → Reading) (commands : List Task) (ms : List (Option Mark)) (rs : List Record) (more : List (Option Mark))
     (ss : List Settlement) (asks : List Asked) (ms' : List (Option Mark)) (rs' : List Record) : Type 0 where
   pub marks : ms' ≡ drop (length ss) (ms ++ more)
@@ -258,6 +286,7 @@ wrote_both reads commands ms ms1 ms2 more1 more2 rs rs1 rs2 ss1 ss2 asks1 asks2 
           ∙ ap (λ l. map timeless rs ++ l) (sym (records_append reads all ss1 ss2));
       sent = of_append commands more1 more2 asks1 asks2 h.sent g.sent;
     } where
+      -- a list of at least n elements has n more than are left without the first n
       drop_length : {A : Type 0} (n : ℕ) (xs : List A) → n ≤ length xs → length xs ≡ n + length (drop n xs)
       drop_length zero xs le = omega arith
       drop_length (suc n) [] le = absurd (omega (arith, le))
@@ -269,7 +298,7 @@ pub record Books (reads : Call → List ℕ → Reading) (commands : List Task) 
   pub client : client_after c p.steps ≡ c'
   pub wrote : Wrote reads commands ms rs p.marks (settled_by c p.steps) (sent_by c p.steps) ms' rs'
 
--- where `Books` holds of one part, and of another behind it, it holds of both as one
+-- where part p takes a client to c1, and part q takes c1 to c2 (`Books`), p joined with q takes it to c2
 pub books_both : (reads : Call → List ℕ → Reading) (commands : List Task) (c c1 c2 : ById) (ms ms1 ms2 : List (Option Mark)) (rs rs1 rs2 : List Record) (p q : Part)
     → Books reads commands c ms rs p c1 ms1 rs1 → Books reads commands c1 ms1 rs1 q c2 ms2 rs2 → Books reads commands c ms rs (joined p q) c2 ms2 rs2
 books_both reads commands c c1 c2 ms ms1 ms2 rs rs1 rs2 p q h g =
@@ -304,12 +333,12 @@ pub books_turns : (reads : Call → List ℕ → Reading) (commands : List Task)
     → Books reads commands c ms rs (only_turns turns) c ms rs
 books_turns reads commands c ms rs turns = record { client = refl; wrote = wrote_none reads commands ms rs }
 
--- a moment leaves the marks and the records
+-- a moment, which may give requests up, leaves the marks and the records
 pub books_moment : (reads : Call → List ℕ → Reading) (commands : List Task) (c : ById) (ms : List (Option Mark)) (rs : List Record) (now : ℕ)
     → Books reads commands c ms rs (only (Expire now ∷ [])) (expires c now) ms rs
 books_moment reads commands c ms rs now = record { client = refl; wrote = wrote_none reads commands ms rs }
 
--- settlements of the oldest requests take out their marks, and add their records
+-- settlements of the oldest requests (`ss`, also called `ts`) take out as many of the first marks, and add their records
 wrote_settled : (reads : Call → List ℕ → Reading) (commands : List Task) (ms : List (Option Mark)) (rs : List Record) (utc : ℕ) (ss ts : List Settlement)
     → ts ≡ ss → length ss ≤ length ms → Wrote reads commands ms rs [] ts [] (drop (length ss) ms) (rs ++ records_of reads utc ms ss)
 wrote_settled reads commands ms rs utc ss ts same few =
@@ -352,7 +381,7 @@ books_restart reads commands c ms rs utc paired =
     let ss = map lost c.waiting in
     record { client = refl; wrote = wrote_settled reads commands ms rs utc ss (ss ++ []) (append-nil ss) (few_settled ms c fresh ss paired (append-nil (map of_settled ss) ∙ lost_parts c.waiting)) }
 
--- what a client sends that isn't refused: the id, and the client behind it
+-- what a client sends that isn't refused: the id, and the client after it
 abbrev pub sending_of : ById → ℕ → Call → ℕ → Sending ById
 sending_of c target call deadline = record { id = c.next; client = client_sent c (id_send c target call deadline false) }
 
@@ -360,7 +389,8 @@ sending_of c target call deadline = record { id = c.next; client = client_sent c
 pub sends_with_room : (c : ById) (target : ℕ) (call : Call) (deadline : ℕ) → length c.waiting < 7 → sends 7 c target call deadline ≡ Some (sending_of c target call deadline)
 sends_with_room c target call deadline room = ap (λ b. id_send c target call deadline b) (ne_eqb (length c.waiting) 7 (λ e. omega (arith, e, room)))
 
--- the client, the marks and the records behind a send, which the client refuses or not
+-- a send to `target` of `call` with the outcome `o` (the last argument; `None` where the client refuses it) takes the client c
+-- to `client_sent c o`, and adds its mark to the marks `ms`; the records `rs` stay
 abbrev pub SentAt : (Call → List ℕ → Reading) → List Task → ById → List (Option Mark) → List Record → ℕ → Call → Option Mark → Option (Sending ById) → Type 0
 SentAt reads commands c ms rs target call mark o =
     ((sent_on (course_at c) target call o).client ≡ client_sent c o)

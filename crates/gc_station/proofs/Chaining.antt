@@ -1,12 +1,15 @@
--- A command of a chain goes out only behind the answer of the one before it.
+-- A command of a chain goes out only after the answer of the one before it. The two fields on chains of a progress are
+-- `next_is_chained`, whether the next command waits for that answer, and `chain_unbroken`. An act is one call of the link, with
+-- what came of it. `Chain` says that both fields are true to the acts so far, and `Whole` that the command before the next one
+-- went out, with no connection closed and no new beginning since.
 use Rattle.std.proofs.Common.{◌≡◌, ◌⊎◌, inl, inr, ℕ, ◌+◌, ◌-◌, ◌<◌, ◌≤◌, ◌||◌, Bool, true, false, List, [], ◌∷◌, ◌++◌, length, drop, map, Option, Some, None, refl, sym, ap, ◌∙◌, subst, arith, append_assoc}
 use Rattle.std.specs.List.{AllByRecursion}
 use Rattle.std.proofs.lemmas.List.{length-drop, map-append}
 use Rattle.gc_catalogue.specs.declared.answer.Answer.{Answer}
-use Rattle.gc_catalogue.specs.declared.answer.Reading.{Reading}
-use Rattle.gc_catalogue.specs.declared.call.Call.{Call}
 use Rattle.gc_texts.specs.declared.tasks.Task.{Task}
 use Rattle.gc_texts.specs.Endings.{End, Answered}
+use Rattle.gc_texts.specs.Qualities.{is_good}
+use Rattle.gc_texts.specs.declared.quality.Quality.{Quality}
 use Rattle.gc_station.specs.declared.cause.Cause.{Cause}
 use Rattle.gc_station.specs.declared.cause.Cause.TheVariants as cause
 use Rattle.gc_station.specs.declared.plan.Plan.{Plan}
@@ -19,7 +22,8 @@ use Rattle.gc_station.specs.Answers.{IsTrueRecord, answer_of}
 use Rattle.gc_station.specs.Chains.{IsChained, IsLinked}
 use Rattle.gc_station.specs.Deciding.{has_begun}
 use Rattle.gc_station.specs.EachOnce.{Request, of_record, of_task, requests, sent_by}
-use Rattle.gc_station.specs.Marks.{commands_in, is_value, is_well, last_well}
+use Rattle.gc_station.specs.Marks.{commands_in, is_well, last_well}
+use Rattle.gc_station.specs.Qualities.{IsAsListed}
 use Rattle.gc_station.specs.Quiet.{KeepsOpen}
 use Rattle.gc_station.specs.Progressing.{failing, turned, begun}
 use Rattle.gc_station.specs.Reasons.{IsFor, MayGo}
@@ -36,13 +40,13 @@ use Rattle.gc_station.proofs.Invariant.{Invariant}
 use Rattle.gc_station.proofs.Going.{after_all-append}
 use Rattle.gc_station.proofs.Lists.{all_append}
 use Rattle.gc_station.proofs.Midway.{clash}
-use Rattle.gc_station.proofs.Readings.{stood_reads}
+use Rattle.gc_station.proofs.Nearly.{as_listed}
 use Rattle.gc_station.proofs.Walk.{closed_along, is_sent, moved_changed, walk}
 use Rattle.gc_station.proofs.Words.{begun_kept}
 
 -- What an act does to the place in a cycle, and to the chain that is there.
 
--- the fields that chains look at are the same in q as in p: it is the same command that is next
+-- from p to q the next command stays the same, and so do the fields that chains look at, but that the chain may break
 record Still (p q : Progress) : Type 0 where
   left : q.left ≡ p.left
   unsent : q.unsent ≡ p.unsent
@@ -50,19 +54,22 @@ record Still (p q : Progress) : Type 0 where
   next_is_chained : q.next_is_chained ≡ p.next_is_chained
   chain_unbroken : q.chain_unbroken ≡ true → p.chain_unbroken ≡ true
 
--- q has one command less to be sent than p, and the next one is chained or not, as said
+-- q has one command less to be sent than p, and the next one of q waits for the answer of the one before it as `next_is_chained`
+-- says
 record Next (next_is_chained : Bool) (p q : Progress) : Type 0 where
   left : q.left ≡ p.left
   unsent : q.unsent ≡ p.unsent - 1
   missed : q.missed ≡ p.missed
   is_bound : q.next_is_chained ≡ next_is_chained
 
--- q is at the beginning of a cycle of `count` commands
+-- q is at the beginning of a cycle of `count` commands: all are unsent, and no chain has begun
 record Anew (count : ℕ) (q : Progress) : Type 0 where
   unsent : q.unsent ≡ count
   chain_unbroken : q.chain_unbroken ≡ false
 
--- what an act of an action does to these fields: it leaves them, breaks the chain, goes on to the next command, or begins a cycle
+-- what an act of an action does to the fields on chains, from p to q: it leaves them, breaks the chain, goes on to the next
+-- command, or begins a cycle. The first two arguments are how many commands a cycle has, and whether the command after the next
+-- one is chained. Where an action has two cases, the first is that the clock couldn't be read
 abbrev Steps : ℕ → Bool → Action → Progress → Progress → Type 0
 Steps count next_is_chained Begin p q = Still p q ⊎ Anew count q
 Steps count next_is_chained Renew p q = Still p q ⊎ (Still p q × (q.chain_unbroken ≡ false))
@@ -75,7 +82,7 @@ Steps count next_is_chained _ p q = Still p q
 still : (p q : Progress) → q.left ≡ p.left → q.unsent ≡ p.unsent → q.missed ≡ p.missed → q.next_is_chained ≡ p.next_is_chained → q.chain_unbroken ≡ p.chain_unbroken → Still p q
 still p q left unsent missed next_is_chained chain_unbroken = record { left = left; unsent = unsent; missed = missed; next_is_chained = next_is_chained; chain_unbroken = λ e. sym chain_unbroken ∙ e }
 
--- where these fields are the same, but for a chain that is broken, `Still` holds
+-- where these fields are the same, but for a chain that is broken in q, `Still` holds, and q's chain is broken
 broken : (p q : Progress) → q.left ≡ p.left → q.unsent ≡ p.unsent → q.missed ≡ p.missed → q.next_is_chained ≡ p.next_is_chained → q.chain_unbroken ≡ false → Still p q × (q.chain_unbroken ≡ false)
 broken p q left unsent missed next_is_chained chain_unbroken = (
   record {
@@ -123,18 +130,19 @@ stays_open plan commands next s act o other = walk plan commands (λ a (t : Mode
 
 -- What every run keeps of the chain where it stands.
 
--- the station has begun behind each front of these acts
+-- the station has begun after each of these acts
 abbrev pub StaysBegun : Plan → List Task → Model → List Act → Type 0
 StaysBegun plan commands s [] = Unit {0}
 StaysBegun plan commands s (act ∷ acts) = (has_begun (after plan commands s act).progress ≡ true) × StaysBegun plan commands (after plan commands s act) acts
 
--- `StaysBegun` lasts over one act more, behind which the station has begun
+-- `StaysBegun` holds with one act more, if the station has begun after it
 stays_more : (plan : Plan) (commands : List Task) (s : Model) (acts : List Act) (act : Act) → StaysBegun plan commands s acts
     → has_begun (after_all plan commands s (acts ++ act ∷ [])).progress ≡ true → StaysBegun plan commands s (acts ++ act ∷ [])
 stays_more plan commands s [] act h e = (e, tt)
 stays_more plan commands s (x ∷ acts) act h e = (h.0, stays_more plan commands (after plan commands s x) acts act h.1 e)
 
--- the command before the next one went out among these acts, and since then no connection was closed, and the station didn't begin anew
+-- where a station has the progress p: the command before the next one, of the same cycle, went out among these acts, and since
+-- then no connection was closed, and the station didn't begin anew
 record Whole (plan : Plan) (commands : List Task) (scope : Scope) (acts : List Act) (p : Progress) : Type 0 where
   before : List Act
   request : Act
@@ -147,14 +155,16 @@ record Whole (plan : Plan) (commands : List Task) (scope : Scope) (acts : List A
   begun : has_begun p ≡ true
   keeps : StaysBegun plan commands (stood plan commands scope before) (request ∷ between)
 
--- if the station has begun behind all acts, it has behind their first part and then the others
+-- where all acts (`all`) are `before` and then `behind`, and the station has begun after all of them, it has begun after
+-- `behind`, counted from the model after `before`
 begun_there : (plan : Plan) (commands : List Task) (scope : Scope) (before behind all : List Act) (q : Progress) → all ≡ before ++ behind
     → (stood plan commands scope all).progress ≡ q → has_begun q ≡ true
     → has_begun (after_all plan commands (stood plan commands scope before) behind).progress ≡ true
 begun_there plan commands scope before behind all q action there begun =
     ap (λ (x : Model). has_begun x.progress) (sym (ap (stood plan commands scope) action ∙ after_all-append plan commands (opening plan scope) before behind)) ∙ ap has_begun there ∙ begun
 
--- what the two fields on chains mean behind these acts: whether the next command is chained, and that the chain is unbroken
+-- the two fields on chains of p are true after these acts: `next_is_chained` is what the text says of the next command, or true
+-- in a missed cycle; and if `chain_unbroken` is true, `Whole` holds
 record Chain (plan : Plan) (commands : List Task) (scope : Scope) (acts : List Act) (p : Progress) : Type 0 where
   next_is_chained : 0 < place_next commands p → p.next_is_chained ≡ (p.missed || is_chained (drop (place_next commands p) commands))
   chain_unbroken : p.chain_unbroken ≡ true → Whole plan commands scope acts p
@@ -207,24 +217,25 @@ chain_anew plan commands scope acts q a =
     let none : place_next commands q ≡ 0 = omega (arith, a.unsent) in
     record { next_is_chained = λ above. absurd (omega (arith, none, above)); chain_unbroken = λ e. absurd (clash q.chain_unbroken e a.chain_unbroken) }
 
--- where one command less is left, the next one has the place behind
+-- where one command less is left, the next one stands one place further
 next_place : (commands : List Task) (p q : Progress) → q.unsent ≡ p.unsent - 1 → 0 < p.unsent → p.unsent ≤ length commands → place_next commands q ≡ place_next commands p + 1
 next_place commands p q less some within = omega (arith, less, some, within)
 
--- the new next command is chained, by its field, if it is in the text or the cycle is missed
+-- after a command that was sent or passed over, `next_is_chained` is what the text says of the next command, or true in a missed
+-- cycle
 next_bound : (commands : List Task) (p q : Progress) → Next (is_chained_behind_next commands p) p q → place_next commands q ≡ place_next commands p + 1
     → q.next_is_chained ≡ (q.missed || is_chained (drop (place_next commands q) commands))
 next_bound commands p q n at =
     n.is_bound ∙ ap (λ (b : Bool). b || is_chained (drop (place_next commands p + 1) commands)) (sym n.missed) ∙ ap (λ (k : ℕ). q.missed || is_chained (drop k commands)) (sym at)
 
--- `Chain` holds behind a command that isn't sent
+-- `Chain` holds after a command that isn't sent
 chain_skipped : (plan : Plan) (commands : List Task) (scope : Scope) (acts : List Act) (p q : Progress) → Next (is_chained_behind_next commands p) p q
     → q.chain_unbroken ≡ false → 0 < p.unsent → p.unsent ≤ length commands → Chain plan commands scope acts q
 chain_skipped plan commands scope acts p q n broken some within =
     let at = next_place commands p q n.unsent some within in
     record { next_is_chained = λ above. next_bound commands p q n at; chain_unbroken = λ e. absurd (clash q.chain_unbroken e broken) }
 
--- `Chain` holds behind a command that is sent
+-- `Chain` holds after a command that is sent
 chain_sent : (plan : Plan) (commands : List Task) (scope : Scope) (acts : List Act) (act : Act) (p q : Progress)
     → p ≡ turned (stood plan commands scope acts).progress → (stood plan commands scope (acts ++ act ∷ [])).progress ≡ q
     → action_at plan (stood plan commands scope acts) ≡ Send → (q.chain_unbroken ≡ true → has_begun q ≡ true)
@@ -271,11 +282,12 @@ chain_moved plan commands scope acts act (Stop why) w q fine is needs o at begin
 chain_moved plan commands scope acts act next w q fine is needs o at begins k h =
     chain_still plan commands scope acts act _ q at k begins (stays_open plan commands next (stood plan commands scope acts) act o (λ why e. cc)) h
 
--- the two fields on chains mean what `Chain` says behind every run
+-- `Chain` lasts over all acts of a run
 chain_along : (plan : Plan) (commands : List Task) (scope : Scope) (done acts : List Act) → Runs plan commands (stood plan commands scope done) acts
     → Chain plan commands scope done (stood plan commands scope done).progress
     → Chain plan commands scope (done ++ acts) (stood plan commands scope (done ++ acts)).progress
 chain_along plan commands scope done [] runs h = subst (λ (xs : List Act). Chain plan commands scope xs (stood plan commands scope xs).progress) (sym (all_of done)) h where
+  -- nothing appended changes no list
   all_of : (xs : List Act) → xs ++ [] ≡ xs
   all_of [] = refl
   all_of (x ∷ xs) = ap (λ ys. x ∷ ys) (all_of xs)
@@ -308,51 +320,53 @@ chain_along plan commands scope done (act ∷ acts) runs h =
     subst (λ (xs : List Act). Chain plan commands scope xs (stood plan commands scope xs).progress) (append_assoc done (act ∷ []) acts)
     (chain_along plan commands scope (done ++ act ∷ []) acts goes_on here)
 
--- no command is behind the last
+-- where none is unsent, no command is left
 none_behind : (commands : List Task) → drop (length commands - 0) commands ≡ []
 none_behind commands = let at : length commands - 0 ≡ length commands = omega arith in ap (λ (n : ℕ). drop n commands) at ∙ all_dropped commands where
+  -- a list without as many elements as it has is empty
   all_dropped : (commands : List Task) → drop (length commands) commands ≡ []
   all_dropped [] = refl
   all_dropped (task ∷ others) = all_dropped others
 
--- `Chain` holds behind every run
+-- `Chain` holds after every run
 chain_stood : (plan : Plan) (commands : List Task) (scope : Scope) (acts : List Act) → Runs plan commands (opening plan scope) acts
     → Chain plan commands scope acts (stood plan commands scope acts).progress
 chain_stood plan commands scope acts runs = chain_along plan commands scope [] acts runs (record { next_is_chained = λ above. sym (ap is_chained (none_behind commands)); chain_unbroken = λ e. cc })
 
 -- What the last record says.
 
--- the last of these records is of a command that was answered well
-record Last (reads : Call → List ℕ → Reading) (records : List Record) : Type 0 where
+-- the last of these records is of a command that was answered well, by this line
+record Last (records : List Record) : Type 0 where
   earlier : List Record
   answer : Record
   last : records ≡ earlier ++ answer ∷ []
   line : List ℕ
+  quality : Quality
   said : Option Answer
-  answered : answer.end ≡ Answered said line
-  well : is_value (reads answer.command.call line) ≡ true
+  answered : answer.end ≡ Answered quality said line
+  well : is_good quality ≡ true
 
--- a command that was answered well has an answer, which its line says
-well_end : (reads : Call → List ℕ → Reading) (call : Call) (end : End) → is_well reads call end ≡ true
-    → (said : Option Answer) × (line : List ℕ) × (end ≡ Answered said line) × (is_value (reads call line) ≡ true)
-well_end reads call (Answered said line) e = (said, line, refl, e)
-well_end reads call end e = cc
+-- a command that was answered well has an answer of a good quality
+well_end : (end : End) → is_well end ≡ true → (quality : Quality) × (said : Option Answer) × (line : List ℕ) × (end ≡ Answered quality said line) × (is_good quality ≡ true)
+well_end (Answered quality said line) e = (quality, said, line, refl, e)
+well_end end e = cc
 
--- where the last of some records, or else the one in front of them, was answered well, `Last` holds of all
-last_one : (reads : Call → List ℕ → Reading) (r : Record) (rs : List Record) → last_well reads (is_well reads r.command.call r.end) rs ≡ true → Last reads (r ∷ rs)
-last_one reads r [] e = let it = well_end reads r.command.call r.end e in record { earlier = []; answer = r; last = refl; said = it.0; line = it.1; answered = it.2; well = it.3 }
-last_one reads r (x ∷ rs) e =
-    let l = last_one reads x rs e in
-    record { earlier = r ∷ l.earlier; answer = l.answer; last = ap (λ xs. r ∷ xs) l.last; said = l.said; line = l.line; answered = l.answered; well = l.well }
+-- where the last of `r` and the records behind it was answered well, `Last` holds of all of them
+last_one : (r : Record) (rs : List Record) → last_well (is_well r.end) rs ≡ true → Last (r ∷ rs)
+last_one r [] e = let it = well_end r.end e in record { earlier = []; answer = r; last = refl; quality = it.0; said = it.1; line = it.2; answered = it.3; well = it.4 }
+last_one r (x ∷ rs) e =
+    let l = last_one x rs e in
+    record { earlier = r ∷ l.earlier; answer = l.answer; last = ap (λ xs. r ∷ xs) l.last; quality = l.quality; said = l.said; line = l.line; answered = l.answered; well = l.well }
 
 -- where the last of some records was answered well, `Last` holds of them
-last_of : (reads : Call → List ℕ → Reading) (rs : List Record) → last_well reads false rs ≡ true → Last reads rs
-last_of reads [] e = cc
-last_of reads (r ∷ rs) e = last_one reads r rs e
+last_of : (rs : List Record) → last_well false rs ≡ true → Last rs
+last_of [] e = cc
+last_of (r ∷ rs) e = last_one r rs e
 
 -- two equal lists have the same last element
 end_same : {A : Type 0} (xs ys : List A) (a b : A) → xs ++ a ∷ [] ≡ ys ++ b ∷ [] → a ≡ b
 end_same [] [] a b e = let same : Some a ≡ Some b = ap first e in cc where
+  -- the first element of a list, if it has one
   first : {A : Type 0} → List A → Option A
   first [] = None
   first (x ∷ xs) = Some x
@@ -362,6 +376,7 @@ end_same (x ∷ []) [] a b e = cc
 end_same (x ∷ (z ∷ xs)) [] a b e = cc
 end_same (x ∷ xs) (y ∷ ys) a b e = end_same xs ys a b (ap (drop 1) e)
 
+-- what holds of all elements of a list holds of its last one
 all_last : {A : Type 0} (P : A → Type 0) (xs : List A) (x : A) → AllByRecursion P (xs ++ x ∷ []) → P x
 all_last P [] x all = all.0
 all_last P (y ∷ xs) x all = all_last P xs x all.1
@@ -372,27 +387,35 @@ last_sent : (commands : List Task) (begun place : ℕ) (left : List Task) → dr
 last_sent commands begun place [] at some many = absurd (omega (arith, some))
 last_sent commands begun place (task ∷ others) at some many = (task, sent_next commands begun place task others at many)
 
--- the command before a chained one went out, and the station has begun behind each act since
+-- where a chained command is to go out, `IsLinked` holds: the command before it went out and was answered well, and the station
+-- has begun after each act since
 pub chain_whole : (plan : Plan) (commands : List Task) (scope : Scope) (acts : List Act) → Runs plan commands (opening plan scope) acts
     → action_at plan (stood plan commands scope acts) ≡ Send → IsChained commands (stood plan commands scope acts)
     → (l : IsLinked plan commands scope acts) × StaysBegun plan commands (stood plan commands scope l.before) (l.request ∷ l.between)
 chain_whole plan commands scope acts runs is chained = of_may needs.4 where
+  -- the station as it stands
   s : Model
   s = stood plan commands scope acts
 
+  -- its fields on chains are true
   h : Chain plan commands scope acts s.progress
   h = chain_stood plan commands scope acts runs
 
+  -- it has what every run keeps
   fine : Invariant plan commands s
   fine = fine_stood plan commands scope acts
 
+  -- the conditions of sending hold
   needs : IsFor plan s.progress (waiting_of s) Send
   needs = subst (λ (o : Action). IsFor plan s.progress (waiting_of s) o) is (action_for plan s.progress (waiting_of s))
 
+  -- the next command waits for the answer of the one before it
   next_is_chained : s.progress.next_is_chained ≡ true
   next_is_chained = h.next_is_chained chained.0 ∙ ap (λ (b : Bool). s.progress.missed || b) chained.1 ∙ or_true s.progress.missed
 
-  of_last : commands_in s.marks ≡ 0 → Last scope.reads s.records → Whole plan commands scope acts s.progress
+  -- the command before the next one, where no command waits: `Whole` says that it went out, and `Last` that the last record was
+  -- answered well; that record is its own, so `IsLinked` holds of it
+  of_last : commands_in s.marks ≡ 0 → Last s.records → Whole plan commands scope acts s.progress
       → (l : IsLinked plan commands scope acts) × StaysBegun plan commands (stood plan commands scope l.before) (l.request ∷ l.between)
   of_last settled l w =
       let b = stood plan commands scope w.before in
@@ -413,6 +436,8 @@ chain_whole plan commands scope acts runs is chained = of_may needs.4 where
       let own = end_same (map of_record l.earlier) (sent_by commands cycle place) (of_record l.answer) (record { cycle = cycle; place = place; asked = of_task sent.0 }) ends in
       let true_one = all_last (IsTrueRecord plan commands scope acts) l.earlier l.answer
       (subst (λ (rs : List Record). AllByRecursion (IsTrueRecord plan commands scope acts) rs) l.last (answers_true plan commands scope acts runs)) in
+      let listed = all_last (λ (r : Record). IsAsListed scope.reads commands r) l.earlier l.answer
+      (subst (λ (rs : List Record). AllByRecursion (λ (r : Record). IsAsListed scope.reads commands r) rs) l.last (as_listed plan commands scope acts)) in
       let linked : IsLinked plan commands scope acts = record {
         before = w.before;
         request = w.request;
@@ -428,19 +453,22 @@ chain_whole plan commands scope acts runs is chained = of_may needs.4 where
         own_cycle = ap (λ (r : Request). r.cycle) own;
         own_place = ap (λ (r : Request). r.place) own;
         line = l.line;
+        quality = l.quality;
         said = l.said;
         answered = l.answered;
         well = l.well;
+        says = listed l.quality l.said l.line l.answered;
         in_time = true_one l.line (ap answer_of l.answered);
       } in
       (linked, w.keeps)
 
+  -- the lemma above, where the next command may go out (`MayGo`): as it is chained, that is because the one before it was
+  -- answered well
   of_may : MayGo s.progress (waiting_of s) → (l : IsLinked plan commands scope acts) × StaysBegun plan commands (stood plan commands scope l.before) (l.request ∷ l.between)
   of_may (inl free) = absurd (clash s.progress.next_is_chained next_is_chained free)
-  of_may (inr it) = of_last it.0 (last_of scope.reads s.records (ap (λ (reads : Call → List ℕ → Reading). last_well reads false s.records)
-      (sym (stood_reads plan commands scope acts)) ∙ it.1)) (h.chain_unbroken it.2)
+  of_may (inr it) = of_last it.0 (last_of s.records it.1) (h.chain_unbroken it.2)
 
--- a chained command goes out only behind the answer of the one before it
+-- a chained command goes out only after the answer of the one before it
 pub chain_kept : (plan : Plan) (commands : List Task) (scope : Scope) (acts : List Act) → Runs plan commands (opening plan scope) acts
     → action_at plan (stood plan commands scope acts) ≡ Send → IsChained commands (stood plan commands scope acts) → IsLinked plan commands scope acts
 chain_kept plan commands scope acts runs is chained = (chain_whole plan commands scope acts runs is chained).0

@@ -1,4 +1,6 @@
--- A connection is closed, and a run stops, only for a cause: whatever decides the end, the act that did it shows.
+-- A connection is closed, and a run stops, only for a cause; and the act that decided the end shows that cause. The end is
+-- decided once the phase is `Closing` or `Over`, which name the cause. An act is one call of the link, with what came of it.
+-- `Decides` says why an act decided the end, or that it left the phase as it was; `Decided` says why it did.
 use Rattle.std.proofs.Common.{◌≡◌, ℕ, ◌⊎◌, inl, inr, ◌&&◌, ◌||◌, Bool, true, false, not, List, [], ◌∷◌, ◌++◌, length, drop, Option, Some, None, if◌then◌else◌, nat_lt, nat_eq, refl, sym, ap, ◌∙◌, subst, arith}
 use Rattle.std.proofs.lemmas.Bool.Decides.{nat_tests}
 use Rattle.std.proofs.lemmas.List.{nil_from_length}
@@ -37,22 +39,25 @@ end_of (Closing why) = Some why
 end_of (Over why) = Some why
 end_of _ = None
 
--- an act shows that a call failed; and where there is no connection behind it, there was none before
+-- an act shows that a call failed for this cause. The two phases are those before and after it: where there is no connection
+-- after it, there was none before
 abbrev pub Failed : Phase → Phase → Cause → Act → Type 0
 Failed before behind why act = (is_up behind ≡ false → is_up before ≡ false) × Shows why act
 
--- the end is decided because a call failed, or for another reason; or the phase is still the same
+-- why the second phase, after an act, decides the end for this cause: a call failed, as the act shows; or `Other` holds; or the
+-- phase is as before the act (the first phase)
 abbrev Decides : Type 0 → Phase → Phase → Cause → Act → Type 0
 Decides Other before behind why act = Failed before behind why act ⊎ (Other ⊎ (behind ≡ before))
 
--- where a call failed, the phase behind it is decided for that failure
+-- a failure for `why`, which the act shows, sets the phase to closing where there is a connection (`up`) and to over where
+-- there is none. If that decides the end for the cause c, the act decides it: c is `why`
 fail_decides : {Other : Type 0} (before at : Phase) (up : Bool) (why c : Cause) (act : Act) → is_up at ≡ up → Shows why act
     → (is_up at ≡ false → is_up before ≡ false) → end_of (if up then Closing why else Over why) ≡ Some c
     → Decides Other before (if up then Closing why else Over why) c act
 fail_decides before at true why c act is shows down e = let same : why ≡ c = cc in inl (λ d. cc, subst (λ (x : Cause). Shows x act) same shows)
 fail_decides before at false why c act is shows down e = let same : why ≡ c = cc in inl (λ d. down is, subst (λ (x : Cause). Shows x act) same shows)
 
--- where a failure is noted, the act decides the end by showing it
+-- where a failure is noted that the act shows, and the end is decided then, the act decides it
 failed : {Other : Type 0} (s : Model) (why c : Cause) (act : Act) → Shows why act → end_of (with_progress (failing why) s).progress.phase ≡ Some c
     → Decides Other s.progress.phase (with_progress (failing why) s).progress.phase c act
 failed s why c act shows e = fail_decides s.progress.phase s.progress.phase (is_up s.progress.phase) why c act refl shows (λ d. d) e
@@ -74,18 +79,21 @@ came_phase heard word piece s =
     came_along (λ (t : Model). t.progress.phase ≡ s.progress.phase) (λ t line e. e) heard word piece s refl
     (asked_along (λ (q : Progress). q.phase ≡ s.progress.phase) (λ q line e. e) s.progress (lines_behind s.rest piece) refl) refl
 
+-- if each of three numbers is 0 by its test, each is 0
 none_left : (a b n : ℕ) → nat_eq a 0 && nat_eq b 0 && nat_eq n 0 ≡ true → (a ≡ 0) × (b ≡ 0) × (n ≡ 0)
 none_left a b n e = grind (arith, nat_tests, e)
 
+-- if the test fails that a new connection takes no try (`spared`) or a try is left, then it takes one, and none is left
 no_try : (spared : Bool) (tries : ℕ) → spared || nat_lt 0 tries ≡ false → (spared ≡ false) × (tries ≡ 0)
 no_try true tries e = cc
 no_try false tries e = (refl, grind (arith, nat_tests, e))
 
--- a run ends for being done, because nothing is left to be sent and no command waits; or for a cause, because no try is left
+-- how a run ends whose connection is gone for the cause `other`, while n commands wait. It ends for the cause c (the last
+-- argument): as done, where nothing is left to be sent and none waits; else for `other`, where a try is needed and none is left
 abbrev EndsAgain : Plan → Progress → ℕ → Cause → Cause → Type 0
 EndsAgain plan p n other c = EndsDone p n c ⊎ ((c ≡ other) × (is_finished n p ≡ false) × (is_spared plan other p ≡ false) × (p.tries ≡ 0))
 
--- where the phase behind a failure ends the run, the cause is as `EndsAgain` says
+-- where the phase after a lost connection or a failed attempt ends the run, the cause is as `EndsAgain` says
 again_ends : (plan : Plan) (other c : Cause) (n : ℕ) (p : Progress) (done some : Bool) → is_finished n p ≡ done → (is_spared plan other p || nat_lt 0 p.tries) ≡ some
     → end_of (if done then Over cause.Done else if some then Pausing else Over other) ≡ Some c → EndsAgain plan p n other c
 again_ends plan other c n p true some finished tries e = let none = none_left p.left p.unsent n finished in inl (cc, none.0, none.1, none.2)
@@ -105,11 +113,13 @@ closed_ends plan w cause.Turns c p done e = cc
 closed_ends plan w cause.Open c p done e = again_ends plan cause.Open c w.commands p (is_finished w.commands p) (nat_lt 0 p.tries) refl refl e
 closed_ends plan w other c p done e = again_ends plan other c w.commands p (is_finished w.commands p) (is_idle plan p || nat_lt 0 p.tries) refl refl e
 
--- behind an act that closed the connection, or made none, there is none, and no other is made
+-- in the phase after the act, which is given, there is no connection: the act closed it or could make none, and no other is
+-- made, for this cause
 abbrev pub Gone : Plan → Model → Action → Phase → Cause → Act → Type 0
 Gone plan s next behind c act = (is_up behind ≡ false) × EndsGone plan s.progress (waiting_of s) next c act
 
--- an act of this action decides the end: by a call that failed, or by a connection that is gone
+-- if the end is decided after an act of this action, the act decided it, by a call that failed or a connection that is gone; or
+-- the phase is as before
 abbrev DecidesSo : Plan → Model → Action → Cause → Act → Model → Type 0
 DecidesSo plan s next c act t = end_of t.progress.phase ≡ Some c → Decides (Gone plan s next t.progress.phase c act) s.progress.phase t.progress.phase c act
 
@@ -118,12 +128,12 @@ cleared_none : (begun : Bool) (c : Cause) → end_of (if begun then Draining els
 cleared_none true c e = cc
 cleared_none false c e = cc
 
--- behind a line feed that went out there is a connection
+-- after a line feed that went out there is a connection
 cleared_up : (begun : Bool) → is_up (if begun then Draining else Ready) ≡ false → ⊥
 cleared_up true e = cc
 cleared_up false e = cc
 
--- where the end is decided behind an act, the act decided it, or it was decided before
+-- if the end is decided after an act, the act decided it, or the phase is as before
 moved_decides : (plan : Plan) (commands : List Task) (next : Action) (s : Model) (act : Act) (c : Cause) → Performs commands s next act
     → (next ≡ action.Close cause.Done → NoneLeft s.progress (commands_in s.marks))
     → end_of (moved plan commands next (with_progress turned s) act).progress.phase ≡ Some c
@@ -171,7 +181,7 @@ moved_decides plan commands (action.Stop why) s act c o done e = absurd o
 moved_decides plan commands next s act c o done e =
     walk plan commands (DecidesSo plan s next c) next (with_progress turned s) act o (λ m g. inr (inr refl), λ n g. failed (with_progress turned s) cause.Clock c Untold refl g) e
 
--- where the end is decided, no act leaves the phase as it was: a close ends it, and without a connection no act is made
+-- where the end is decided, no act leaves the phase as it is: the connection is closed, and without a connection no act is made
 not_twice : (plan : Plan) (commands : List Task) (s : Model) (act : Act) (c : Cause) (phase : Phase) → s.progress.phase ≡ phase → end_of phase ≡ Some c
     → Performs commands s (action_in phase plan s.progress (waiting_of s)) act
     → (moved plan commands (action_in phase plan s.progress (waiting_of s)) (with_progress turned s) act).progress.phase ≡ phase → ⊥
@@ -179,16 +189,18 @@ not_twice plan commands s act c (Closing why) is e o same = let down : true ≡ 
 not_twice plan commands s act c (Over why) is e o same = absurd o
 not_twice plan commands s act c phase is e o same = cc
 
--- what an act shows by which the end was decided
+-- the act decided the end for this cause (the phase is the one after it): it shows a call that failed, or the connection is
+-- gone and no other is made
 abbrev pub Decided : Plan → Model → Phase → Cause → Act → Type 0
 Decided plan s behind c act = Failed s.progress.phase behind c act ⊎ Gone plan s (action_at plan s) behind c act
 
--- where the end is decided behind an act, before what is lost by the act, the act shows by what it was decided
+-- where the end is decided after an act, before what waits is lost, the act decided it
 moved_decided : (plan : Plan) (commands : List Task) (s : Model) (act : Act) (c : Cause) → Performs commands s (action_at plan s) act
     → (action_at plan s ≡ action.Close cause.Done → NoneLeft s.progress (commands_in s.marks))
     → end_of (moved plan commands (action_at plan s) (with_progress turned s) act).progress.phase ≡ Some c
     → Decided plan s (moved plan commands (action_at plan s) (with_progress turned s) act).progress.phase c act
 moved_decided plan commands s act c o done e = pick (moved_decides plan commands (action_at plan s) s act c o done e) where
+  -- the lemma above, without the case that the phase is as before, which can't be
   pick : Decides (Gone plan s (action_at plan s) (moved plan commands (action_at plan s) (with_progress turned s) act).progress.phase c act) s.progress.phase
       (moved plan commands (action_at plan s) (with_progress turned s) act).progress.phase c act
       → Decided plan s (moved plan commands (action_at plan s) (with_progress turned s) act).progress.phase c act
@@ -196,7 +208,7 @@ moved_decided plan commands s act c o done e = pick (moved_decides plan commands
   pick (inr (inl gone)) = inr gone
   pick (inr (inr same)) = absurd (not_twice plan commands s act c s.progress.phase refl (ap end_of (sym same) ∙ e) o same)
 
--- where the end is decided behind a whole act, the act shows by what it was decided
+-- where the end is decided after a whole act, the act decided it
 pub after_decided : (plan : Plan) (commands : List Task) (s : Model) (act : Act) (c : Cause) → Performs commands s (action_at plan s) act
     → (action_at plan s ≡ action.Close cause.Done → NoneLeft s.progress (commands_in s.marks))
     → end_of (after plan commands s act).progress.phase ≡ Some c → Decided plan s (after plan commands s act).progress.phase c act
@@ -205,7 +217,7 @@ after_decided plan commands s act c o done e =
     ap (λ (p : Progress). p.phase) (ended_progress (moved plan commands (action_at plan s) (with_progress turned s) act)) in
     subst (λ (behind : Phase). Decided plan s behind c act) (sym same) (moved_decided plan commands s act c o done (sym (ap end_of same) ∙ e))
 
--- an act of a run performs the action that was next, and the acts before it and behind it are runs
+-- of a run, an act performs the action that was next, and the acts before it are a run
 pub runs_split : (plan : Plan) (commands : List Task) (s : Model) (earlier later : List Act) (act : Act) → Runs plan commands s (earlier ++ act ∷ later)
     → Runs plan commands s earlier × Performs commands (after_all plan commands s earlier) (action_at plan (after_all plan commands s earlier)) act
 runs_split plan commands s [] later act runs = (tt, runs.0)
@@ -216,7 +228,7 @@ goes_alone : (plan : Plan) (commands : List Task) (s : Model) (next : Action) �
 goes_alone plan commands s action.Ask fine needs = let new = fine.begins needs.1 in (new, nil_from_length s.marks (fine.paired ∙ ap (λ (c : ById). length c.waiting) new))
 goes_alone plan commands s next fine needs = tt
 
--- each act of a run is `IsReasoned`
+-- each act of a run is `IsReasoned`: it performs the action that is next, whose conditions hold
 pub act_reasoned : (plan : Plan) (commands : List Task) (scope : Scope) (earlier later : List Act) (act : Act)
     → Runs plan commands (opening plan scope) (earlier ++ act ∷ later) → IsReasoned plan commands (stood plan commands scope earlier) act
 act_reasoned plan commands scope earlier later act runs =
@@ -232,6 +244,7 @@ act_reasoned plan commands scope earlier later act runs =
 last_of : (acts : List Act) → (acts ≡ []) ⊎ ((earlier : List Act) × (last : Act) × (acts ≡ earlier ++ last ∷ []))
 last_of [] = inl refl
 last_of (x ∷ xs) = on (last_of xs) where
+  -- the lemma above for one act more in front
   on : ((xs ≡ []) ⊎ ((earlier : List Act) × (last : Act) × (xs ≡ earlier ++ last ∷ []))) → (x ∷ xs ≡ []) ⊎ ((earlier : List Act) × (last : Act) × (x ∷ xs ≡ earlier ++ last ∷ []))
   on (inl none) = inr ([], x, ap (λ ys. x ∷ ys) none)
   on (inr some) = inr (x ∷ some.0, some.1, ap (λ ys. x ∷ ys) some.2)
@@ -249,17 +262,19 @@ needs_of plan s next is = subst (λ (o : Action). IsFor plan s.progress (waiting
 pub done_sent : (plan : Plan) (commands : List Task) (scope : Scope) (acts : List Act) → action_at plan (stood plan commands scope acts) ≡ action.Close cause.Done
     → NoneLeft (stood plan commands scope acts).progress (commands_in (stood plan commands scope acts).marks)
 done_sent plan commands scope acts is = by_needs (needs_of plan (stood plan commands scope acts) (action.Close cause.Done) is).1 where
+  -- the lemma above, by the condition of that close: the phase says so, or nothing is left
   by_needs : (((stood plan commands scope acts).progress.phase ≡ Closing cause.Done)
       ⊎ IsAtItsEnd plan (stood plan commands scope acts).progress (waiting_of (stood plan commands scope acts)) cause.Done)
       → NoneLeft (stood plan commands scope acts).progress (commands_in (stood plan commands scope acts).marks)
   by_needs (inl phase) = (fine_stood plan commands scope acts).finished (ap says_done phase)
   by_needs (inr end) = end
 
--- in a run whose end is decided, the last act shows by what it was decided
+-- in a run whose end is decided, the last act decided it
 decided_last : (plan : Plan) (commands : List Task) (scope : Scope) (acts : List Act) (c : Cause) → Runs plan commands (opening plan scope) acts
     → end_of (stood plan commands scope acts).progress.phase ≡ Some c
     → (earlier : List Act) × (last : Act) × (acts ≡ earlier ++ last ∷ []) × Decided plan (stood plan commands scope earlier) (stood plan commands scope acts).progress.phase c last
 decided_last plan commands scope acts c runs e = by_last (last_of acts) where
+  -- the lemma above, where there is a last act; at the start of a run no end is decided
   by_last : ((acts ≡ []) ⊎ ((earlier : List Act) × (last : Act) × (acts ≡ earlier ++ last ∷ [])))
       → (earlier : List Act) × (last : Act) × (acts ≡ earlier ++ last ∷ [])
       × Decided plan (stood plan commands scope earlier) (stood plan commands scope acts).progress.phase c last
@@ -278,12 +293,13 @@ decided_last plan commands scope acts c runs e = by_last (last_of acts) where
             (after_decided plan commands s last c split.1 (done_sent plan commands scope earlier) (ap end_of (sym behind) ∙ e)),
       )
 
--- where the phase has decided that the connection is closed for a failed call, the last act shows that call
+-- where the phase is that the connection is to be closed for `why`, the last act shows the call that failed
 pub closing_shown : (plan : Plan) (commands : List Task) (scope : Scope) (acts : List Act) (why : Cause) → Runs plan commands (opening plan scope) acts
     → (stood plan commands scope acts).progress.phase ≡ Closing why
     → (earlier : List Act) × (last : Act) × (acts ≡ earlier ++ last ∷ []) × Shows why last
 closing_shown plan commands scope acts why runs phase =
     let d = decided_last plan commands scope acts why runs (ap end_of phase) in (d.0, d.1, d.2, shows (stood plan commands scope d.0) d.1 d.3) where
+      -- as the connection isn't closed yet, the end wasn't decided by a connection that is gone
       shows : (before : Model) (last : Act) → Decided plan before (stood plan commands scope acts).progress.phase why last → Shows why last
       shows before last (inl failed) = failed.1
       shows before last (inr gone) = let up : true ≡ false = sym (ap is_up phase) ∙ gone.0 in cc
@@ -300,6 +316,7 @@ closed_for plan commands scope acts runs o =
       closes = it.1;
       shown = by_needs it.0 (needs_of plan s (action.Close it.0) it.1).1;
     } where
+      -- the lemma above, by the condition of that close: the phase says so, or the run is at its end
       by_needs : (why : Cause) → (((stood plan commands scope acts).progress.phase ≡ Closing why)
           ⊎ IsAtItsEnd plan (stood plan commands scope acts).progress (waiting_of (stood plan commands scope acts)) why)
           → IsAtItsEnd plan (stood plan commands scope acts).progress (waiting_of (stood plan commands scope acts)) why
@@ -316,11 +333,13 @@ stopped_for plan commands scope acts why runs stop =
       down = needs.0;
       shown = by_needs needs.1;
     } where
+      -- where the run is over, what decided the end ends the run
       ends : (before : Model) (last : Act) → (stood plan commands scope acts).progress.phase ≡ Over why
           → Decided plan before (stood plan commands scope acts).progress.phase why last → Ends plan before why last
       ends before last phase (inl failed) = inl (failed.0 (ap is_up phase), failed.1)
       ends before last phase (inr gone) = inr gone.1
 
+      -- the lemma above, by the condition of stopping: the phase says so, or all turns are used up
       by_needs : (((stood plan commands scope acts).progress.phase ≡ Over why) ⊎ ((why ≡ cause.Turns) × ((stood plan commands scope acts).progress.turns ≡ 0)))
           → ((why ≡ cause.Turns) × ((stood plan commands scope acts).progress.turns ≡ 0))
           ⊎ ((earlier : List Act) × (last : Act) × (acts ≡ earlier ++ last ∷ []) × Ends plan (stood plan commands scope earlier) why last)

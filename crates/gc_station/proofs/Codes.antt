@@ -1,92 +1,150 @@
--- Answered well: both codes are 0.
-use Rattle.std.proofs.Common.{◌≡◌, inl, inr, ℕ, Bool, true, false, not, List, Option, refl, sym, ap, ◌∙◌}
+-- A command is answered well where both codes of its reply are 0 and the values read, or where its return code is accepted,
+-- unless it was measured elsewhere than where its target stands. `line` is the reply line of a command with this call, and `r`
+-- its fields; `reads` gives what each line says for a call (`AreReadings`), and `expected` what the command expects: the return
+-- codes that it accepts, and the place of its target.
+use Rattle.std.proofs.Common.{◌≡◌, ◌==◌, ◌&&◌, ◌||◌, ◌⊎◌, inl, inr, ℕ, zero, suc, replicate, Bool, true, false, not, List, refl, sym, ap, ◌∙◌}
+use Rattle.std.specs.List.{list_any}
 use Rattle.std.proofs.lemmas.Bool.Decides.{eqb_tells}
 use Rattle.gc_lines.specs.Replies.{ReplyFields, IsReply}
+use Rattle.gc_catalogue.specs.Answers.{IsAnswer}
 use Rattle.gc_catalogue.specs.declared.answer.Answer.{Answer}
 use Rattle.gc_catalogue.specs.declared.answer.Reading.{Reading}
 use Rattle.gc_catalogue.specs.declared.answer.Reading.TheVariants as reading
 use Rattle.gc_catalogue.specs.declared.call.Call.{Call}
 use Rattle.gc_catalogue.specs.Readings.{IsReading}
 use Rattle.gc_client.specs.Rule.{Answered}
+use Rattle.gc_texts.specs.Codes.{are_accepted, no_codes}
 use Rattle.gc_texts.specs.Nears.{is_elsewhere}
-use Rattle.gc_texts.specs.declared.near.Near.{Near}
-use Rattle.gc_station.specs.Codes.{WellIsBothCodesZero}
-use Rattle.gc_station.specs.Marks.{value_as, answer_as, end_of, is_well}
+use Rattle.gc_texts.specs.Qualities.{is_good}
+use Rattle.gc_texts.specs.Zeroed.{as_zero}
+use Rattle.gc_texts.specs.declared.codes.Codes.{Codes}
+use Rattle.gc_texts.specs.declared.near.Expected.{Expected}
+use Rattle.gc_texts.specs.declared.quality.Quality.{Quality}
+use Rattle.gc_texts.specs.declared.quality.Quality.TheVariants as quality
+use Rattle.gc_texts.proofs.ZeroReplies.{zero_reads}
+use Rattle.gc_station.specs.Codes.{WellIsAnAcceptedCode}
+use Rattle.gc_station.specs.Qualities.{GoodIsAnAnswer}
+use Rattle.gc_station.specs.Marks.{value_as, warned_as, refused_as, answer_as, end_of, is_well}
 use Rattle.gc_station.specs.Scopes.{AreReadings}
 
--- whether a command is answered well by a line that says this
-abbrev well_as : (Call → List ℕ → Reading) → Option Near → Call → List ℕ → Reading → Bool
-well_as reads near call line said = is_well reads call (answer_as near said line)
-
--- a function that gives the readings gives the one of a reply's line
-says : (reads : Call → List ℕ → Reading) (call : Call) (line : List ℕ) (r : ReplyFields) (said : Reading) → AreReadings reads → IsReply line r → IsReading call r said → reads call line ≡ said
-says reads call line r said are is reading = are call line said (record { reply = r; is_reply = is; is_reading = reading })
-
--- whether a command is answered well is known from what its line says
-well_of : (reads : Call → List ℕ → Reading) (near : Option Near) (call : Call) (line : List ℕ) (said : Reading) → reads call line ≡ said
-    → is_well reads call (end_of reads near call (Answered line)) ≡ well_as reads near call line said
-well_of reads near call line said is = ap (λ x. well_as reads near call line x) is
-
--- a command that its reply refuses isn't answered well
-refused_unwell : (reads : Call → List ℕ → Reading) (near : Option Near) (call : Call) (line : List ℕ) (code : ℕ) → reads call line ≡ reading.Refused code
-    → well_as reads near call line (reading.Refused code) ≡ false
-refused_unwell reads near call line code is = rw is refl
-
--- a command whose reply has a fault of communication isn't answered well
-fault_unwell : (reads : Call → List ℕ → Reading) (near : Option Near) (call : Call) (line : List ℕ) (code : ℕ) → reads call line ≡ reading.ComFault code
-    → well_as reads near call line (reading.ComFault code) ≡ false
-fault_unwell reads near call line code is = rw is refl
-
--- a command whose reply is an answer is answered well exactly if it wasn't measured elsewhere
-value_well : (reads : Call → List ℕ → Reading) (call : Call) (line : List ℕ) (said : Answer) (away : Bool) → reads call line ≡ reading.Value said
-    → is_well reads call (value_as away said line) ≡ not away
-value_well reads call line said true is = refl
-value_well reads call line said false is = rw is refl
-
+-- a test isn't true and false
 apart : (b : Bool) → b ≡ true → b ≡ false → ⊥
 apart b e f = let both : true ≡ false = sym e ∙ f in cc
 
--- a command is answered well only if the communication code of its reply is 0
-com_zero : (reads : Call → List ℕ → Reading) (near : Option Near) (call : Call) (line : List ℕ) (r : ReplyFields) → AreReadings reads → IsReply line r
-    → is_well reads call (end_of reads near call (Answered line)) ≡ true → r.rc_com ≡ 0
-com_zero reads near call line r are is well = elim (eqb_tells r.rc_com 0) as (λ _. r.rc_com ≡ 0) [
-  | inl same ↦ same.1
-  | inr other ↦
-      let said = says reads call line r (reading.ComFault r.rc_com) are is (other.1, refl) in
-      absurd (apart _ well (well_of reads near call line (reading.ComFault r.rc_com) said ∙ fault_unwell reads near call line r.rc_com said))
+-- a command whose reply is an answer of a good quality is answered well exactly if it wasn't measured elsewhere
+value_well : (q : Quality) → is_good q ≡ true → (said : Answer) (line : List ℕ) (away : Bool) → is_well (value_as q away said line) ≡ not away
+value_well q good said line true = refl
+value_well q good said line false = good
+
+-- a code other than 0 isn't among places that all have 0
+none_is : (n code : ℕ) → (code ≡ 0 → ⊥) → list_any (λ c. c == code) (replicate n 0) ≡ true → ⊥
+none_is zero code some e = cc
+none_is (suc n) code some e = elim (eqb_tells 0 code) as (λ _. ⊥) [
+  | inl same ↦ some (sym same.1)
+  | inr other ↦ none_is n code some (sym (ap (λ b. b || list_any (λ c. c == code) (replicate n 0)) other.0) ∙ e)
 ]
 
--- a command is answered well only if the return code of its reply is 0
-rc_zero : (reads : Call → List ℕ → Reading) (near : Option Near) (call : Call) (line : List ℕ) (r : ReplyFields) → AreReadings reads → IsReply line r → r.rc_com ≡ 0
-    → is_well reads call (end_of reads near call (Answered line)) ≡ true → r.rc ≡ 0
-rc_zero reads near call line r are is zero well = elim (eqb_tells r.rc 0) as (λ _. r.rc ≡ 0) [
-  | inl same ↦ same.1
-  | inr other ↦
-      let said = says reads call line r (reading.Refused r.rc) are is (zero, other.1, refl) in
-      absurd (apart _ well (well_of reads near call line (reading.Refused r.rc) said ∙ refused_unwell reads near call line r.rc said))
+-- no code is among no codes
+none_accepted : (code : ℕ) → are_accepted no_codes code ≡ true → ⊥
+none_accepted code e = elim (eqb_tells code 0) as (λ _. ⊥) [
+  | inl same ↦ let bad : false ≡ true = sym (ap (λ b. not b && list_any (λ c. c == code) (replicate 16 0)) same.0) ∙ e in cc
+  | inr other ↦ none_is 16 code other.1 (sym (ap (λ b. not b && list_any (λ c. c == code) (replicate 16 0)) other.0) ∙ e)
 ]
 
--- a command whose line says anything but an answer isn't answered well
-unread : (reads : Call → List ℕ → Reading) (near : Option Near) (call : Call) (line : List ℕ) (said : Reading) → reads call line ≡ said
-    → ((answer : Answer) → said ≡ reading.Value answer → ⊥) → well_as reads near call line said ≡ false
-unread reads near call line (reading.Value answer) is none = absurd (none answer refl)
-unread reads near call line (reading.Refused code) is none = refused_unwell reads near call line code is
-unread reads near call line (reading.ComFault code) is none = fault_unwell reads near call line code is
-unread reads near call line (reading.Unreadable fault) is none = refl
+module _ (reads : Call → List ℕ → Reading) (expected : Expected) (call : Call) (line : List ℕ) (r : ReplyFields) (are : AreReadings reads) (is : IsReply line r) where
+  -- where a reply's fields r mean `said` for the call (`IsReading`), `reads` reads its line as `said`
+  says : (said : Reading) → IsReading call r said → reads call line ≡ said
+  says said reading = are call line said (record { reply = r; is_reply = is; is_reading = reading })
 
-pub both_codes : WellIsBothCodesZero
-both_codes = record {
-  only = λ reads near call line r are is well.
-      let first = com_zero reads near call line r are is well in
-      (first, rc_zero reads near call line r are is first well);
-  unread = λ reads near call line r said are is reading none.
-      let e = says reads call line r said are is reading in
-      well_of reads near call line said e ∙ unread reads near call line said e none;
-  found = λ reads near call line r answer are is zero rc has.
-      let said = says reads call line r (reading.Value answer) are is (zero, rc, has) in
-      well_of reads near call line (reading.Value answer) said ∙ value_well reads call line answer (is_elsewhere near answer) said;
-  away = λ reads near call line r answer are is zero rc has elsewhere.
-      let said = says reads call line r (reading.Value answer) are is (zero, rc, has) in
-      ap (λ x. answer_as near x line) said ∙ ap (λ b. value_as b answer line) elsewhere;
-  none = λ reads near call. (refl, refl, refl, refl);
+  -- where the same fields with return code 0 mean `said`, `reads` reads the line with return code 0 (`as_zero`) as `said`
+  says_zeroed : (said : Reading) → IsReading call (record r { rc = 0 }) said → reads call (as_zero line) ≡ said
+  says_zeroed said reading = are call (as_zero line) said (zero_reads call line r said is reading)
+
+  -- the ending of a command that this line answers is `answer_as` of what the line says, and of what it says with return code 0
+  ended : (said : Reading) → reads call line ≡ said → end_of reads expected call (Answered line) ≡ answer_as expected said (reads call (as_zero line)) line
+  ended said e = ap (λ x. answer_as expected x (reads call (as_zero line)) line) e
+
+  -- a line that is a refusal ends the command as `refused_as` says, with b for whether the refusal's code is accepted
+  ended_refused : (code : ℕ) (b : Bool) → reads call line ≡ reading.Refused code → are_accepted expected.accepted code ≡ b
+      → end_of reads expected call (Answered line) ≡ refused_as b expected.near (reads call (as_zero line)) line
+  ended_refused code b e accepted = ended (reading.Refused code) e ∙ ap (λ x. refused_as x expected.near (reads call (as_zero line)) line) accepted
+
+  -- a command that is refused with a code that isn't accepted isn't answered well
+  refused_unwell : (code : ℕ) → reads call line ≡ reading.Refused code → are_accepted expected.accepted code ≡ false → is_well (end_of reads expected call (Answered line)) ≡ false
+  refused_unwell code e none = ap is_well (ended_refused code false e none)
+
+  -- a command is answered well only if the communication code of its reply is 0
+  com_zero : is_well (end_of reads expected call (Answered line)) ≡ true → r.rc_com ≡ 0
+  com_zero well = elim (eqb_tells r.rc_com 0) as (λ _. r.rc_com ≡ 0) [
+    | inl same ↦ same.1
+    | inr other ↦ absurd (apart _ well (ap is_well (ended (reading.ComFault r.rc_com) (says (reading.ComFault r.rc_com) (other.1, refl)))))
+  ]
+
+  -- a command that is refused, and is answered well nevertheless, was refused with an accepted code
+  accepted_one : (b : Bool) → are_accepted expected.accepted r.rc ≡ b → reads call line ≡ reading.Refused r.rc → is_well (end_of reads expected call (Answered line)) ≡ true
+      → are_accepted expected.accepted r.rc ≡ true
+  accepted_one true e said well = e
+  accepted_one false e said well = absurd (apart _ well (refused_unwell r.rc said e))
+
+  -- a command is answered well only if the return code of its reply is 0 or an accepted one
+  rc_zero : r.rc_com ≡ 0 → is_well (end_of reads expected call (Answered line)) ≡ true → (r.rc ≡ 0) ⊎ (are_accepted expected.accepted r.rc ≡ true)
+  rc_zero none well = elim (eqb_tells r.rc 0) as (λ _. (r.rc ≡ 0) ⊎ (are_accepted expected.accepted r.rc ≡ true)) [
+    | inl same ↦ inl same.1
+    | inr other ↦ inr (accepted_one (are_accepted expected.accepted r.rc) refl (says (reading.Refused r.rc) (none, other.1, refl)) well)
+  ]
+
+  -- where no code is accepted, the return code is 0
+  without_codes : expected.accepted ≡ no_codes → (r.rc ≡ 0) ⊎ (are_accepted expected.accepted r.rc ≡ true) → r.rc ≡ 0
+  without_codes none (inl same) = same
+  without_codes none (inr some) = absurd (none_accepted r.rc (ap (λ (cs : Codes). are_accepted cs r.rc) (sym none) ∙ some))
+
+  -- a command whose line says anything but an answer or a refusal with an accepted code isn't answered well
+  unread_well : (said : Reading) → reads call line ≡ said → ((answer : Answer) → said ≡ reading.Value answer → ⊥)
+      → ((code : ℕ) → said ≡ reading.Refused code → are_accepted expected.accepted code ≡ false) → is_well (end_of reads expected call (Answered line)) ≡ false
+  unread_well (reading.Value answer) e none unlisted = absurd (none answer refl)
+  unread_well (reading.Refused code) e none unlisted = refused_unwell code e (unlisted code refl)
+  unread_well (reading.ComFault code) e none unlisted = ap is_well (ended (reading.ComFault code) e)
+  unread_well (reading.Unreadable fault) e none unlisted = ap is_well (ended (reading.Unreadable fault) e)
+
+  -- a reply with both codes 0 and an answer ends a command as answered with the quality `Fine`, or as elsewhere where its
+  -- direction isn't near the target's place
+  value_ends : (answer : Answer) → r.rc_com ≡ 0 → r.rc ≡ 0 → IsAnswer call r.params answer
+      → end_of reads expected call (Answered line) ≡ value_as quality.Fine (is_elsewhere expected.near answer) answer line
+  value_ends answer none rc has = ended (reading.Value answer) (says (reading.Value answer) (none, rc, has))
+
+  -- a reply with an accepted return code other than 0 ends a command as `warned_as` says, by what its line says with return
+  -- code 0
+  warned_ends : (said : Reading) → r.rc_com ≡ 0 → (r.rc ≡ 0 → ⊥) → are_accepted expected.accepted r.rc ≡ true → IsReading call (record r { rc = 0 }) said
+      → end_of reads expected call (Answered line) ≡ warned_as expected.near said line
+  warned_ends said none some accepted read =
+      ended_refused r.rc true (says (reading.Refused r.rc) (none, some, refl)) accepted ∙ ap (λ x. warned_as expected.near x line) (says_zeroed said read)
+
+-- where no code is accepted, an answer of a good quality has both codes 0
+pub without_accept : GoodIsAnAnswer
+without_accept reads call quality.Fine said line is good = is
+without_accept reads call quality.Warning said line (code, refusal, listed, has) good = absurd (none_accepted code listed)
+without_accept reads call quality.Refused said line is good = cc
+
+-- the law: a command is answered well only with communication code 0, and a return code that is 0 or accepted
+pub accepted_codes : WellIsAnAcceptedCode
+accepted_codes = record {
+  only = λ reads expected call line r are is well.
+      let first = com_zero reads expected call line r are is well in
+      (first, rc_zero reads expected call line r are is first well);
+  without = λ reads expected call line r are is none well.
+      let first = com_zero reads expected call line r are is well in
+      (first, without_codes reads expected call line r are is none (rc_zero reads expected call line r are is first well));
+  unread = λ reads expected call line r said are is reading none unlisted. unread_well reads expected call line r are is said (says reads expected call line r are is said reading) none unlisted;
+  found = λ reads expected call line r answer are is none rc has.
+      ap is_well (value_ends reads expected call line r are is answer none rc has) ∙ value_well quality.Fine refl answer line (is_elsewhere expected.near answer);
+  away = λ reads expected call line r answer are is none rc has elsewhere.
+      value_ends reads expected call line r are is answer none rc has ∙ ap (λ b. value_as quality.Fine b answer line) elsewhere;
+  warned = λ reads expected call line r answer are is none some accepted has.
+      ap is_well (warned_ends reads expected call line r are is (reading.Value answer) none some accepted (none, refl, has))
+      ∙ value_well quality.Warning refl answer line (is_elsewhere expected.near answer);
+  warned_away = λ reads expected call line r answer are is none some accepted has elsewhere.
+      warned_ends reads expected call line r are is (reading.Value answer) none some accepted (none, refl, has) ∙ ap (λ b. value_as quality.Warning b answer line) elsewhere;
+  warned_without = λ reads expected call line r fault are is none some accepted unreadable.
+      warned_ends reads expected call line r are is (reading.Unreadable fault) none some accepted (none, refl, unreadable);
+  none = λ reads expected call. (refl, refl, refl, refl);
 }

@@ -1,5 +1,6 @@
--- Facts of what is done on a connection: where there is none, and where it is to be closed, they say nothing. So a call that fails leaves
--- them, and so does a close.
+-- Facts F of a progress and the acts so far that concern a connection in use alone: they hold trivially where there is no
+-- connection, and where it is to be closed. So a call that fails keeps them, and so does a close. What each other act has to
+-- keep is `OnLine`. An act is one call of the link, with what came of it.
 use Rattle.std.proofs.Common.{◌≡◌, ℕ, ◌&&◌, Bool, true, false, not, List, [], ◌∷◌, ◌++◌, drop, length, if◌then◌else◌, refl, ap}
 use Rattle.gc_catalogue.specs.declared.call.Call.TheVariants.{NullProc}
 use Rattle.gc_texts.specs.declared.tasks.Task.{Task}
@@ -28,31 +29,35 @@ is_in_use phase.Draining = true
 is_in_use phase.Ready = true
 is_in_use at = false
 
--- behind a failure no connection is in use
+-- after a failure no connection is in use
 pub failed_unused : (up : Bool) (why : Cause) → is_in_use (if up then phase.Closing why else phase.Over why) ≡ false
 failed_unused true why = refl
 failed_unused false why = refl
 
+-- without a connection none is in use
 down_unused : (at : Phase) → is_up at ≡ false → is_in_use at ≡ false
 down_unused phase.Clearing down = cc
 down_unused phase.Draining down = cc
 down_unused phase.Ready down = cc
 down_unused at down = refl
 
+-- at the end of a pause no connection is in use
 paused_unused : (b : Bool) (at : Phase) → at ≡ phase.Pausing → is_in_use (if b then phase.Down else at) ≡ false
 paused_unused true at is = refl
 paused_unused false at is = ap is_in_use is
 
--- What has to hold behind an act of an action where no call fails. A moment is given also where no clock is read, so that one row serves
--- many actions. Behind a read that gave nothing it goes on, or a drain that was long enough ends.
+-- What has to hold after an act of an action where no call fails. After a read that gave nothing it is shown for a drain that
+-- goes on, and for one that was long enough and ends. All rows take a moment, though not each action reads the clock.
 
--- the fact holds of what a read that gave nothing makes of the progress, in each phase in which a connection is in use
+-- the fact F holds after these acts and a read that gave nothing at this moment: of the progress at that moment and, where a
+-- drain was long enough, of the progress once the drain ended
 abbrev pub Silenced : Plan → (Progress → List Act → Type 0) → Until → Moment → Progress → List Act → Type 0
 Silenced plan F until m p acts =
     F (time_passed until m p) (acts ++ Silent m ∷ [])
     × (p.phase ≡ phase.Draining → is_quiet plan (time_passed until m p) ≡ true → F (drained (time_passed until m p)) (acts ++ Silent m ∷ []))
 
--- the fact holds of what an act of this action makes of the progress, for each outcome that leaves a connection in use
+-- the fact F holds after these acts and one more, of this action: of what the act makes of the model's progress, for each
+-- outcome that leaves a connection in use
 abbrev pub OnLine : Plan → List Task → (Progress → List Act → Type 0) → Action → Model → List Act → Type 0
 OnLine plan commands F actions.ReadClock s acts = (m : Moment) → F (reckoned_early plan (commands_in s.marks) (told m s.progress)) (acts ++ Told m ∷ [])
 OnLine plan commands F actions.Renew s acts = (m : Moment) → F (reckoned_early plan 0 (renewed plan m s.progress)) (acts ++ Told m ∷ [])
@@ -71,20 +76,23 @@ OnLine plan commands F (actions.Close why) s acts = Unit {0}
 OnLine plan commands F (actions.Stop why) s acts = Unit {0}
 
 module _ (plan : Plan) (commands : List Task) (F : Progress → List Act → Type 0) (unused : (p : Progress) (acts : List Act) → is_in_use p.phase ≡ false → F p acts) where
+  -- the fact holds after these acts and one more, of the progress of the model after them
   abbrev FactBehind : List Act → Act → Model → Type 0
   FactBehind acts act t = F t.progress (acts ++ act ∷ [])
 
-  -- from `Silenced` to the fact behind a read that gave nothing
+  -- `Silenced` gives the fact after a read that gave nothing, in any phase
   silent_on : (until : Until) (m : Moment) (p : Progress) (at : Phase) (acts : List Act) → p.phase ≡ at → Silenced plan F until m p acts
       → F (quieted plan at (time_passed until m p)) (acts ++ Silent m ∷ [])
   silent_on until m p phase.Pausing acts is h = unused _ (acts ++ Silent m ∷ []) (paused_unused (is_past p.pause (time_passed until m p) && not (is_idle plan (time_passed until m p))) p.phase is)
   silent_on until m p phase.Draining acts is h = by_test (is_quiet plan (time_passed until m p)) refl where
+    -- the lemma above for a drain, whether it was long enough (`true`) or not
     by_test : (b : Bool) → is_quiet plan (time_passed until m p) ≡ b → F (if b then drained (time_passed until m p) else time_passed until m p) (acts ++ Silent m ∷ [])
     by_test true past = h.1 is past
     by_test false past = h.0
   silent_on until m p at acts is h = h.0
 
-  -- from these facts of an action to the fact behind an act of it, in whatever phase that leaves
+  -- `OnLine` of an action gives the fact after an act of it: where the act leaves no connection in use, the fact holds anyway
+  -- (`unused`)
   pub on_line : (next : Action) (s : Model) (act : Act) (acts : List Act) → Performs commands s next act → OnLine plan commands F next (with_progress turned s) acts
       → F (moved plan commands next (with_progress turned s) act).progress (acts ++ act ∷ [])
   on_line actions.Open s act acts o h = walk plan commands (FactBehind acts) actions.Open (with_progress turned s) act o

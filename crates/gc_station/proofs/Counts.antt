@@ -1,4 +1,5 @@
--- What each act leaves of the counts: the turns, the cycles that haven't begun, and the commands of the cycle that weren't sent.
+-- What each act leaves of the counts: the turns, the cycles that haven't begun, and the commands of the cycle that weren't
+-- sent. An act is one call of the link, with what came of it.
 use Rattle.std.proofs.Common.{◌≡◌, ℕ, ◌-◌, ◌≤◌, ◌⊎◌, inl, inr, Bool, true, false, List, length, refl, ap, subst, arith}
 use Rattle.gc_texts.specs.declared.tasks.Task.{Task}
 use Rattle.gc_station.specs.declared.plan.Plan.{Plan}
@@ -11,7 +12,7 @@ use Rattle.gc_station.proofs.Walk.{moved_changed, is_sent}
 use Rattle.gc_station.specs.Model.{Model, requests_out, moved, losing, ended}
 use Rattle.gc_station.specs.Progressing.{failing, skipped, loses_all}
 
--- the turns, the cycles that are left and the commands that are unsent are the same
+-- from p to q the turns, the cycles that are left and the commands that are unsent stay the same
 pub record Kept (p q : Progress) : Type 0 where
   pub turns : q.turns ≡ p.turns
   pub left : q.left ≡ p.left
@@ -21,7 +22,7 @@ pub record Kept (p q : Progress) : Type 0 where
 pub kept : (p q : Progress) → q.turns ≡ p.turns → q.left ≡ p.left → q.unsent ≡ p.unsent → Kept p q
 kept p q turns left unsent = record { turns = turns; left = left; unsent = unsent }
 
--- the progress with a cycle of n commands begun, as far as these counts go
+-- the progress with a cycle of `count` commands begun, as far as these counts go
 abbrev pub counted_begun : ℕ → Progress → Progress
 counted_begun count p = record p { left = p.left - 1; unsent = count }
 
@@ -29,7 +30,8 @@ counted_begun count p = record p { left = p.left - 1; unsent = count }
 abbrev pub counted_sent : Progress → Progress
 counted_sent p = record p { unsent = p.unsent - 1 }
 
--- what an act of an action does to these counts: nothing, or what begins a cycle, or what sends or skips a command
+-- what an act of an action does to these counts, from p to q: nothing, or what begins a cycle, or what sends or skips a
+-- command. The first argument is how many commands a cycle has
 abbrev pub Counts : ℕ → Action → Progress → Progress → Type 0
 Counts count Begin p q = Kept p q ⊎ Kept (counted_begun count p) q
 Counts count Send p q = Kept (counted_sent p) q
@@ -54,15 +56,15 @@ pub losing_progress : (b : Bool) (s : Model) → (losing b s).progress ≡ s.pro
 losing_progress true s = refl
 losing_progress false s = refl
 
--- what is lost behind an act changes no progress
+-- what is lost after an act changes no progress
 pub ended_progress : (s : Model) → (ended s).progress ≡ s.progress
 ended_progress s = losing_progress (loses_all s.progress) s
 
--- `moved` takes no turn
+-- what an act does, apart from the turn that it takes, leaves the number of turns
 pub turns_kept : (plan : Plan) (commands : List Task) (action : Action) (s : Model) (act : Act) → (moved plan commands action s act).progress.turns ≡ s.progress.turns
 turns_kept plan commands action s act = ap (λ (x : Model). x.progress.turns) (moved_changed plan commands action s act)
 
--- no more commands are unsent behind an act than a cycle has, if no more were before
+-- no more commands are unsent after an act than a cycle has, if no more were before
 counts_within : (count : ℕ) (action : Action) (p q : Progress) → Counts count action p q → p.unsent ≤ count → q.unsent ≤ count
 counts_within count Begin p q (inl same) h = omega (arith, same.unsent, h)
 counts_within count Begin p q (inr began) h = omega (arith, began.unsent)
@@ -70,7 +72,7 @@ counts_within count Skip p q (inl same) h = omega (arith, same.unsent, h)
 counts_within count Skip p q (inr skipped) h = omega (arith, skipped.unsent, h)
 counts_within count action p q is h = omega (arith, is.unsent, h)
 
--- no more commands are unsent behind an act than there are, if no more were before
+-- no more commands are unsent after an act than there are, if no more were before
 pub unsent_within : (plan : Plan) (commands : List Task) (action : Action) (s : Model) (act : Act) → s.progress.unsent ≤ length commands
     → (moved plan commands action s act).progress.unsent ≤ length commands
 unsent_within plan commands action s act h = counts_within (length commands) action s.progress (moved plan commands action s act).progress (moved_counts plan commands action s act) h

@@ -1,4 +1,8 @@
--- Cycles begin on a grid, and nothing of a missed one goes out.
+-- Cycles begin on a grid of due moments, and nothing of a missed cycle goes out, where the clock doesn't go back (`Rises`). An
+-- act is one call of the link, with what came of it. A cycle is missed where it began so late that the next one was due. The
+-- chain's fields of a progress are `next_is_chained`, whether the next command waits for the answer of the one before it, and
+-- `chain_unbroken`. `Cycling` says which cycle the station is in, and when it began; `Begun` says that it is in one, or that
+-- none has begun yet.
 use Rattle.std.proofs.Common.{◌≡◌, ◌⊎◌, inl, inr, ℕ, suc, ◌+◌, ◌-◌, ◌<◌, ◌≤◌, ◌||◌, Bool, true, false, List, [], ◌∷◌, ◌++◌, length, drop, min, nat_lt, nat_le, nat_eq, refl, sym, ap, ◌∙◌, subst, arith, append_assoc}
 use Rattle.std.proofs.lemmas.Bool.{lt-ltb, ne_eqb, eq-eqb}
 use Rattle.gc_texts.specs.declared.tasks.Task.{Task}
@@ -32,11 +36,12 @@ use Rattle.gc_station.proofs.Due.{begin_due}
 -- What every run keeps of its cycles.
 
 module _ (plan : Plan) (commands : List Task) (scope : Scope) (some : 0 < plan.every) where
-  -- the cycle with n before it began at this moment, `late` milliseconds after its due moment, among these acts
+  -- among these acts the cycle with n before it began at the moment m, `late` milliseconds after its due moment
   abbrev pub Late : List Act → ℕ → Moment → ℕ → Type 0
   Late acts n m late = BeginsLate plan commands scope acts n m late
 
-  -- a station is within a cycle: which one, when it began, how late, and what the fields on missed cycles mean
+  -- with the progress p a station is within a cycle: which one (n cycles came before it), when it began, how long after its due
+  -- moment (`late`), and what the fields on missed cycles and chains mean
   pub record Cycling (acts : List Act) (p : Progress) : Type 0 where
     pub n : ℕ
     pub m : Moment
@@ -51,7 +56,7 @@ module _ (plan : Plan) (commands : List Task) (scope : Scope) (some : 0 < plan.e
     pub held : p.missed ≡ true → (p.next_is_chained ≡ true) × (p.chain_unbroken ≡ false)
     pub chained : p.next_is_chained ≡ true → (p.missed ≡ true) ⊎ ((0 < place_next commands p) × (is_chained (drop (place_next commands p) commands) ≡ true))
 
-  -- no cycle has begun, and nothing is unsent; or `Cycling` holds
+  -- no cycle has begun yet, and nothing is unsent; or `Cycling` holds
   abbrev pub Begun : List Act → Progress → Type 0
   Begun acts p = ((p.left ≡ plan.cycles) × (p.unsent ≡ 0)) ⊎ Cycling acts p
 
@@ -84,11 +89,13 @@ module _ (plan : Plan) (commands : List Task) (scope : Scope) (some : 0 < plan.e
   stays p q left unsent missed due next_is_chained chain_unbroken = record
       { left = left; unsent = unsent; missed = missed; due = due; next_is_chained = next_is_chained; chain_unbroken = chain_unbroken }
 
+  -- a chain that was broken still is, where it is as it was or broken
   pub broken : (a b : Bool) → (b ≡ a) ⊎ (b ≡ false) → a ≡ false → b ≡ false
   broken a b (inl same) e = same ∙ e
   broken a b (inr none) e = none
 
-  -- `Begun` lasts over an act that stays in its cycle, where the clock doesn't go back
+  -- `Begun` lasts over an act that stays in its cycle (`Stays`) and tells moments as `Ticks` says, where the clock doesn't go
+  -- back
   pub begun_stays : (acts : List Act) (act : Act) (p q : Progress) → Stays p q → Ticks p act q → Rises p.moment.elapsed (act ∷ []) → Begun acts p → Begun (acts ++ act ∷ []) q
   begun_stays acts act p q k t rises (inl none) = inl (k.left ∙ none.0, k.unsent ∙ none.1)
   begun_stays acts act p q k t rises (inr c) =
@@ -112,13 +119,15 @@ module _ (plan : Plan) (commands : List Task) (scope : Scope) (some : 0 < plan.e
         held = λ e. let h = c.held (sym k.missed ∙ e) in (k.next_is_chained ∙ h.0, broken p.chain_unbroken q.chain_unbroken k.chain_unbroken h.1);
         chained = λ e. by_chain (c.chained (sym k.next_is_chained ∙ e)) place_is k.missed;
       }) where
+        -- what makes the next command wait still does: its cycle is missed, or the text chains it
         by_chain : ((p.missed ≡ true) ⊎ ((0 < place_next commands p) × (is_chained (drop (place_next commands p) commands) ≡ true)))
             → place_next commands q ≡ place_next commands p → q.missed ≡ p.missed
             → (q.missed ≡ true) ⊎ ((0 < place_next commands q) × (is_chained (drop (place_next commands q) commands) ≡ true))
         by_chain (inl missed) at same = inl (same ∙ missed)
         by_chain (inr (above, is)) at same = inr (subst (λ (x : ℕ). 0 < x) (sym at) above, ap (λ (x : ℕ). is_chained (drop x commands)) at ∙ is)
 
-  -- an act that sends or passes over the next command keeps `Begun`, if the one behind it is bound as `is_chained_behind_next` says
+  -- `Begun` lasts over an act that sends or passes over the next command, if the command behind that waits for its answer as
+  -- `is_chained_behind_next` says
   pub begun_next : (acts : List Act) (act : Act) (p q : Progress) → q.left ≡ p.left → q.unsent ≡ p.unsent - 1 → q.missed ≡ p.missed → q.due ≡ p.due
       → q.next_is_chained ≡ is_chained_behind_next commands p
       → (p.missed ≡ true → q.chain_unbroken ≡ false) → Ticks p act q → Rises p.moment.elapsed (act ∷ []) → 0 < p.unsent → p.unsent ≤ length commands → Begun acts p → Begun (acts ++ act ∷ []) q
@@ -143,13 +152,14 @@ module _ (plan : Plan) (commands : List Task) (scope : Scope) (some : 0 < plan.e
         held = λ e. let was : p.missed ≡ true = sym missed ∙ e in (next_is_chained ∙ or_some p.missed (is_chained (drop (place_next commands p + 1) commands)) was, chain_unbroken was);
         chained = λ e. by_missed p.missed refl (sym next_is_chained ∙ e) at;
       }) where
+        -- what makes the new next command wait: its cycle is missed (`true`), or the text chains it
         by_missed : (b : Bool) → p.missed ≡ b → is_chained_behind_next commands p ≡ true → place_next commands q ≡ place_next commands p + 1
             → (q.missed ≡ true) ⊎ ((0 < place_next commands q) × (is_chained (drop (place_next commands q) commands) ≡ true))
         by_missed true is e at = inl (missed ∙ is)
         by_missed false is e at =
             inr (omega (arith, at), ap (λ (x : ℕ). is_chained (drop x commands)) at ∙ or_second p.missed (is_chained (drop (place_next commands p + 1) commands)) e is)
 
-  -- a cycle that is begun at moment m, and counts as begun at b, begins `m.elapsed - b` milliseconds after its due moment
+  -- `Cycling` holds after the act that begins a cycle at the moment m, if the cycle counts as begun at b and b is its due moment
   pub begins_cycle : (acts : List Act) (m : Moment) (p : Progress) (n : ℕ) (b : ℕ) → beginning plan m p ≡ b → b ≤ m.elapsed → cycles_begun plan p ≡ n → 0 < p.left → p.left ≤ plan.cycles
       → BeginsLate plan commands scope (acts ++ Told m ∷ []) n m (m.elapsed - b) → Cycling (acts ++ Told m ∷ []) (begun plan (length commands) m p)
   begins_cycle acts m p n b is past number left within late = record {
@@ -172,7 +182,7 @@ module _ (plan : Plan) (commands : List Task) (scope : Scope) (some : 0 < plan.e
       → cycles_begun plan (stood plan commands scope acts).progress ≡ n → BeginsAt plan commands scope (acts ++ Told m ∷ []) n m
   begins_here acts m n is number = record { before = acts; behind = []; order = refl; begins = is; number = number }
 
-  -- what is known of a cycle that is begun at moment m: the moment that counts as its beginning, and how long after its due moment m is
+  -- what is known of a cycle that is begun at the moment m: the moment b that counts as its beginning, which is its due moment
   pub record Start (acts : List Act) (m : Moment) (p : Progress) : Type 0 where
     pub n : ℕ
     pub b : ℕ
@@ -181,7 +191,7 @@ module _ (plan : Plan) (commands : List Task) (scope : Scope) (some : 0 < plan.e
     pub number : cycles_begun plan p ≡ n
     pub late : BeginsLate plan commands scope (acts ++ Told m ∷ []) n m (m.elapsed - b)
 
-  -- the first cycle begins when it is due
+  -- the first cycle has a `Start`: it is due at the moment at which it begins
   pub start_first : (acts : List Act) (m : Moment) (p : Progress) → action_at plan (stood plan commands scope acts) ≡ actions.Begin
       → cycles_begun plan (stood plan commands scope acts).progress ≡ cycles_begun plan p
       → p.left ≡ plan.cycles → Start acts m p
@@ -197,7 +207,7 @@ module _ (plan : Plan) (commands : List Task) (scope : Scope) (some : 0 < plan.e
         late = record { first = m; first_begins = here; begins = here; grid = omega arith };
       }
 
-  -- a further cycle begins `every` milliseconds after the one before it was due, or later
+  -- a later cycle has a `Start`: it is due `every` milliseconds after the one before it was due, and begins then or later
   pub start_more : (acts : List Act) (m : Moment) (p : Progress) → action_at plan (stood plan commands scope acts) ≡ actions.Begin
       → cycles_begun plan (stood plan commands scope acts).progress ≡ cycles_begun plan p
       → is_due plan p ≡ true → Rises p.moment.elapsed (Told m ∷ []) → Cycling acts p → Start acts m p
@@ -230,7 +240,7 @@ module _ (plan : Plan) (commands : List Task) (scope : Scope) (some : 0 < plan.e
   starts acts m p is same due rises (inl none) = start_first acts m p is same none.0
   starts acts m p is same due rises (inr c) = start_more acts m p is same due rises c
 
-  -- `Begun` holds behind the act that begins a cycle
+  -- `Begun` holds after the act that begins a cycle
   pub begun_begins : (acts : List Act) (m : Moment) (p : Progress) → action_at plan (stood plan commands scope acts) ≡ actions.Begin
       → cycles_begun plan (stood plan commands scope acts).progress ≡ cycles_begun plan p
       → is_due plan p ≡ true → 0 < p.left → p.left ≤ plan.cycles → Rises p.moment.elapsed (Told m ∷ []) → Begun acts p → Cycling (acts ++ Told m ∷ []) (begun plan (length commands) m p)
@@ -240,27 +250,30 @@ module _ (plan : Plan) (commands : List Task) (scope : Scope) (some : 0 < plan.e
 
   -- Acts.
 
-  -- behind this act the moment told last is the act's, if it tells one; and `Begun` holds if the clock doesn't go back at it
+  -- from p to q, over an act after these acts: the moment told last is the act's if it tells one, else p's; and `Begun` holds
+  -- of q if the clock doesn't go back at the act
   abbrev pub OnTo : List Act → Progress → Act → Progress → Type 0
   OnTo acts p act q = (q.moment.elapsed ≡ last_of p.moment.elapsed (act ∷ [])) × (Rises p.moment.elapsed (act ∷ []) → Begun (acts ++ act ∷ []) q)
 
+  -- `OnTo`, from a progress to that of a model
   abbrev pub On : List Act → Progress → Act → Model → Type 0
   On acts p act t = OnTo acts p act t.progress
 
-  -- an act stays in its cycle, and changes the moment as `Ticks` says
+  -- from p to q an act stays in the cycle, and tells moments as `Ticks` says
   abbrev pub Same : Progress → Act → Progress → Type 0
   Same p act q = Stays p q × Ticks p act q
 
-  -- `OnTo` holds of an act that stays in its cycle
+  -- an act that stays in its cycle, as `Same` says, does what `OnTo` says
   pub on_same : (acts : List Act) (p : Progress) (act : Act) (q : Progress) → Begun acts p → Same p act q → OnTo acts p act q
   on_same acts p act q h same = (last_ticks p q act same.1, λ rises. begun_stays acts act p q same.0 same.1 rises h)
 
-  -- `OnTo` holds of a call that failed
+  -- a call that failed does what `On` says
   pub fails : (acts : List Act) (s : Model) (act : Act) (why : Cause) → Begun acts s.progress → Ticks s.progress act s.progress → On acts s.progress act (with_progress (failing why) s)
   fails acts s act why h t = (
     last_ticks s.progress (failing why s.progress) act (ticks_failing act t),
     λ rises. begun_stays acts act s.progress (failing why s.progress) (stays s.progress (failing why s.progress) refl refl refl refl refl (inl refl)) (ticks_failing act t) rises h,
   ) where
+    -- a failure tells no other moment
     ticks_failing : (a : Act) → Ticks s.progress a s.progress → Ticks s.progress a (failing why s.progress)
     ticks_failing (Told m) e = e
     ticks_failing (Gave bytes m) e = e
@@ -295,12 +308,13 @@ module _ (plan : Plan) (commands : List Task) (scope : Scope) (some : 0 < plan.e
   pub not_missed : (acts : List Act) (p : Progress) (w : Waiting) → 0 < p.unsent → MayGo p w → Begun acts p → p.missed ≡ false
   not_missed acts p w here may (inl none) = let nothing = none.1 in absurd (omega (arith, nothing, here))
   not_missed acts p w here may (inr c) = by_test p.missed refl may where
+    -- the lemma above, whether the cycle is missed (`true`) or not
     by_test : (b : Bool) → p.missed ≡ b → MayGo p w → p.missed ≡ false
     by_test false e m = e
     by_test true e (inl free) = absurd (clash p.next_is_chained (c.held e).0 free)
     by_test true e (inr going) = absurd (clash p.chain_unbroken going.2 (c.held e).1)
 
-  -- `On` holds of an act of any action
+  -- an act of each action does to the moment told last, and to `Begun`, what `On` says
   pub on_moved : (acts : List Act) (next : Action) (act : Act) → action_at plan (stood plan commands scope acts) ≡ next
       → Performs commands (stood plan commands scope acts) next act → Invariant plan commands (stood plan commands scope acts)
       → IsFor plan (stood plan commands scope acts).progress (waiting_of (stood plan commands scope acts)) next → Begun acts (turned (stood plan commands scope acts).progress)
@@ -382,10 +396,11 @@ module _ (plan : Plan) (commands : List Task) (scope : Scope) (some : 0 < plan.e
     chained = c.chained;
   })
 
+  -- where the clock doesn't go back in these acts, the moment told last is the last that they tell, and `Begun` holds after them
   abbrev pub Kept : List Act → Type 0
   Kept acts = Rises 0 acts → ((stood plan commands scope acts).progress.moment.elapsed ≡ last_of 0 acts) × Begun acts (stood plan commands scope acts).progress
 
-  -- where the clock doesn't go back in acts, it doesn't at the last one, from the moment told before on
+  -- where the clock doesn't go back in acts and one more, it doesn't at the last act, counted from the moment told before it
   pub rises_here : (acts : List Act) (act : Act) → Rises 0 (acts ++ act ∷ []) → (stood plan commands scope acts).progress.moment.elapsed ≡ last_of 0 acts
       → Rises (stood plan commands scope acts).progress.moment.elapsed (act ∷ [])
   rises_here acts act rises at = subst (λ (n : ℕ). Rises n (act ∷ [])) (sym at) (rises_last 0 acts act rises)
@@ -403,7 +418,7 @@ module _ (plan : Plan) (commands : List Task) (scope : Scope) (some : 0 < plan.e
         subst (λ (p : Progress). Begun (done ++ act ∷ []) p) (sym there) (on.1 (rises_here done act rises old.0)),
       )
 
-  -- `Kept` holds behind every run
+  -- `Kept` holds after every run
   pub kept_stood : (acts : List Act) → Runs plan commands (opening plan scope) acts → Kept acts
   kept_stood acts runs = always plan commands (opening plan scope) (λ (xs : List Act) (t : Model). Kept xs) kept_step (λ rises. (refl, inl (refl, refl))) acts runs
 
@@ -422,12 +437,13 @@ module _ (plan : Plan) (commands : List Task) (scope : Scope) (some : 0 < plan.e
       let begun = (kept_stood acts runs rises).1 in
       let free = not_missed acts s.progress (waiting_of s) needs.2 needs.4 begun in
       by_begun needs.2 begun free where
+        -- the lemma above, by whether a cycle has begun: one has, as a command is unsent
         by_begun : 0 < (stood plan commands scope acts).progress.unsent → Begun acts (stood plan commands scope acts).progress
             → (stood plan commands scope acts).progress.missed ≡ false → (last : LastBegan plan commands scope acts) × (last.late < plan.every)
         by_begun here (inl none) free = let nothing = none.1 in absurd (omega (arith, nothing, here))
         by_begun here (inr c) free = last_began acts (stood plan commands scope acts).progress refl c free
 
-  -- where the clock doesn't go back, a cycle that begins does so at its due moment, or `late` milliseconds behind it
+  -- where the clock doesn't go back, a cycle that begins does so at its due moment, or `late` milliseconds after it
   pub begins_due : (acts later : List Act) (m : Moment) → Runs plan commands (opening plan scope) (acts ++ Told m ∷ later) → Rises 0 (acts ++ Told m ∷ [])
       → action_at plan (stood plan commands scope acts) ≡ actions.Begin
       → (late : ℕ) × BeginsLate plan commands scope (acts ++ Told m ∷ []) (cycles_begun plan (stood plan commands scope acts).progress) m late
@@ -438,8 +454,10 @@ module _ (plan : Plan) (commands : List Task) (scope : Scope) (some : 0 < plan.e
       let x = starts acts m s.progress is refl (begin_due plan s.progress (waiting_of s) is) (rises_here acts (Told m) rises old.0) old.1 in
       (m.elapsed - x.b, subst (λ (k : ℕ). BeginsLate plan commands scope (acts ++ Told m ∷ []) k m (m.elapsed - x.b)) (sym x.number) x.late)
 
+-- each cycle begins at or after its due moment
 pub begin_when_due : CyclesBeginWhenDue
 begin_when_due plan commands scope acts later m some runs rises is = begins_due plan commands scope some acts later m runs rises is
 
+-- a command goes out only in a cycle that isn't missed
 pub sent_only_in_time : SentOnlyInTime
 sent_only_in_time plan commands scope acts some runs rises is = sent_in_time plan commands scope some acts runs rises is

@@ -1,4 +1,5 @@
--- A cycle begins only where it is due.
+-- A cycle begins only where it is due. `p` is how far the station is, and `w` what waits; each `action_...` is the next action
+-- under some conditions. `BeginsDue` says of an action: if it begins a cycle, the cycle is due.
 use Rattle.std.proofs.Common.{◌≡◌, ◌-◌, ◌&&◌, Bool, true, false, nat_lt, nat_le, nat_eq, if◌then◌else◌, not}
 use Rattle.gc_station.specs.Deciding.{is_up, is_idle, is_finished, has_begun, is_dead, is_due, has_room, action_of, action_in, action_on, action_told, may_go, action_ready, action_begun, action_beginning, action_sent, action_settled, action_done, action_room, action_waiting, action_up}
 use Rattle.gc_station.specs.Progressing.{told, begun, beginning}
@@ -13,6 +14,7 @@ use Rattle.gc_station.specs.declared.progress.Until.TheVariants.{Limit, Due}
 use Rattle.gc_station.specs.declared.progress.Waiting.{Waiting}
 use Rattle.gc_station.proofs.Facts.{either}
 
+-- if this action, which is next, begins a cycle, the cycle is due
 abbrev pub BeginsDue : Plan → Progress → Action → Type 0
 BeginsDue plan p next = next ≡ actions.Begin → is_due plan p ≡ true
 
@@ -23,7 +25,8 @@ module _ (plan : Plan) (p : Progress) (w : Waiting) where
       either (BeginsDue plan p) (actions.Close cause.Dead) (if nat_eq w.current 0 then actions.Renew else actions.Read Limit) (is_dead plan p w) (λ d b. cc)
       (λ d. either (BeginsDue plan p) actions.Renew (actions.Read Limit) (nat_eq w.current 0) (λ e b. cc) (λ e b. cc))
 
-  -- if a cycle begins with an action only when it is due, so it does with what takes its place where there is no room
+  -- `action_room` is the action `next` where there is room for a request, and another one where there is none. It begins a
+  -- cycle only when one is due, if `next` does
   pub room_not : (next : Action) → BeginsDue plan p next → BeginsDue plan p (action_room plan p w next)
   room_not next not = either (BeginsDue plan p) next (action_waiting plan p w) (has_room plan w) (λ e. not) (λ e. waits_not)
 

@@ -1,4 +1,6 @@
--- The records and the commands that wait are the commands that were sent, whatever the link tells.
+-- The records and the commands that wait are, in order, the commands that had their turn, whatever the link tells. (`sent`
+-- stands for these commands, whether they went out or were passed over.) A mark says which command a waiting request is of, or
+-- `None` of a null procedure.
 use Rattle.std.proofs.Common.{◌≡◌, ℕ, zero, suc, ◌+◌, ◌<◌, List, [], ◌∷◌, ◌++◌, length, take, drop, map, Option, Some, None, refl, sym, ap, ◌∙◌, arith, append_assoc, append-nil}
 use Rattle.std.proofs.lemmas.List.{length-map, map-append}
 use Rattle.gc_catalogue.specs.declared.answer.Reading.{Reading}
@@ -7,15 +9,15 @@ use Rattle.gc_client.specs.declared.pending.Pending.{Pending}
 use Rattle.gc_client.specs.Rule.{Settlement, expired}
 use Rattle.gc_client.specs.OneForOne.{Asked, of_settled, of_pending}
 use Rattle.gc_client.proofs.OneForOne.{expired_parts}
-use Rattle.gc_texts.specs.declared.near.Near.{Near}
+use Rattle.gc_texts.specs.declared.near.Expected.{Expected}
 use Rattle.gc_texts.specs.declared.tasks.Task.{Task}
 use Rattle.gc_station.specs.declared.mark.Mark.{Mark}
 use Rattle.gc_station.specs.EachOnce.{Request, requests, of_task, all_cycles, sent_by, of_record, of_waiting, still_waiting}
 use Rattle.gc_station.specs.Marks.{commands_in, record_of, records_of}
 use Rattle.gc_station.specs.Records.{Record}
 
--- the requests of a cycle's commands in two lists are those of the first list, and behind them those of the second at the
--- places behind
+-- the requests of one cycle for two lists of commands are those of the first list, and behind them those of the second, from the
+-- next place on
 pub requests-append : (cycle place : ℕ) (xs ys : List Asked) → requests cycle place (xs ++ ys) ≡ requests cycle place xs ++ requests cycle (place + length xs) ys
 requests-append cycle place [] ys = ap (λ n. requests cycle n ys) (omega arith)
 requests-append cycle place (x ∷ xs) ys =
@@ -23,29 +25,29 @@ requests-append cycle place (x ∷ xs) ys =
     let at : (place + 1) + length xs ≡ place + length (x ∷ xs) = omega arith in
     ap (λ rs. one ∷ rs) (requests-append cycle (place + 1) xs ys ∙ ap (λ n. requests cycle (place + 1) xs ++ requests cycle n ys) at)
 
--- the requests with these marks, where they ask this; a null procedure is none
+-- the requests of these marks, one for one with what they ask; a null procedure, which has no mark, gives none
 abbrev pub marked : List (Option Mark) → List Asked → List Request
 marked [] asks = []
 marked (m ∷ ms) [] = []
 marked (None ∷ ms) (a ∷ asks) = marked ms asks
 marked (Some mark ∷ ms) (a ∷ asks) = record { cycle = mark.cycle; place = mark.place; asked = a } ∷ marked ms asks
 
--- the commands that wait are the requests with their marks
+-- the commands that wait are the requests of their marks
 waiting_marked : (ms : List (Option Mark)) (ws : List Pending) → still_waiting ms ws ≡ marked ms (map of_pending ws)
 waiting_marked [] ws = refl
 waiting_marked (m ∷ ms) [] = refl
 waiting_marked (None ∷ ms) (w ∷ ws) = waiting_marked ms ws
 waiting_marked (Some mark ∷ ms) (w ∷ ws) = ap (λ rs. of_waiting mark w ∷ rs) (waiting_marked ms ws)
 
--- the records of settlements are of the requests with their marks
+-- the records of settlements are of the requests of their marks
 records_marked : (reads : Call → List ℕ → Reading) (utc : ℕ) (ms : List (Option Mark)) (ss : List Settlement) → map of_record (records_of reads utc ms ss) ≡ marked ms (map of_settled ss)
 records_marked reads utc [] ss = refl
 records_marked reads utc (m ∷ ms) [] = refl
 records_marked reads utc (None ∷ ms) (s ∷ ss) = records_marked reads utc ms ss
 records_marked reads utc (Some mark ∷ ms) (s ∷ ss) = ap (λ rs. of_record (record_of reads utc mark s) ∷ rs) (records_marked reads utc ms ss)
 
--- the requests of two lists with their marks are those of the first list, and behind them those of the second with the marks
--- behind
+-- the requests for two lists of what is asked are those of the first list, and behind them those of the second with the marks
+-- that are left
 marked_append : (ms : List (Option Mark)) (xs ys : List Asked) → marked ms (xs ++ ys) ≡ marked ms xs ++ marked (drop (length xs) ms) ys
 marked_append [] [] ys = refl
 marked_append [] (x ∷ xs) ys = refl
@@ -53,7 +55,7 @@ marked_append (m ∷ ms) [] ys = refl
 marked_append (None ∷ ms) (x ∷ xs) ys = marked_append ms xs ys
 marked_append (Some mark ∷ ms) (x ∷ xs) ys = ap (λ rs. record { cycle = mark.cycle; place = mark.place; asked = x } ∷ rs) (marked_append ms xs ys)
 
--- the requests with their marks and one more behind them are those requests, and behind them the one with its mark
+-- one mark more, with what it asks, adds its request behind the others, if it is of a command
 marked_more : (ms : List (Option Mark)) (asks : List Asked) (m : Option Mark) (a : Asked) → length ms ≡ length asks
     → marked (ms ++ m ∷ []) (asks ++ a ∷ []) ≡ marked ms asks ++ marked (m ∷ []) (a ∷ [])
 marked_more [] [] m a e = refl
@@ -69,7 +71,8 @@ marked_none (m ∷ ms) [] e = refl
 marked_none (None ∷ ms) (a ∷ asks) e = marked_none ms asks e
 marked_none (Some mark ∷ ms) (a ∷ asks) e = absurd (omega (arith, e))
 
--- the records, and behind them the commands that wait, are what was sent
+-- the requests of the records, followed by those of the commands that wait (by the marks and the requests that wait), are the
+-- requests given last
 abbrev pub EachIs : List (Option Mark) → List Pending → List Record → List Request → Type 0
 EachIs ms ws rs sent = map of_record rs ++ still_waiting ms ws ≡ sent
 
@@ -92,6 +95,7 @@ each_nothing ms ws rs sent none h =
 pub each_empty : (ms : List (Option Mark)) (ws : List Pending) (rs : List Record) (sent : List Request) → ws ≡ [] → EachIs ms ws rs sent → map of_record rs ≡ sent
 each_empty ms ws rs sent none h =
     sym (append-nil (map of_record rs)) ∙ sym (ap (λ xs. map of_record rs ++ xs) (ap (still_waiting ms) none ∙ nothing ms)) ∙ h where
+      -- where no request waits, no command does
       nothing : (ms : List (Option Mark)) → still_waiting ms [] ≡ []
       nothing [] = refl
       nothing (m ∷ ms) = refl
@@ -112,8 +116,7 @@ each_settles reads utc ms ws left ss rs sent parts h =
     ∙ ap (λ xs. front ++ xs) (sym (marked_append ms ended waits) ∙ ap (marked ms) parts ∙ sym (waiting_marked ms ws))
     ∙ h
 
--- where one more request waits behind the others, the commands that wait are those before, and behind them its command, if it
--- has one
+-- where one more request waits behind the others, its command, if it has one, is added behind the commands that wait
 more_waiting : (ms : List (Option Mark)) (ws : List Pending) (m : Option Mark) (p : Pending) → length ms ≡ length ws
     → still_waiting (ms ++ m ∷ []) (ws ++ p ∷ []) ≡ still_waiting ms ws ++ marked (m ∷ []) (of_pending p ∷ [])
 more_waiting ms ws m p paired =
@@ -127,16 +130,17 @@ pub each_null : (ms : List (Option Mark)) (ws : List Pending) (p : Pending) (rs 
     → EachIs ms ws rs sent → EachIs (ms ++ None ∷ []) (ws ++ p ∷ []) rs sent
 each_null ms ws p rs sent paired h = ap (λ xs. map of_record rs ++ xs) (more_waiting ms ws None p paired ∙ append-nil (still_waiting ms ws)) ∙ h
 
--- the commands before the place behind this one are those before this place, and the command at it
+-- the commands in front of the next place are those in front of this place, and the one at it
 take_next : (commands : List Task) (place : ℕ) (task : Task) (others : List Task) → drop place commands ≡ task ∷ others → take (place + 1) commands ≡ take place commands ++ task ∷ []
 take_next [] zero task others e = cc
 take_next [] (suc n) task others e = cc
 take_next (c ∷ cs) zero task others e = ap (λ x. x ∷ []) (head_is e) where
+  -- equal lists have the same first command
   head_is : c ∷ cs ≡ task ∷ others → c ≡ task
   head_is e = cc
 take_next (c ∷ cs) (suc n) task others e = let at : suc n + 1 ≡ suc (n + 1) = omega arith in rw at (ap (λ x. c ∷ x) (take_next cs n task others e))
 
--- as many commands are before a place as the place says
+-- in front of a place at which there is a command, there are as many commands as the place says
 take_place : (commands : List Task) (place : ℕ) (task : Task) (others : List Task) → drop place commands ≡ task ∷ others → length (take place commands) ≡ place
 take_place commands zero task others e = refl
 take_place [] (suc n) task others e = cc
@@ -158,18 +162,18 @@ sent_next commands (suc n) place task others at some =
     ∙ ap (λ xs. cycles ++ requests (suc n) 0 xs) (sym (map-append of_task (take place commands) (task ∷ [])) ∙ ap (map of_task) (sym (take_next commands place task others at)))
 
 -- a command that is sent keeps `EachIs`
-pub each_sent : (commands : List Task) (begun place utc : ℕ) (near : Option Near) (ms : List (Option Mark)) (ws : List Pending) (p : Pending) (rs : List Record) (task : Task) (others : List Task)
+pub each_sent : (commands : List Task) (begun place utc : ℕ) (expected : Expected) (ms : List (Option Mark)) (ws : List Pending) (p : Pending) (rs : List Record) (task : Task) (others : List Task)
     → length ms ≡ length ws → drop place commands ≡ task ∷ others → of_pending p ≡ of_task task → 0 < begun
-    → EachIs ms ws rs (sent_by commands begun place) → EachIs (ms ++ Some (record { cycle = begun; place = place; sent = utc; near = near }) ∷ []) (ws ++ p ∷ []) rs (sent_by commands begun (place + 1))
-each_sent commands begun place utc near ms ws p rs task others paired at is some h =
+    → EachIs ms ws rs (sent_by commands begun place) → EachIs (ms ++ Some (record { cycle = begun; place = place; sent = utc; expected = expected }) ∷ []) (ws ++ p ∷ []) rs (sent_by commands begun (place + 1))
+each_sent commands begun place utc expected ms ws p rs task others paired at is some h =
     let front = map of_record rs in
-    let mark : Mark = record { cycle = begun; place = place; sent = utc; near = near } in
+    let mark : Mark = record { cycle = begun; place = place; sent = utc; expected = expected } in
     ap (λ xs. front ++ xs) (more_waiting ms ws (Some mark) p paired ∙ ap (λ a. still_waiting ms ws ++ requests begun place (a ∷ [])) is)
     ∙ sym (append_assoc front (still_waiting ms ws) (requests begun place (of_task task ∷ [])))
     ∙ ap (λ xs. xs ++ requests begun place (of_task task ∷ [])) h
     ∙ sent_next commands begun place task others at some
 
--- a command that isn't sent keeps `EachIs`: its record is behind those of all others, of which none waits
+-- a command that isn't sent keeps `EachIs`: its record is added behind the others, and no command waits then
 pub each_skipped : (commands : List Task) (begun place : ℕ) (ms : List (Option Mark)) (ws : List Pending) (rs : List Record) (r : Record) (task : Task) (others : List Task)
     → commands_in ms ≡ 0 → drop place commands ≡ task ∷ others → of_record r ∷ [] ≡ requests begun place (of_task task ∷ []) → 0 < begun
     → EachIs ms ws rs (sent_by commands begun place) → EachIs ms ws (rs ++ r ∷ []) (sent_by commands begun (place + 1))
@@ -183,6 +187,7 @@ each_skipped commands begun place ms ws rs r task others none at is some h =
 pub sent_whole : (commands : List Task) (begun place : ℕ) → place ≡ length commands → sent_by commands begun place ≡ all_cycles commands begun
 sent_whole commands zero place e = refl
 sent_whole commands (suc n) place e = ap (λ xs. all_cycles commands n ++ requests (suc n) 0 (map of_task xs)) (ap (λ m. take m commands) e ∙ whole commands) where
+  -- a list has all its elements among its first ones, counted by its length
   whole : (xs : List Task) → take (length xs) xs ≡ xs
   whole [] = refl
   whole (x ∷ xs) = ap (λ ys. x ∷ ys) (whole xs)
@@ -192,7 +197,7 @@ pub sent_none : (commands : List Task) (begun next place : ℕ) → next ≡ suc
 sent_none commands begun next place is none =
     ap (λ n. sent_by commands n place) is ∙ ap (λ m. all_cycles commands begun ++ requests (suc begun) 0 (map of_task (take m commands))) none ∙ append-nil (all_cycles commands begun)
 
--- the beginning of a cycle keeps `EachIs`, behind a whole one, whose commands are settled
+-- the beginning of a cycle keeps `EachIs`, where all commands of the cycle before had their turn and none waits
 pub each_begun : (commands : List Task) (begun next place place' : ℕ) (ms : List (Option Mark)) (ws : List Pending) (rs : List Record)
     → commands_in ms ≡ 0 → place ≡ length commands → next ≡ suc begun → place' ≡ 0 → EachIs ms ws rs (sent_by commands begun place) → EachIs ms ws rs (sent_by commands next place')
 each_begun commands begun next place place' ms ws rs settled whole is none h =

@@ -1,4 +1,7 @@
--- Each action, and so each run, keeps them.
+-- Each act, and so each run, keeps what every run keeps (`Invariant`). Most lemmas say that an action keeps the weaker record
+-- `Mid` of `Midway`: the counts, the client, the marks and the records belong together, and the phase fits them, before what
+-- waits is lost. An act is one call of the link, with what came of it. A mark says which command a waiting request is of, or
+-- `None` of a null procedure.
 use Rattle.std.proofs.Common.{◌≡◌, ℕ, ◌-◌, ◌<◌, ◌⊎◌, inl, inr, ◌||◌, ◌&&◌, Bool, true, false, not, List, [], ◌∷◌, length, drop, map, nat_eq, Option, refl, sym, ap, ◌∙◌, subst, arith, append-nil, if◌then◌else◌}
 use Rattle.std.proofs.lemmas.List.{length-drop}
 use Rattle.gc_catalogue.specs.declared.call.Call.TheVariants.{NullProc}
@@ -23,7 +26,7 @@ use Rattle.gc_station.specs.Reasons.{IsFor}
 use Rattle.gc_station.specs.Records.{Record}
 use Rattle.gc_station.specs.Runs.{stood}
 use Rattle.gc_texts.specs.Endings.{Skipped, Missed}
-use Rattle.gc_station.specs.Model.{Model, opening, action_at, waiting_of, place_next, near_first, mark_next, with_progress, asks_null, asks_first, asks_next, is_chained_behind_next, with_records, skips, skips_first, after_clock, moved, after, after_all}
+use Rattle.gc_station.specs.Model.{Model, opening, action_at, waiting_of, place_next, expected_first, mark_next, with_progress, asks_null, asks_first, asks_next, is_chained_behind_next, with_records, skips, skips_first, after_clock, moved, after, after_all}
 use Rattle.gc_station.proofs.Acting.{mid_fail, mid_moment, mid_clock, mid_put, mid_open, mid_close, mid_read}
 use Rattle.gc_station.proofs.Each.{each_empty, sent_whole}
 use Rattle.gc_station.proofs.Facts.{action_for}
@@ -35,7 +38,7 @@ use Rattle.gc_station.specs.Scopes.{Scope}
 mid_nothing : (plan : Plan) (commands : List Task) (s : Model) → Mid plan commands s → Mid plan commands (with_records [] s)
 mid_nothing plan commands s mid = subst (λ (rs : List Record). Mid plan commands (record s { records = rs })) (sym (append-nil s.records)) mid
 
--- in the phase `Ready` the marks and the kept bytes are in their places
+-- the phase `Ready` is `Placed`: it says nothing of the counts, the kept bytes and the marks
 going_placed : (phase : Phase) (left unsent : ℕ) (rest : List ℕ) (marks : List (Option Mark)) → phase ≡ Ready → Placed phase left unsent rest marks
 going_placed phase left unsent rest marks is = record { empty = λ e. absurd (clash (is_bare phase) e (ap is_bare is)); finished = λ e. absurd (clash (says_done phase) e (ap says_done is)) }
 
@@ -51,11 +54,12 @@ mid_begun plan commands s m is none settled some mid =
 -- a line feed that went out keeps the weaker record
 mid_cleared : (plan : Plan) (commands : List Task) (s : Model) → s.progress.phase ≡ Clearing → Mid plan commands s → Mid plan commands (with_progress cleared s)
 mid_cleared plan commands s is mid = (mid.0, by_word (has_begun s.progress)) where
+  -- the lemma above, whether the station has begun (`true`) or begins
   by_word : (begun : Bool) → Placed (if begun then Draining else Ready) s.progress.left s.progress.unsent s.rest s.marks
   by_word true = record { empty = λ e. mid.1.empty (ap is_bare is); finished = λ e. cc }
   by_word false = record { empty = λ e. cc; finished = λ e. cc }
 
--- a null procedure that is sent behind commands keeps the weaker record
+-- a null procedure that is sent after commands keeps the weaker record
 mid_flushed : (plan : Plan) (commands : List Task) (s : Model) → s.progress.phase ≡ Ready → length s.client.waiting < 7 → Mid plan commands s
     → Mid plan commands (with_progress asking (asks_null plan s))
 mid_flushed plan commands s is room mid =
@@ -75,7 +79,7 @@ mid_first plan commands next_is_chained s [] at is some room mid =
 mid_first plan commands next_is_chained s (task ∷ others) at is some room mid =
     let p = s.progress in
     let t = asks_first (mark_next plan commands p) (task ∷ others) s in (
-      sound_sent plan commands p.left p.unsent s.client s.marks s.records p.moment.utc (later p.moment.elapsed task.deadline) (near_first (drop (place_next commands p) commands)) task others room some at mid.0,
+      sound_sent plan commands p.left p.unsent s.client s.marks s.records p.moment.utc (later p.moment.elapsed task.deadline) (expected_first (drop (place_next commands p) commands)) task others room some at mid.0,
       going_placed p.phase p.left (p.unsent - 1) s.rest t.marks is,
     )
 
@@ -114,7 +118,7 @@ close_done plan commands s w cause.Done fine (up, inl phase) is = let it = fine.
 close_done plan commands s w cause.Done fine (up, inr end) is = (end.0, end.1)
 close_done plan commands s w why fine for_it is = cc
 
--- each act keeps the weaker record, before what is lost by it
+-- each act keeps the weaker record, before what waits is lost
 pub mid_moved : (plan : Plan) (commands : List Task) (s : Model) (action : Action) (act : Act) → Invariant plan commands s → IsFor plan s.progress (waiting_of s) action
     → Mid plan commands (moved plan commands action (with_progress turned s) act)
 mid_moved plan commands s action.ReadClock act fine is =
@@ -173,7 +177,7 @@ fine_opening plan commands scope =
       each = sym (ap (λ n. sent_by commands n (length commands - 0)) none);
     }
 
--- what every run keeps holds behind all acts
+-- what every run keeps holds after all acts
 pub fine_stood : (plan : Plan) (commands : List Task) (scope : Scope) (acts : List Act) → Invariant plan commands (stood plan commands scope acts)
 fine_stood plan commands scope acts = fine_all plan commands (opening plan scope) acts (fine_opening plan commands scope)
 
@@ -181,13 +185,15 @@ fine_stood plan commands scope acts = fine_all plan commands (opening plan scope
 pub stop_over : (plan : Plan) (p : Progress) (w : Waiting) (why : Cause) → IsFor plan p w (action.Stop why) → is_over p ≡ true
 stop_over plan p w why (down, inl over) = ap (λ (phase : Phase). is_over_in phase || (not (is_up phase) && nat_eq p.turns 0)) over
 stop_over plan p w why (down, inr turns) = either_way (is_over_in p.phase) (is_up p.phase) (nat_eq p.turns 0) down (ap (λ (n : ℕ). nat_eq n 0) turns.1) where
+  -- the lemma above, where the phase says so (`o`), or there is no connection and no turn is left
   either_way : (o up none : Bool) → up ≡ false → none ≡ true → (o || (not up && none)) ≡ true
   either_way true up none d n = refl
   either_way false false true d n = refl
   either_way false false false d n = cc
   either_way false true none d n = cc
 
--- where a run stops nothing waits, and the records are what was sent
+-- where a run stops nothing waits, and the records are of the commands that had their turn, in order; where it stops as done,
+-- no cycle and no command is left
 pub stopped : (plan : Plan) (commands : List Task) (s : Model) (why : Cause) → Invariant plan commands s → action_at plan s ≡ action.Stop why
     → (s.client.waiting ≡ []) × (map of_record s.records ≡ sent_by commands (plan.cycles - s.progress.left) (place_next commands s.progress))
     × (why ≡ cause.Done → (s.progress.left ≡ 0) × (s.progress.unsent ≡ 0))
@@ -200,11 +206,12 @@ stopped plan commands s why fine stop =
       each_empty s.marks s.client.waiting s.records (sent_by commands (plan.cycles - p.left) (place_next commands p)) nothing fine.each,
       by_reason is.1,
     ) where
+      -- where the run stops as done nothing is left: its phase says that it is done, as it isn't for its turns
       by_reason : ((s.progress.phase ≡ Over why) ⊎ ((why ≡ cause.Turns) × (s.progress.turns ≡ 0))) → why ≡ cause.Done → (s.progress.left ≡ 0) × (s.progress.unsent ≡ 0)
       by_reason (inl over) e = let it = fine.finished (ap says_done (over ∙ ap Over e)) in (it.0, it.1)
       by_reason (inr turns) e = let other : cause.Turns ≡ cause.Done = sym turns.0 ∙ e in cc
 
--- the records and the commands that wait are the commands that had their turn, behind any acts
+-- the records and the commands that wait are the commands that had their turn, after any acts
 pub each_once : (plan : Plan) (commands : List Task) (scope : Scope) (acts : List Act) → EachOnce plan commands scope acts
 each_once plan commands scope acts =
     let s = stood plan commands scope acts in

@@ -1,4 +1,5 @@
--- What holds where an action is next: its reasons, whether the moment was told, and that a request has room. One walk over the decision.
+-- What holds where an action is next: its conditions (`IsFor`), whether the moment was told (`Timely`, `Wakes`), and that a
+-- request has room. `Holds` has all of these, and is shown once for each function that decides.
 use Rattle.std.proofs.Common.{◌≡◌, ℕ, ◌<◌, ◌≤◌, ◌⊎◌, ◌&&◌, ◌||◌, Bool, true, false, not, if◌then◌else◌, nat_lt, nat_le, nat_eq, refl, sym, ap, ◌∙◌, inl, inr, arith}
 use Rattle.std.proofs.lemmas.Bool.{ltb-true, ltb-false, leb-true, eqb-true}
 use Rattle.std.proofs.lemmas.Bool.Decides.{nat_tests}
@@ -17,20 +18,23 @@ use Rattle.gc_station.specs.Reasons.{IsFor, IsHeld, HasRoom, NothingMayGo}
 use Rattle.gc_station.specs.Deciding.{width_of, has_begun, is_up, is_dead, is_due, is_idle, is_finished, has_room, action_of, action_in, action_on, action_told, may_go, action_ready, action_begun, action_beginning, action_sent, action_settled, action_done, action_room, action_waiting, action_up}
 use Rattle.gc_station.specs.Stations.{IsFitting}
 
--- what holds of either side of a test, where the test chooses it, holds of the test
+-- what holds of x where a test holds, and of y where it doesn't, holds of the one that the test chooses
 pub either : {A : Type 0} (P : A → Type 0) (x y : A) (t : Bool) → (t ≡ true → P x) → (t ≡ false → P y) → P (if t then x else y)
 either P x y true p q = p refl
 either P x y false p q = q refl
 
+-- where both of two tests hold, each does
 pub both_true : (a b : Bool) → (a && b) ≡ true → (a ≡ true) × (b ≡ true)
 both_true true true e = (refl, refl)
 both_true true false e = cc
 both_true false b e = cc
 
+-- where one of two tests holds, and the second doesn't, the first does
 pub either_true : (a b : Bool) → (a || b) ≡ true → b ≡ false → a ≡ true
 either_true true b e none = refl
 either_true false b e none = cc
 
+-- one of two tests holds, if the second does
 pub or_true : (a : Bool) → (a || true) ≡ true
 or_true true = refl
 or_true false = refl
@@ -47,6 +51,7 @@ some_left n e = grind (arith, nat_tests, e)
 room_there : (plan : Plan) (w : Waiting) → has_room plan w ≡ true → HasRoom plan w
 room_there plan w e = let it = both_true (nat_lt w.current (width_of plan)) (nat_lt w.all WINDOW) e in (ltb-true w.current (width_of plan) it.0, ltb-true w.all WINDOW it.1)
 
+-- where not both of two tests hold, one of them doesn't
 one_false : (a b : Bool) → (a && b) ≡ false → (a ≡ false) ⊎ (b ≡ false)
 one_false true true e = cc
 one_false true false e = inr refl
@@ -57,26 +62,29 @@ no_room : (plan : Plan) (p : Progress) (w : Waiting) → (nat_lt w.current (widt
 no_room plan p w (inl e) = inr (inl (ltb-false w.current (width_of plan) e))
 no_room plan p w (inr e) = inr (inr (inl (ltb-false w.all WINDOW e)))
 
--- A moment is told behind each act that makes it out of date; nothing is read before a new connection was cleared.
+-- The moment is told again after each act that makes it out of date (`stale`); and nothing is read before a new connection was
+-- cleared.
 
 -- a read may be made: the moment was told, and the connection isn't to be cleared
 abbrev pub Reads : Progress → Type 0
 Reads p = (p.stale ≡ false) × (p.phase ≡ Clearing → ⊥)
 
--- where this action reads the clock, the moment wasn't told since something was done; where it connects or reads, it was
+-- where this action reads the clock alone, the moment is out of date; where it connects or reads, it isn't
 abbrev pub Timely : Progress → Action → Type 0
 Timely p action.ReadClock = p.stale ≡ true
 Timely p action.Open = p.stale ≡ false
 Timely p (action.Read until) = Reads p
 Timely p _ = Unit {0}
 
--- Requests go out, it begins anew, and a connection is closed for a dead line, only where requests may go, behind a moment that was told.
+-- A request goes out, the station begins anew, and a connection is closed for a dead line, only in the phase `Ready`, after a
+-- moment that was told.
 
--- requests may go out, and the moment was told
+-- the phase is `Ready`, in which requests may go out, and the moment was told
 abbrev pub Awake : Progress → Type 0
 Awake p = (p.stale ≡ false) × (p.phase ≡ Ready)
 
--- where this action sends a request, begins anew, or closes a dead line, requests may go out, and the moment was told
+-- where this action sends a request, begins anew, or closes a dead line, `Awake` holds; or the phase has said already that the
+-- line is to be closed
 abbrev pub Wakes : Progress → Action → Type 0
 Wakes p action.Renew = Awake p
 Wakes p action.Ask = Awake p
@@ -85,21 +93,23 @@ Wakes p action.Flush = Awake p
 Wakes p (action.Close cause.Dead) = (p.phase ≡ Closing cause.Dead) ⊎ Awake p
 Wakes p _ = Unit {0}
 
--- all that holds where this action is next
+-- what holds where this action is next: its conditions (`IsFor`), and whether the moment was told before it (`Timely`, `Wakes`)
 abbrev Holds : Plan → Progress → Waiting → Action → Type 0
 Holds plan p w next = IsFor plan p w next × Timely p next × Wakes p next
 
+-- in the phase `Ready` there is a connection
 awake_up : (p : Progress) → Awake p → is_up p.phase ≡ true
 awake_up p (now, is) = ap is_up is
 
+-- in the phase `Ready`, where the moment was told, a read may be made
 awake_reads : (p : Progress) → Awake p → Reads p
 awake_reads p (now, is) = (now, λ c. let other : Ready ≡ Clearing = sym is ∙ c in cc)
 
--- if all that wait are given up, seven wait
+-- if all requests that wait are given up, seven wait
 abbrev Full : Waiting → Type 0
 Full w = w.current ≡ 0 → WINDOW ≤ w.all
 
--- `Holds` is so where a station waits
+-- `Holds` is true where a station waits
 waits : (plan : Plan) (p : Progress) (w : Waiting) → Awake p → has_begun p ≡ true → NothingMayGo plan p w → Full w → Holds plan p w (action_waiting plan p w)
 waits plan p w awake begun nothing full =
     let P = Holds plan p w in
@@ -108,6 +118,7 @@ waits plan p w awake begun nothing full =
     (λ d. either P action.Renew (action.Read Limit) (nat_eq w.current 0)
     (λ e. let none = eqb-true w.current 0 e in ((awake.1, begun, none, full none), tt, awake)) (λ e. (tt, awake_reads p awake, tt)))
 
+-- at least one request may be under way
 some_wide : (plan : Plan) → 0 < width_of plan
 some_wide plan = omega arith
 
@@ -116,25 +127,26 @@ no_room_full : (plan : Plan) (w : Waiting) → (nat_lt w.current (width_of plan)
 no_room_full plan w (inl e) none = let few : width_of plan ≤ w.current = ltb-false w.current (width_of plan) e in absurd (omega (arith, none, few, some_wide plan))
 no_room_full plan w (inr e) none = ltb-false w.all WINDOW e
 
--- `Holds` is so for an action that sends a request, if it does where there is room
+-- `action_room` is the action o where there is room for a request, and the action of a station that waits where there is none.
+-- `Holds` is true of it, if it is true of o where there is room
 room_for : (plan : Plan) (p : Progress) (w : Waiting) (o : Action) → Awake p → has_begun p ≡ true → (HasRoom plan w → Holds plan p w o) → Holds plan p w (action_room plan p w o)
 room_for plan p w o awake begun step =
     either (Holds plan p w) o _ (has_room plan w) (λ e. step (room_there plan w e))
     (λ e. let none = one_false (nat_lt w.current (width_of plan)) (nat_lt w.all WINDOW) e in waits plan p w awake begun (no_room plan p w none) (no_room_full plan w none))
 
--- `Holds` is so where each command of the cycle is settled
+-- `Holds` is true where each command of the cycle is settled
 done_for : (plan : Plan) (p : Progress) (w : Waiting) → Awake p → has_begun p ≡ true → p.unsent ≡ 0 → w.commands ≡ 0 → Holds plan p w (action_done plan p)
 done_for plan p w awake begun sent settled =
     let P = Holds plan p w in
     either P (action.Close cause.Done) _ (nat_eq p.left 0) (λ e. ((awake_up p awake, inr (eqb-true p.left 0 e, sent, settled)), tt, tt))
     (λ e. either P action.Begin (action.Read Due) (is_due plan p) (λ d. ((awake.1, begun, sent, settled, some_left p.left e), tt, tt)) (λ d. (tt, awake_reads p awake, tt)))
 
--- where the next command is held, and the cycle has one left, the next command is chained
+-- where no command may go out before those that wait are settled (`IsHeld`), and one is unsent, that one is chained
 chained : (p : Progress) → IsHeld p → nat_eq p.unsent 0 ≡ false → p.next_is_chained ≡ true
 chained p (inl none) e = let some : 0 < p.unsent = some_left p.unsent e in absurd (omega (arith, none, some))
 chained p (inr next_is_chained) e = next_is_chained
 
--- `Holds` is so where each command that was sent is settled
+-- `Holds` is true where each command that was sent is settled
 settled_for : (plan : Plan) (p : Progress) (w : Waiting) → Awake p → has_begun p ≡ true → IsHeld p → w.commands ≡ 0 → Holds plan p w (action_settled plan p w)
 settled_for plan p w awake begun held settled =
     let P = Holds plan p w in
@@ -144,7 +156,7 @@ settled_for plan p w awake begun held settled =
     (λ room. ((awake.1, begun, some_left p.unsent e, room, inr (settled, it.0, it.1)), tt, awake)))
     (λ broken. ((awake.1, begun, some_left p.unsent e, settled, chained p held e, broken), tt, tt)))
 
--- `Holds` is so where no command may go out before those that wait are settled
+-- `Holds` is true where no command may go out before those that wait are settled
 sent_for : (plan : Plan) (p : Progress) (w : Waiting) → Awake p → has_begun p ≡ true → IsHeld p → Holds plan p w (action_sent plan p w)
 sent_for plan p w awake begun held =
     let P = Holds plan p w in
@@ -153,22 +165,25 @@ sent_for plan p w awake begun held =
     (λ given. room_for plan p w action.Flush awake begun (λ room. ((awake.1, begun, held, some_left w.commands e, eqb-true w.current 0 given, room), tt, awake)))
     (λ some. let many = some_left w.current some in waits plan p w awake begun (inr (inr (inr (held, some_left w.commands e, many)))) (λ none. absurd (omega (arith, none, many)))))
 
--- a command that may not go out at once is held
+-- a command that may not go out at once waits for those before it (`IsHeld`)
 held_so : (p : Progress) → (nat_lt 0 p.unsent && not p.next_is_chained) ≡ false → IsHeld p
 held_so p e = by_half (one_false (nat_lt 0 p.unsent) (not p.next_is_chained) e) where
+  -- where the negation of a test doesn't hold, the test does
   negated : (b : Bool) → not b ≡ false → b ≡ true
   negated true e = refl
   negated false e = cc
 
+  -- the lemma above, by which of the two tests fails: that a command is unsent, or that it isn't chained
   by_half : ((nat_lt 0 p.unsent ≡ false) ⊎ (not p.next_is_chained ≡ false)) → IsHeld p
   by_half (inl none) = inl (none_left p.unsent none)
   by_half (inr next_is_chained) = inr (negated p.next_is_chained next_is_chained)
 
+-- where the negation of a test holds, the test doesn't
 free_so : (b : Bool) → not b ≡ true → b ≡ false
 free_so true e = cc
 free_so false e = refl
 
--- `Holds` is so once the station has begun
+-- `Holds` is true once the station has begun
 begun_for : (plan : Plan) (p : Progress) (w : Waiting) → Awake p → has_begun p ≡ true → Holds plan p w (action_begun plan p w)
 begun_for plan p w awake begun =
     either (Holds plan p w) _ _ (nat_lt 0 p.unsent && not p.next_is_chained)
@@ -183,7 +198,7 @@ finished_so commands p e =
     let sent = both_true (nat_eq p.left 0) (nat_eq p.unsent 0) it.0 in
     (eqb-true p.left 0 sent.0, eqb-true p.unsent 0 sent.1, eqb-true commands 0 it.1)
 
--- `Holds` is so while the station begins
+-- `Holds` is true while the station begins
 beginning_for : (plan : Plan) (p : Progress) (w : Waiting) → Awake p → has_begun p ≡ false → Holds plan p w (action_beginning plan p w)
 beginning_for plan p w awake begun =
     let P = Holds plan p w in
@@ -193,15 +208,16 @@ beginning_for plan p w awake begun =
     (λ d. either P action.Ask (action.Read Limit) (nat_le p.again p.moment.elapsed)
     (λ e. ((awake.1, begun, leb-true p.again p.moment.elapsed e, busy), tt, awake)) (λ e. (tt, awake_reads p awake, tt)))))
 
--- `Holds` is so in the phase `Ready`
+-- `Holds` is true in the phase `Ready`
 ready : (plan : Plan) (p : Progress) (w : Waiting) → Awake p → Holds plan p w (action_ready plan p w)
 ready plan p w awake = either (Holds plan p w) _ _ (has_begun p) (λ begun. begun_for plan p w awake begun) (λ begun. beginning_for plan p w awake begun)
 
+-- a close for which the phase is set already is as `Wakes` says
 closing_wakes : (p : Progress) (why : Cause) → p.phase ≡ Closing why → Wakes p (action.Close why)
 closing_wakes p cause.Dead is = inl is
 closing_wakes p why is = tt
 
--- `Holds` is so in each phase, where turns are left and the moment was told
+-- `Holds` is true in each phase, where turns are left and the moment was told
 told_for : (plan : Plan) (phase : Phase) (p : Progress) (w : Waiting) → p.phase ≡ phase → p.stale ≡ false → Holds plan p w (action_told plan phase p w)
 told_for plan Down p w is now = (is, now, tt)
 told_for plan Pausing p w is now = (tt, (now, λ c. let other : Pausing ≡ Clearing = sym is ∙ c in cc), tt)
@@ -211,19 +227,19 @@ told_for plan Ready p w is now = ready plan p w (now, is)
 told_for plan (Closing why) p w is now = ((ap is_up is, inl is), tt, closing_wakes p why is)
 told_for plan (Over why) p w is now = ((ap is_up is, inl is), tt, tt)
 
--- `Holds` is so where all turns are used up
+-- `Holds` is true where all turns are used up
 up_for : (plan : Plan) (p : Progress) (w : Waiting) (up : Bool) → is_up p.phase ≡ up → p.turns ≡ 0 → Holds plan p w (action_up up)
 up_for plan p w true is none = ((is, inr none), tt, tt)
 up_for plan p w false is none = ((is, inr (refl, none)), tt, tt)
 
--- `Holds` is so where the end isn't decided yet
+-- `Holds` is true where the end isn't decided yet
 on_for : (plan : Plan) (p : Progress) (w : Waiting) → Holds plan p w (action_on plan p w)
 on_for plan p w =
     let P = Holds plan p w in
     either P _ _ (nat_eq p.turns 0) (λ e. up_for plan p w (is_up p.phase) refl (eqb-true p.turns 0 e))
     (λ e. either P action.ReadClock _ p.stale (λ old. (tt, old, tt)) (λ now. told_for plan p.phase p w refl now))
 
--- `Holds` is so in each phase
+-- `Holds` is true in each phase
 in_for : (plan : Plan) (phase : Phase) (p : Progress) (w : Waiting) → p.phase ≡ phase → Holds plan p w (action_in phase plan p w)
 in_for plan (Closing why) p w is = ((ap is_up is, inl is), tt, closing_wakes p why is)
 in_for plan (Over why) p w is = ((ap is_up is, inl is), tt, tt)
@@ -233,7 +249,7 @@ in_for plan phase p w is = on_for plan p w
 pub action_for : (plan : Plan) (p : Progress) (w : Waiting) → IsFor plan p w (action_of plan p w)
 action_for plan p w = (in_for plan p.phase p w refl).0
 
--- the action that is next is `Timely`
+-- the action that is next is `Timely`: it reads the clock where the moment is out of date, and connects or reads where it isn't
 pub order_timely : (plan : Plan) (p : Progress) (w : Waiting) → Timely p (action_of plan p w)
 order_timely plan p w = (in_for plan p.phase p w refl).1
 

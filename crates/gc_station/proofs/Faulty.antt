@@ -1,4 +1,5 @@
--- A run that stopped for a cause with a fault, told by that fault.
+-- A run that stopped for a cause fails with the fault of that cause. An act is one call of the link, with what came of it.
+-- `told` and `told'` are what the link had told before the run and after it, `taken` and `taken'` what the book had taken.
 use Rattle.std.proofs.Common.{◌≡◌, ℕ, List, Option, Some, None, Result, Err, refl, subst}
 use Rattle.gc_links.specs.Acts.{Act}
 use Rattle.gc_texts.specs.declared.fault.RunFault.{RunFault}
@@ -14,9 +15,11 @@ use Rattle.gc_station.specs.declared.plan.Plan.{Plan}
 use Rattle.gc_station.specs.declared.tally.Tally.{Tally}
 
 module _ (plan : Plan) (commands : List Task) (scope : Scope) (text : Record → List ℕ) (told told' : Option (List Act)) (taken taken' : Option (List ℕ)) (tally : Tally) where
+  -- the run stopped for this cause
   abbrev To : Cause → Type 0
   To cause = RanTo plan commands scope text told told' taken taken' cause tally
 
+  -- the run failed with this fault
   abbrev With : RunFault → Type 0
   With why = Ran plan commands scope text told told' taken taken' (Err why)
 

@@ -1,4 +1,7 @@
--- A run, part by part: what is written down of each.
+-- A run, part by part (a part reaches from one beginning to the next): the records that the client's steps of each part write
+-- down are those of the run. An act is one call of the link, with what came of it. Steps of the client are to send, to hear a
+-- line, to be told a moment and to restart. `BooksInParts` says that these steps, part by part, write down the records of a
+-- model.
 use Rattle.std.proofs.Common.{◌≡◌, ℕ, ◌&&◌, Bool, true, false, List, [], ◌∷◌, ◌++◌, length, map, drop, Option, refl, sym, ◌∙◌, ap, subst, append_assoc, append-nil}
 use Rattle.std.proofs.lemmas.List.{nil_from_length}
 use Rattle.gc_catalogue.specs.declared.answer.Reading.{Reading}
@@ -23,27 +26,28 @@ use Rattle.gc_station.proofs.Invariant.{Invariant}
 use Rattle.gc_station.proofs.Parting.{Leads, leads, keeps_action}
 use Rattle.gc_station.proofs.Readings.{moved_reads, ended_reads}
 
--- what is written down of parts of a run, from this client, these marks and these records on: behind each part but the last the client
--- restarts
+-- the steps of these parts, from this client, these marks and these records on, lead to the model `end`: after each part but the
+-- last the client restarts, and what waits is written down as lost
 abbrev pub BooksInParts : (Call → List ℕ → Reading) → List Task → ById → List (Option Mark) → List Record → List Part → Model → Type 0
 BooksInParts reads commands c ms rs [] end = ⊥
 BooksInParts reads commands c ms rs (p ∷ []) end = Books reads commands c ms rs p end.client end.marks (sent_of end.records)
 BooksInParts reads commands c ms rs (p ∷ q ∷ ps) end =
     (records : List Record) × Books reads commands c ms rs (joined p restarting) fresh [] records × BooksInParts reads commands fresh [] records (q ∷ ps) end
 
+-- three parts joined are the same, whether the first two are joined first or the last two
 joined_assoc : (p q r : Part) → joined (joined p q) r ≡ joined p (joined q r)
 joined_assoc p q r =
     ap (λ (turns : List Turn). record { turns = turns; steps = (p.steps ++ q.steps) ++ r.steps; marks = (p.marks ++ q.marks) ++ r.marks }) (append_assoc p.turns q.turns r.turns)
     ∙ ap (λ (steps : List Step). record { turns = p.turns ++ (q.turns ++ r.turns); steps = steps; marks = (p.marks ++ q.marks) ++ r.marks }) (append_assoc p.steps q.steps r.steps)
     ∙ ap (λ (marks : List (Option Mark)). record { turns = p.turns ++ (q.turns ++ r.turns); steps = p.steps ++ (q.steps ++ r.steps); marks = marks }) (append_assoc p.marks q.marks r.marks)
 
--- `BooksInParts` with a part in front that ends: behind it the client restarts
+-- `BooksInParts` with one more part in front, after which the client restarts
 follows_cut : (reads : Call → List ℕ → Reading) (commands : List Task) (c : ById) (ms : List (Option Mark)) (rs mid : List Record) (p : Part) (ps : List Part) (end : Model)
     → Books reads commands c ms rs (joined p restarting) fresh [] mid → BooksInParts reads commands fresh [] mid ps end → BooksInParts reads commands c ms rs (p ∷ ps) end
 follows_cut reads commands c ms rs mid p [] end h g = absurd g
 follows_cut reads commands c ms rs mid p (q ∷ ps) end h g = (mid, h, g)
 
--- `BooksInParts` with a part in front that goes on in the first of them
+-- `BooksInParts` with a part in front that is joined to the first of them
 follows_on : (reads : Call → List ℕ → Reading) (commands : List Task) (c c1 : ById) (ms ms1 : List (Option Mark)) (rs rs1 : List Record) (p : Part) (ps : List Part) (end : Model)
     → Books reads commands c ms rs p c1 ms1 rs1 → BooksInParts reads commands c1 ms1 rs1 ps end → BooksInParts reads commands c ms rs (in_front p false ps) end
 follows_on reads commands c c1 ms ms1 rs rs1 p [] end h g = absurd g
@@ -52,7 +56,7 @@ follows_on reads commands c c1 ms ms1 rs rs1 p (q ∷ next ∷ ps) end h g =
     let both = books_both reads commands c c1 fresh ms ms1 [] rs rs1 g.0 p (joined q restarting) h g.1 in
     (g.0, subst (λ (x : Part). Books reads commands c ms rs x fresh [] g.0) (sym (joined_assoc p q restarting)) both, g.2)
 
--- Behind an act.
+-- After an act.
 
 -- where all that wait are lost, the client restarts
 leads_lost : (commands : List Task) (t : Model) (b : Bool) → b ≡ true → length t.marks ≡ length t.client.waiting → Leads commands t restarting (losing b t)
@@ -62,15 +66,17 @@ leads_lost commands t true is paired =
     (books_restart t.reads commands t.client t.marks (sent_of t.records) t.progress.moment.utc paired)
 leads_lost commands t false is paired = cc
 
+-- where all that wait are lost, the client is new
 lost_fresh : (t : Model) (b : Bool) → b ≡ true → (losing b t).client ≡ fresh
 lost_fresh t true is = refl
 lost_fresh t false is = cc
 
+-- where nothing is lost, the model stays
 kept_same : (t : Model) (b : Bool) → b ≡ false → losing b t ≡ t
 kept_same t true is = cc
 kept_same t false is = refl
 
--- where the client is new, a loss writes nothing down
+-- where the client is new nothing waits, so a restart writes nothing down
 leads_idle : (reads : Call → List ℕ → Reading) (commands : List Task) (c : ById) (ms : List (Option Mark)) (rs : List Record) (utc : ℕ) → c ≡ fresh
     → Books reads commands c ms (sent_of rs) nothing fresh (drop (length (map lost c.waiting)) ms) (sent_of (rs ++ records_of reads utc ms (map lost c.waiting)))
 leads_idle reads commands c ms rs utc is =
@@ -78,26 +84,28 @@ leads_idle reads commands c ms rs utc is =
     (subst (λ (l : List Record). Books reads commands fresh ms (sent_of rs) nothing fresh ms (sent_of l))
     (sym (ap (λ l. rs ++ l) (records_none reads utc ms) ∙ append-nil rs)) (books_nothing reads commands fresh ms (sent_of rs)))
 
--- where the client is new, nothing happens at a loss
+-- where the client is new, a loss of what waits leads on by the part in which nothing happens
 idle_lost : (commands : List Task) (t : Model) (b : Bool) → t.client ≡ fresh → Leads commands t nothing (losing b t)
 idle_lost commands t true is = leads_idle t.reads commands t.client t.marks t.records t.progress.moment.utc is
 idle_lost commands t false is = books_nothing t.reads commands t.client t.marks (sent_of t.records)
 
+-- a part with nothing behind it is that part
 joined_nothing : (p : Part) → joined p nothing ≡ p
 joined_nothing p =
     ap (λ (turns : List Turn). record { turns = turns; steps = p.steps ++ []; marks = p.marks ++ [] }) (append-nil p.turns)
     ∙ ap (λ (steps : List Step). record { turns = p.turns; steps = steps; marks = p.marks ++ [] }) (append-nil p.steps)
     ∙ ap (λ (marks : List (Option Mark)). record { turns = p.turns; steps = p.steps; marks = marks }) (append-nil p.marks)
 
--- `Leads` from one model to another, with these readings of replies
+-- the part p leads from one model to another, with these readings of replies
 abbrev LeadsBy : (Call → List ℕ → Reading) → List Task → Model → Part → Model → Type 0
 LeadsBy reads commands s p t = Books reads commands s.client s.marks (sent_of s.records) p t.client t.marks (sent_of t.records)
 
+-- `Leads` gives `LeadsBy` with the model's own readings
 leads_by : (reads : Call → List ℕ → Reading) (commands : List Task) (s : Model) (p : Part) (t : Model) → s.reads ≡ reads → Leads commands s p t → LeadsBy reads commands s p t
 leads_by reads commands s p t is h = subst (λ (r : Call → List ℕ → Reading). LeadsBy r commands s p t) is h
 
 module _ (plan : Plan) (commands : List Task) (reads : Call → List ℕ → Reading) where
-  -- where the client is new, as while the station begins, a loss changes nothing of `LeadsBy`
+  -- where the client is new, as while the station begins, `LeadsBy` holds after the loss, too
   leads_idly : (s : Model) (p : Part) (t : Model) → t.reads ≡ reads → t.client ≡ fresh → LeadsBy reads commands s p t → LeadsBy reads commands s p (losing (loses_all t.progress) t)
   leads_idly s p t same is h =
       let u = losing (loses_all t.progress) t in
@@ -105,7 +113,9 @@ module _ (plan : Plan) (commands : List Task) (reads : Call → List ℕ → Rea
       (books_both reads commands s.client t.client u.client s.marks t.marks u.marks (sent_of s.records) (sent_of t.records) (sent_of u.records) p nothing h
       (leads_by reads commands t nothing u same (idle_lost commands t (loses_all t.progress) is)))
 
-  -- `BooksInParts` with one more act in front
+  -- an act leads from the model s to t by its part p, and the parts `ps` of later acts lead from the model after the act to
+  -- `end`: then p and `ps` lead from s to `end` (`BooksInParts`). p is a part of its own where the station had begun and all
+  -- that waits is lost, and else the front of the first part of `ps`
   one_more : (s : Model) (p : Part) (t : Model) (ps : List Part) (end : Model) (begun lost_all : Bool) → t.reads ≡ reads → has_begun s.progress ≡ begun → loses_all t.progress ≡ lost_all
       → Invariant plan commands s → Invariant plan commands (losing (loses_all t.progress) t) → length t.marks ≡ length t.client.waiting
       → LeadsBy reads commands s p t → (has_begun s.progress ≡ false → LeadsBy reads commands s p (losing (loses_all t.progress) t))

@@ -1,4 +1,5 @@
--- A run never goes back: behind a send the station is at a later place of the cycle, or in a later cycle.
+-- A run never goes back: after a send the station is at a later place of the cycle, or in a later cycle. An act is one call of
+-- the link, with what came of it. `NotBack p q`: the progress q isn't at an earlier cycle or place than p.
 use Rattle.std.proofs.Common.{◌≡◌, ◌⊎◌, inl, inr, ℕ, ◌-◌, ◌<◌, ◌≤◌, List, [], ◌∷◌, ◌++◌, length, refl, sym, ap, ◌∙◌, subst, arith}
 use Rattle.gc_texts.specs.declared.tasks.Task.{Task}
 use Rattle.gc_station.specs.declared.plan.Plan.{Plan}
@@ -27,7 +28,7 @@ NotBack p q = (q.left < p.left) ⊎ ((q.left ≡ p.left) × (q.unsent ≤ p.unse
 kept_there : (p t q : Progress) → t.left ≡ p.left → t.unsent ≡ p.unsent → Kept t q → NotBack p q
 kept_there p t q left unsent k = inr (k.left ∙ left, omega (arith, k.unsent, unsent))
 
--- what an act does to the counts doesn't go back, where its turn was taken first
+-- an act that changes the counts as `Counts` says doesn't go back, from before its turn is taken on
 counts_on : (plan : Plan) (count : ℕ) (w : Waiting) (o : Action) (p t q : Progress) → t.left ≡ p.left → t.unsent ≡ p.unsent → IsFor plan p w o → Counts count o t q → NotBack p q
 counts_on plan count w action.Begin p t q left unsent needs (inl k) = kept_there p t q left unsent k
 counts_on plan count w action.Begin p t q left unsent needs (inr k) = inl (omega (arith, k.left, left, needs.4))
@@ -44,6 +45,7 @@ after_on plan commands s act =
     (action_for plan s.progress (waiting_of s)) (moved_counts plan commands (action_at plan s) (with_progress turned s) act) in
     subst (λ (p : Progress). NotBack s.progress p) (sym (ended_progress done)) on
 
+-- `NotBack` holds over two steps if it does over each
 on_again : (p q r : Progress) → NotBack p q → NotBack q r → NotBack p r
 on_again p q r (inl a) (inl b) = inl (omega (arith, a, b))
 on_again p q r (inl a) (inr b) = inl (omega (arith, a, b.0))
@@ -56,14 +58,15 @@ all_on plan commands s [] = inr (refl, omega arith)
 all_on plan commands s (act ∷ acts) = on_again s.progress (after plan commands s act).progress (after_all plan commands s (act ∷ acts)).progress
     (after_on plan commands s act) (all_on plan commands (after plan commands s act) acts)
 
--- behind an act that sends, and further acts, a station is further than before it
+-- after an act that makes one command less unsent (q), and further acts that don't go back (t), a station is further than before
+-- (s)
 further : (plan : Plan) (commands : List Task) (s t : Model) (q : Progress) → Invariant plan commands s → Invariant plan commands t → 0 < s.progress.unsent
     → q.left ≡ s.progress.left → q.unsent ≡ s.progress.unsent - 1 → NotBack q t.progress → IsFurther plan commands s t
 further plan commands s t q fine there some left unsent (inl less) = inl (omega (arith, less, left, fine.left, there.left))
 further plan commands s t q fine there some left unsent (inr same) =
     inr (ap (λ (n : ℕ). plan.cycles - n) (sym (same.0 ∙ left)), omega (arith, same.1, unsent, some, fine.unsent, there.unsent))
 
--- behind a send, and further acts, a station is further than before it
+-- after an act that sends a command, and any further acts, a station is at a later place of the cycle, or in a later cycle
 pub send_goes_on : (plan : Plan) (commands : List Task) (scope : Scope) (earlier later : List Act) (act : Act) → action_at plan (stood plan commands scope earlier) ≡ action.Send
     → IsFurther plan commands (stood plan commands scope earlier) (stood plan commands scope (earlier ++ act ∷ later))
 send_goes_on plan commands scope earlier later act is =

@@ -1,4 +1,5 @@
--- The bytes of a line that are kept are those that came on this connection behind the last line feed.
+-- The bytes of a line that a station keeps are those that came on this connection behind the last line feed (`rest_of`). An act
+-- is one call of the link, with what came of it. A piece is the bytes that one read gave.
 use Rattle.std.proofs.Common.{◌≡◌, ℕ, Bool, true, false, List, [], ◌∷◌, if◌then◌else◌, refl, sym, ap, ◌∙◌}
 use Rattle.gc_lines.specs.Frames.{rest_behind, rest_of}
 use Rattle.gc_lines.proofs.Cutting.{rest-append}
@@ -14,13 +15,14 @@ use Rattle.gc_station.specs.Model.{Model, opening, action_at, with_progress, wit
 use Rattle.gc_station.proofs.Walk.{lines_along, walk}
 use Rattle.gc_station.specs.Scopes.{Scope}
 
--- the bytes of a line that are kept behind an act, by whether bytes are heard
+-- the bytes of an unfinished line that are kept after an act, by whether bytes are heard and by the bytes kept before it (the
+-- last argument)
 abbrev pub rest_with : Bool → Act → List ℕ → List ℕ
 rest_with heard (Gave piece m) rest = if heard then rest_behind rest piece else rest
 rest_with heard Closed rest = []
 rest_with heard act rest = rest
 
--- the bytes of a line that are kept behind a piece
+-- the bytes of a line that are kept after a piece
 came_rest : (heard : Bool) (word piece : List ℕ) (s : Model) → (came heard word piece s).rest ≡ (if heard then rest_behind s.rest piece else s.rest)
 came_rest true [] piece s = lines_along (λ (t : Model). t.rest ≡ rest_behind s.rest piece) (λ t line e. e) (with_rest (rest_behind s.rest piece) s) (lines_behind s.rest piece) refl
 came_rest true (asked ∷ others) piece s = refl
@@ -39,6 +41,7 @@ moved_rest plan commands (actions.Close why) s act o = walk plan commands (Leave
 moved_rest plan commands (actions.Stop why) s act o = absurd o
 moved_rest plan commands next s act o = walk plan commands (LeavesSo s) next (with_progress turned s) act o (λ m. refl, λ n. refl)
 
+-- the loss of what waits leaves the bytes of a line
 losing_rest : (all : Bool) (s : Model) → (losing all s).rest ≡ s.rest
 losing_rest true s = refl
 losing_rest false s = refl
@@ -49,13 +52,13 @@ pub after_rest : (plan : Plan) (commands : List Task) (s : Model) (act : Act) �
 after_rest plan commands s act o = let t = moved plan commands (action_at plan s) (with_progress turned s) act in
     losing_rest (loses_all t.progress) t ∙ moved_rest plan commands (action_at plan s) s act o
 
--- the rest of all bytes that came, behind an act, is what the act makes of the rest before
+-- the bytes kept of all that came, after one act more, are what the act makes of the bytes kept before it
 joined : (heard : Bool) (act : Act) (bytes : List ℕ) → rest_with heard act (rest_of bytes) ≡ rest_of (given_with heard act bytes)
 joined true (Gave piece m) bytes = sym (rest-append [] bytes piece)
 joined false (Gave piece m) bytes = refl
 joined heard act bytes = refl
 
--- if the bytes that are kept are the rest of `bytes`, behind any acts they are the rest of what `given_behind` makes of `bytes`
+-- if the bytes that are kept are the rest of `bytes`, after any acts they are the rest of what `given_behind` makes of `bytes`
 along_given : (plan : Plan) (commands : List Task) (s : Model) (bytes : List ℕ) (acts : List Act) → s.rest ≡ rest_of bytes → Runs plan commands s acts
     → (after_all plan commands s acts).rest ≡ rest_of (given_behind plan commands s bytes acts)
 along_given plan commands s bytes [] same runs = same

@@ -1,4 +1,6 @@
--- A run on the way: what was done so far, and one act more.
+-- A run on the way: what was done so far (`Went`), and one act more. An act is one call of the link, with what came of it. At
+-- the start the link had told `told` and the book had taken `taken`, by now `told'` and `taken'`, and later those with more
+-- primes; each is `None` where it isn't known. `text` is how a record is written.
 use Rattle.std.proofs.Common.{◌≡◌, ℕ, ◌<◌, ◌≤◌, List, [], ◌∷◌, ◌++◌, length, Option, Some, None, Result, Ok, Err, refl, sym, ap, ◌∙◌, subst, append-nil}
 use Rattle.std.specs.Io.KnownBytes.{Appends, Keeps}
 use Rattle.std.proofs.KnownBytes.{Appends-kept, Keeps-refl}
@@ -29,17 +31,17 @@ use Rattle.gc_station.specs.Scopes.{Scope, AreReadings}
 
 -- One turn.
 
--- an act performs an action at a model whether a turn was taken first or not
+-- an act that performs an action after a turn that was taken performs it without the turn as well
 pub turn_obeys : (commands : List Task) (action : Action) (s : Model) (act : Act) → Performs commands (with_progress turned s) action act → Performs commands s action act
 turn_obeys commands (Stop cause) s act o = o
 turn_obeys commands action s act o = o
 
--- a claim on all actions but `Stop` holds of one that isn't `Stop`
+-- `OnCall action claim` is the claim for each action but `Stop`; of an action that isn't `Stop` it gives the claim
 pub on_call : (action : Action) (claim : Type 0) → ((cause : Cause) → action ≡ Stop cause → ⊥) → OnCall action claim → claim
 on_call (Stop cause) claim never on = absurd (never cause refl)
 on_call action claim never on = on
 
--- from a claim on all actions but `Stop` to another that follows from it
+-- where `other` follows from `claim`, `OnCall` of `claim` gives `OnCall` of `other`
 pub on_then : (action : Action) (claim other : Type 0) → (claim → other) → OnCall action claim → OnCall action other
 on_then (Stop cause) claim other step on = tt
 on_then action claim other step on = step on
@@ -57,8 +59,8 @@ stands_turned station p s e stands = record {
   well = stands.well;
 }
 
--- an act was made, and the requests that waited were lost or not: so a whole turn was made; or the book failed at the records of the
--- lost ones
+-- a turn is an act and then, where the station has to, the loss of what waits. Where the act was made (`Makes`), and the loss
+-- wrote its records or the book failed at one of them (`ComesTo`), the whole turn was made, or the book failed in it (`Made`)
 pub makes_step : {X E : Type 0} (plan : Plan) (commands : List Task) (action : Action) (text : Record → List ℕ) (told told' : Option (List Act))
     (taken taken' taken'' : Option (List ℕ)) (station mid new : Station) (p : Progress) (result : Result X E)
     → p ≡ turned station.progress → Makes commands action (moved plan commands action) (seen told text taken (record station { progress = p })) (seen told' text taken' mid)
@@ -85,7 +87,8 @@ makes_step plan commands action text told told' taken taken' taken'' station mid
       );
 }
 
--- the book failed at a record of an act: so it did at one of the whole turn
+-- where the book failed at a record of an act, apart from its turn and from what is lost at its end, it failed at a record of the
+-- whole turn
 pub breaks_step : (plan : Plan) (commands : List Task) (action : Action) (text : Record → List ℕ) (told told' : Option (List Act)) (taken taken' : Option (List ℕ)) (station : Station) (p : Progress)
     → p ≡ turned station.progress → Breaks commands action (moved plan commands action) (seen told text taken (record station { progress = p })) told' taken'
     → Breaks commands action (stepped plan commands action) (seen told text taken station) told' taken'
@@ -108,10 +111,10 @@ stepped_reads plan commands action s act =
     let mid : Model = moved plan commands action (with_progress turned s) act in
     ended_reads (loses_all mid.progress) mid ∙ moved_reads plan commands action (with_progress turned s) act
 
--- Many.
+-- Many turns.
 
--- what was done so far: the acts of a run that the link told, the records that the book took, and a station that is as the model behind
--- these acts
+-- what was done so far: the acts of a run that the link told, the records that the book took, and a station that is as the
+-- model after these acts
 pub record Went (plan : Plan) (commands : List Task) (scope : Scope) (text : Record → List ℕ) (told told' : Option (List Act)) (taken taken' : Option (List ℕ)) (station : Station) : Type 0 where
   pub acts : List Act
   pub tells : Tells told told' acts
@@ -135,7 +138,7 @@ went_nothing plan commands scope text told taken station stands = record {
   took = Appends-nil taken;
 }
 
--- `Went` lasts where a book took nothing more, as far as that is known
+-- `Went` lasts where a book took nothing more, as `Keeps` says: if what it took was known, it is known still, and the same
 abbrev pub went_kept : (plan : Plan) (commands : List Task) (scope : Scope) (text : Record → List ℕ) (told told' : Option (List Act))
     (taken taken' taken'' : Option (List ℕ)) (station : Station) → Keeps taken' taken''
     → Went plan commands scope text told told' taken taken' station → Went plan commands scope text told told' taken taken'' station
@@ -154,7 +157,7 @@ abbrev pub went_same : (plan : Plan) (commands : List Task) (scope : Scope) (tex
 went_same plan commands scope text told told' taken taken' taken'' station same w =
     went_kept plan commands scope text told told' taken taken' taken'' station (subst (λ (t : Option (List ℕ)). Keeps taken' t) (sym same) (Keeps-refl taken')) w
 
--- where the records couldn't be made to last, and the connection was closed, the run is `LeftAt`
+-- where the records couldn't be made to last, and the connection was closed, the run ended as `LeftAt` says
 pub went_left : (plan : Plan) (commands : List Task) (scope : Scope) (text : Record → List ℕ) (told told' told'' : Option (List Act)) (taken taken' : Option (List ℕ)) (station : Station)
     → Went plan commands scope text told told' taken taken' station → Tells told' told'' (Closed ∷ []) → LeftAt plan commands scope text told told'' taken taken'
 went_left plan commands scope text told told' told'' taken taken' station w closed = record {
@@ -164,17 +167,17 @@ went_left plan commands scope text told told' told'' taken taken' station w clos
   took = w.took;
 }
 
--- the model behind two lists of acts is the one behind the second, from the one behind the first on
+-- the model after two lists of acts is the one after the second, from the one after the first on
 pub after_all-append : (plan : Plan) (commands : List Task) (s : Model) (xs ys : List Act) → after_all plan commands s (xs ++ ys) ≡ after_all plan commands (after_all plan commands s xs) ys
 after_all-append plan commands s [] ys = refl
 after_all-append plan commands s (x ∷ xs) ys = after_all-append plan commands (after plan commands s x) xs ys
 
--- the acts behind the first of a run are a run from there on
+-- the acts after the first of a run are a run from there on
 pub runs_behind : (plan : Plan) (commands : List Task) (s : Model) (xs ys : List Act) → Runs plan commands s (xs ++ ys) → Runs plan commands (after_all plan commands s xs) ys
 runs_behind plan commands s [] ys runs = runs
 runs_behind plan commands s (x ∷ xs) ys runs = runs_behind plan commands (after plan commands s x) xs ys runs.1
 
--- acts that are a run, and others that are a run behind them, are a run together
+-- acts that are a run, and others that are a run after them, are a run together
 pub runs-append : (plan : Plan) (commands : List Task) (s : Model) (xs ys : List Act) → Runs plan commands s xs → Runs plan commands (after_all plan commands s xs) ys → Runs plan commands s (xs ++ ys)
 runs-append plan commands s [] ys p q = q
 runs-append plan commands s (x ∷ xs) ys p q = (p.0, runs-append plan commands (after plan commands s x) xs ys p.1 q)
@@ -201,7 +204,7 @@ went_on plan commands scope text told told' told'' taken taken' taken'' station 
       took = rw (whole, ← is) took;
     }
 
--- where the book failed at a record of the last act, and the connection was closed, the run is `BrokeAt`
+-- where the book failed at a record of the last act, and the connection was closed, the run ended as `BrokeAt` says
 pub went_wrong : (plan : Plan) (commands : List Task) (scope : Scope) (text : Record → List ℕ) (told told' told'' told''' : Option (List Act))
     (taken taken' taken'' : Option (List ℕ)) (station : Station) (action : Action)
     → (w : Went plan commands scope text told told' taken taken' station)
@@ -224,16 +227,16 @@ went_wrong plan commands scope text told told' told'' told''' taken taken' taken
       took = rw (whole, ← is) took;
     }
 
--- an act leaves no more commands unsent than there are, and less to be done than before
+-- an act leaves no more commands unsent than there are, and less to be done than before (`left_to_do`), so that a run ends
 pub record IsNearer (commands : List Task) (from to : Progress) : Type 0 where
   pub within : to.unsent ≤ length commands
   pub less : left_to_do to < left_to_do from
 
--- a station is as some model says, whatever replies say
+-- a station stands for some model (`Refines`)
 abbrev pub Somewhere : Station → Type 0
 Somewhere station = (s : Model) × Refines station s
 
--- a turn leads a station that is as some model says to another one
+-- a turn leads a station that stands for some model to one that stands for some model
 pub somewhere_on : (plan : Plan) (commands : List Task) (text : Record → List ℕ) (told told' : Option (List Act)) (taken taken' : Option (List ℕ)) (station new : Station) (action : Action)
     → Makes commands action (stepped plan commands action) (seen told text taken station) (seen told' text taken' new) → Somewhere station → Somewhere new
 somewhere_on plan commands text told told' taken taken' station new action makes some =
@@ -262,7 +265,7 @@ went_nearer plan commands text told told' taken taken' station new action is som
           (sym some.1.progress) (less_stepped plan commands s w makes.act obeys));
     }
 
--- a run that ends with no fault is done
+-- a run that stops for a cause without a fault is done
 pub none_done : (why : Cause) → fault_of why ≡ None → why ≡ causes.Done
 none_done causes.Done e = refl
 none_done why e = cc

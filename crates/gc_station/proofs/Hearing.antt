@@ -1,4 +1,9 @@
--- A piece on the way: what hearing what is left of it comes to.
+-- Hearing a piece frame by frame: to hear what is left of it comes to the same as to hear the whole piece. And what a station
+-- writes down of the settlements of a line. An act is one call of the link, with what came of it. A book had taken `start`
+-- before the records of the model, and has taken `taken` (and later `taken'`) with them; `text` is how a record is written.
+-- `left` is what is not heard yet of the piece, `rest` the bytes since the last line feed. A piece is the bytes that one read
+-- gave, and a frame what a line feed ends. `Refines station s`: the station stands for the model s. `Hearing` and `Asking` say
+-- how far a piece was heard, once the station has begun and while it begins.
 use Rattle.std.proofs.Common.{◌≡◌, ℕ, zero, suc, ◌+◌, ◌-◌, List, [], ◌∷◌, ◌++◌, Bool, true, false, length, drop, map, Option, Some, None, Result, Ok, Err, OnOk, refl, sym, ap, ◌∙◌, subst, append_assoc, length-drop, arith}
 use Rattle.std.specs.List.{filter_map}
 use Rattle.std.specs.Option.{option_to_list}
@@ -46,14 +51,14 @@ lines_split (Line line) later = refl
 lines_split Cleared later = refl
 lines_split Overlong later = refl
 
--- a frame that is lent and is no line has none
+-- a frame that isn't a line gives no line to be heard
 pub no_line : (frame : Lent) → ((line : _) → frame ≡ lent.Line line → ⊥) → line_in (lent_seen frame) ≡ None
 no_line (lent.Line line) never = absurd (never line refl)
 no_line lent.Cleared never = refl
 no_line lent.Overlong never = refl
 no_line lent.More never = refl
 
--- the model behind two lists of lines is the one behind the second, from the one behind the first on
+-- the model after two lists of lines is the one after the second, from the one after the first on
 pub lines_came-append : (s : Model) (xs ys : List (List ℕ)) → lines_came s (xs ++ ys) ≡ lines_came (lines_came s xs) ys
 lines_came-append s [] ys = refl
 lines_came-append s (x ∷ xs) ys = lines_came-append (line_came s x) xs ys
@@ -63,7 +68,8 @@ pub lines_rest : (s : Model) (rest : List ℕ) (lines : List (List ℕ)) → lin
 lines_rest s rest [] = refl
 lines_rest s rest (line ∷ others) = lines_rest (line_came s line) rest others
 
--- once some of a piece was heard: hearing what is left of it comes to what hearing the whole piece comes to
+-- a station that has heard a piece but for `left`, and is as the model `now`: hearing what is left comes to what hearing the
+-- whole piece from the model s comes to
 pub record Hearing (text : Record → List ℕ) (start taken : Option (List ℕ)) (station : Station) (s : Model) (piece left : List ℕ) : Type 0 where
   pub now : Model
   pub stands : Refines station now
@@ -84,6 +90,7 @@ frame_first s left later rest frame seen rests =
     ∙ lines_came-append (with_rest end s) line (lines_behind rest later)
     ∙ ap (λ x. lines_came x (lines_behind rest later)) (lines_rest (with_rest rest s) end line)
     ∙ sym (ap (λ r. lines_came (with_rest (rest_behind r later) (lines_came (with_rest rest s) line)) (lines_behind r later)) (rest_kept rest line)) where
+      -- lines that are heard leave the bytes since the last line feed
       rest_kept : (rest : List ℕ) (line : List (List ℕ)) → (lines_came (with_rest rest s) line).rest ≡ rest
       rest_kept rest line = ap (λ (x : Model). x.rest) (lines_rest s rest line)
 
@@ -115,7 +122,7 @@ hearing_part text start taken taken' station s piece left used frame kept h t pa
     part_grew text s.records h.now.records (piece_came piece s).records start taken' h.grown
     (subst (λ (x : Model). WritesPart text h.now.records x.records start taken') whole all)
 
--- where nothing is left of the piece, the station is as the model behind the whole piece
+-- where nothing is left of the piece, the station is as the model after the whole piece
 pub hearing_end : (text : Record → List ℕ) (start taken : Option (List ℕ)) (station : Station) (s : Model) (piece : List ℕ)
     → Hearing text start taken station s piece []
     → Refines station (piece_came piece s) × Took text start taken (piece_came piece s)
@@ -124,7 +131,7 @@ hearing_end text start taken station s piece h = (
   subst (λ (x : Model). Took text start taken x) h.goes h.wrote,
 )
 
--- a station with another assembler is as the model with the bytes that this one keeps
+-- a station with this assembler in place of its own is as the model with the bytes that this assembler keeps
 pub with_kept : (station : Station) (kept : Kept) (rest : List ℕ) (s : Model) → Refines station s → StandsFor kept rest → Refines (record station { assembler = kept }) (with_rest rest s)
 with_kept station kept rest s stands is = record {
   progress = stands.progress;
@@ -137,19 +144,20 @@ with_kept station kept rest s stands is = record {
   well = stands.well;
 }
 
--- How many are settled, and how many marks go: as many.
+-- As many marks are taken out as requests are settled.
 
--- settling up to place k leaves k + 1 requests fewer
+-- where a reply is of the request at place k, it settles k + 1 requests
 settle_less : (k : ℕ) (line : List ℕ) (ps : List Pending) → length ps - length (settle k line ps) ≡ length ps - (k + 1)
 settle_less k line [] = omega arith
 settle_less zero line (p ∷ ps) = omega arith
 settle_less (suc k) line (p ∷ ps) = let more = settle_less k line ps in omega (arith, more)
 
--- each request that waits behind this has a mark, once as many marks were taken out as were settled
+-- each request that is left after these settlements has a mark, where `marks` are those before: as many of them go as there are
+-- settlements
 abbrev pub StayPaired : List (Option Mark) → Settled ById → Type 0
 StayPaired marks x = length (drop (length x.settlements) marks) ≡ length x.client.waiting
 
--- `StayPaired` is so behind a reply
+-- `StayPaired` holds after a line, whether it has the id of the request at place k (`b`) or no id that waits
 settled_paired : (marks : List (Option Mark)) (c : ById) (line : List ℕ) (k : ℕ) (b : Bool) → length marks ≡ length c.waiting → StayPaired marks (id_settled c line k b)
 settled_paired marks c line k true is =
     let less = settle_less k line c.waiting in
@@ -158,19 +166,20 @@ settled_paired marks c line k true is =
     omega (arith, is, less, left, right)
 settled_paired marks c line k false is = is
 
--- `StayPaired` is so behind a line
+-- `StayPaired` holds after any line
 pub hears_paired : (marks : List (Option Mark)) (c : ById) (line : List ℕ) (id : Option ℕ) → length marks ≡ length c.waiting → StayPaired marks (hears c line id)
 hears_paired marks c line None is = is
 hears_paired marks c line (Some id) is = settled_paired marks c line (place_in c id) _ is
 
--- `StayPaired` is so behind a restart
+-- `StayPaired` holds after a restart
 pub restarts_paired : (marks : List (Option Mark)) (c : ById) → length marks ≡ length c.waiting → StayPaired marks (restarts c)
 restarts_paired marks c is =
     let many = length-map c.waiting lost in
     let left = length-drop (length (map lost c.waiting)) marks in
     omega (arith, is, many, left)
 
--- a station whose client has settled requests, and which has written none of their records yet: all else is as before
+-- a station (`mid`) whose client has settled requests, so that it is at `ids`, and which has written none of their records yet:
+-- all else is as before (`old`)
 pub record Between (old mid : Station) (ids : ById) : Type 0 where
   pub ids_are : mid.client.ids ≡ ids
   pub width : mid.client.width ≡ old.client.width
@@ -180,7 +189,7 @@ pub record Between (old mid : Station) (ids : ById) : Type 0 where
   pub tally : mid.tally ≡ old.tally
   pub well : mid.well ≡ old.well
 
--- the records that a station between the two writes are those of the model
+-- the records that a station is to write (`Between`) are those that the model has for these settlements
 records_same : (old mid : Station) (s : Model) (ids : ById) (xs ys : List Settlement) → Refines old s → Between old mid ids → xs ≡ ys
     → records_of s.reads mid.progress.moment.utc mid.marks.items xs ≡ records_of s.reads s.progress.moment.utc s.marks ys
 records_same old mid s ids xs ys stands between e =
@@ -188,15 +197,15 @@ records_same old mid s ids xs ys stands between e =
     ∙ ap (λ (ms : List (Option Mark)). records_of s.reads s.progress.moment.utc ms xs) (ap (λ ms. ms.items) between.marks ∙ stands.marks)
     ∙ ap (records_of s.reads s.progress.moment.utc s.marks) e
 
--- how a station's tally counts these settlements
+-- between these two stations the tally counts the records of these settlements
 abbrev pub Counts : Station → Station → List Settlement → Type 0
 Counts mid new xs = (reads : Call → List ℕ → Reading) → AreReadings reads → new.tally ≡ tallied mid.tally (records_of reads mid.progress.moment.utc mid.marks.items xs)
 
--- how a station minds whether the last of these settlements' commands was answered well
+-- between these two stations `well` becomes whether the last command of these settlements was answered well
 abbrev pub Minds : Station → Station → List Settlement → Type 0
-Minds mid new xs = (reads : Call → List ℕ → Reading) → AreReadings reads → new.well ≡ last_well reads mid.well (records_of reads mid.progress.moment.utc mid.marks.items xs)
+Minds mid new xs = (reads : Call → List ℕ → Reading) → AreReadings reads → new.well ≡ last_well mid.well (records_of reads mid.progress.moment.utc mid.marks.items xs)
 
--- where the records of settlements were written, the station is as the model behind them
+-- where the records of settlements were written, the station is as the model after them
 pub settles_ok : (text : Record → List ℕ) (old mid new : Station) (s : Model) (x : Settled ById) (xs : List Settlement) (n : ℕ) (start taken' : Option (List ℕ))
     → Refines old s → Between old mid x.client → xs ≡ x.settlements → n ≡ length x.settlements → StayPaired s.marks x
     → (AreReadings s.reads → Appends start taken' (texts_of text (s.records ++ records_of s.reads mid.progress.moment.utc mid.marks.items xs)))
@@ -215,13 +224,13 @@ settles_ok text old mid new s x xs n start taken' stands between e many paired w
         assembles = subst (λ (k : Kept). StandsFor k s.rest) (sym (ap (λ (n : Station). n.assembler) is ∙ between.assembler)) stands.assembles;
         tally = λ are. counts s.reads are ∙ ap (λ t. tallied t added) (between.tally ∙ stands.tally are) ∙ sym (tallied-append none_yet s.records added)
             ∙ ap (λ rs. tallied none_yet (s.records ++ rs)) records;
-        well = λ are. minds s.reads are ∙ ap (λ b. last_well s.reads b added) (between.well ∙ stands.well are)
-            ∙ sym (last-append s.reads false s.records added) ∙ ap (λ rs. last_well s.reads false (s.records ++ rs)) records;
+        well = λ are. minds s.reads are ∙ ap (λ b. last_well b added) (between.well ∙ stands.well are)
+            ∙ sym (last-append false s.records added) ∙ ap (λ rs. last_well false (s.records ++ rs)) records;
       },
       λ are. subst (λ (rs : List Record). Appends start taken' (texts_of text (s.records ++ rs))) records (wrote are),
     )
 
--- where the book failed at the records of settlements, it took a part of the model's records
+-- where the book failed at a record of settlements, it took the model's earlier records and a part of the others
 pub settles_part : (text : Record → List ℕ) (old mid : Station) (s : Model) (x : Settled ById) (xs : List Settlement) (start taken' : Option (List ℕ))
     → Refines old s → Between old mid x.client → xs ≡ x.settlements
     → (AreReadings s.reads → WritesPart text s.records (s.records ++ records_of s.reads mid.progress.moment.utc mid.marks.items xs) start taken')
@@ -229,7 +238,7 @@ pub settles_part : (text : Record → List ℕ) (old mid : Station) (s : Model) 
 settles_part text old mid s x xs start taken' stands between e wrote are =
     subst (λ (rs : List Record). WritesPart text s.records (s.records ++ rs) start taken') (records_same old mid s x.client xs x.settlements stands between e) (wrote are)
 
--- the records of settlements were written, or the book failed at them
+-- where the records of settlements were written the station is as the model after them; or the book failed at one of them
 pub settles_either : {X E : Type 0} (text : Record → List ℕ) (old mid new : Station) (s : Model) (x : Settled ById) (xs : List Settlement) (n : ℕ)
     (start taken' : Option (List ℕ)) (result : Result X E)
     → Refines old s → Between old mid x.client → xs ≡ x.settlements → n ≡ length x.settlements → StayPaired s.marks x
@@ -241,14 +250,14 @@ settles_either text old mid new s x xs n start taken' (Ok r) stands between e ma
     settles_ok text old mid new s x xs n start taken' stands between e many paired wrote is counts minds
 settles_either text old mid new s x xs n start taken' (Err r) stands between e many paired wrote is counts minds = settles_part text old mid s x xs start taken' stands between e wrote
 
--- a link told acts, and then others: so it told all of them
+-- a link that told the acts `xs` and then the acts `ys` told `xs ++ ys`
 pub tells_more : (a b c : Option (List Act)) (xs ys : List Act) → Tells a b xs → Tells b c ys → Tells a c (xs ++ ys)
 tells_more None b c xs ys p q = tt
 tells_more (Some a) None c xs ys p q = absurd p
 tells_more (Some a) (Some b) None xs ys p q = absurd q
 tells_more (Some a) (Some b) (Some c) xs ys p q = q ∙ ap (λ zs. zs ++ ys) p ∙ append_assoc a xs ys
 
--- a station that noted a line is as the model that noted it
+-- a station that noted whether a line was a reply is as the model that noted it
 pub with_noted : (mid : Station) (p : Progress) (b b' : Bool) (s : Model) → Refines mid s → b ≡ b' → p ≡ noted b mid.progress → Refines (record mid { progress = p }) (with_progress (noted b') s)
 with_noted mid p b b' s stands e is = record {
   progress = is ∙ ap (λ t. noted t mid.progress) e ∙ ap (noted b') stands.progress;
@@ -276,40 +285,43 @@ stands_expired station p q client m s stands e is = record {
   well = stands.well;
 }
 
--- as many requests of a station wait as of its model
+-- as many requests wait at a station as in its model
 pub all_same : (station : Station) (s : Model) → Refines station s → (waiting_in station).all ≡ (waiting_of s).all
 all_same station s stands = ap (λ (c : ById). length c.waiting) stands.ids
 
--- as many commands of a station wait as of its model
+-- as many commands wait at a station as in its model
 pub commands_same : (station : Station) (s : Model) → Refines station s → (waiting_in station).commands ≡ (waiting_of s).commands
 commands_same station s stands = ap commands_in stands.marks
 
--- equal progresses, where as many requests wait, are equal once a piece was counted
+-- what a piece settled is counted alike from equal progresses, where as many requests and commands wait
 pub reckoned_same : (plan : Plan) (until : Until) (b b' : ℕ) (w w' : Waiting) (p p' : Progress) → b ≡ b' → w.all ≡ w'.all → w.commands ≡ w'.commands → p ≡ p'
     → reckoned_early plan w.commands (gave plan until b w p) ≡ reckoned_early plan w'.commands (gave plan until b' w' p')
 reckoned_same plan until b b' w w' p p' eb ea ec ep =
     ap (λ x. early x w.all w.commands p) eb ∙ ap (λ x. early b' x w.commands p) ea ∙ ap (λ x. early b' w'.all x p) ec ∙ ap (λ x. early b' w'.all w'.commands x) ep where
+      -- the progress once what a piece settled was counted, by how many commands waited before the piece, and how many requests
+      -- and commands wait after it
       early : ℕ → ℕ → ℕ → Progress → Progress
       early before all commands p = reckoned_early plan commands (gave plan until before (record { all = all; current = 0; commands = commands; well = false }) p)
 
--- equal progresses, where as many commands wait, are equal behind a close
+-- a close makes equal progresses of equal ones, where as many commands wait
 pub closed_same : (plan : Plan) (w w' : Waiting) (why : Cause) (p p' : Progress) → w.commands ≡ w'.commands → p ≡ p' → closed plan w why p ≡ closed plan w' why p'
 closed_same plan w w' why p p' ec ep = kept why ∙ ap (closed plan w' why) ep where
+  -- the lemma above, for one progress
   kept : (why : Cause) → closed plan w why p ≡ closed plan w' why p
   kept cause.Done = refl
   kept cause.Clock = refl
   kept cause.Turns = refl
   kept why = ap (λ n. again plan n why p) ec
 
--- While it begins.
+-- While the station begins.
 
--- the progress behind two lists of lines is the one behind the second, from the one behind the first on
+-- the progress after two lists of lines is the one after the second, from the one after the first on
 pub lines_asked-append : (p : Progress) (xs ys : List (List ℕ)) → lines_asked p (xs ++ ys) ≡ lines_asked (lines_asked p xs) ys
 lines_asked-append p [] ys = refl
 lines_asked-append p (x ∷ xs) ys = lines_asked-append (line_asked p x) xs ys
 
--- once some of a piece was heard while the station begins: hearing what is left of it comes to what hearing the whole piece
--- comes to
+-- a station that has heard a piece but for `left` while it begins, and is as the model `now`: hearing what is left comes to what
+-- hearing the whole piece from the model s comes to
 pub record Asking (station : Station) (s : Model) (piece left : List ℕ) : Type 0 where
   pub now : Model
   pub stands : Refines station now
@@ -325,6 +337,7 @@ asked_first s left later rest frame seen rests =
     ap (λ r. shown r (lines_asked s.progress (lines_behind s.rest left))) rests
     ∙ ap (λ xs. shown (rest_behind rest later) (lines_asked s.progress xs)) lines
     ∙ ap (shown (rest_behind rest later)) (lines_asked-append s.progress line (lines_behind rest later)) where
+      -- the model s with these bytes kept of a line, and this progress
       shown : List ℕ → Progress → Model
       shown r p = record s { rest = r; progress = p }
 
@@ -353,12 +366,12 @@ asking_on station station' s piece left used frame kept h t is =
       goes = sym (asked_first h.now left (drop used left) t.now frame t.seen t.rests) ∙ h.goes;
     }
 
--- where ids of the beginning are left, a piece that is heard is heard by the beginning
+-- where null procedures of the beginning are left unanswered, the beginning hears a piece that is heard
 pub came_asked : (word piece : List ℕ) (s : Model) → is_none_left word ≡ false → came true word piece s ≡ piece_asked piece s
 came_asked [] piece s e = cc
 came_asked (asked ∷ others) piece s e = refl
 
--- where no ids of the beginning are left, a piece that is heard is heard by the client
+-- where none is left unanswered, the client hears a piece that is heard
 pub came_begun : (word piece : List ℕ) (s : Model) → is_none_left word ≡ true → came true word piece s ≡ piece_came piece s
 came_begun [] piece s e = refl
 came_begun (asked ∷ others) piece s e = cc

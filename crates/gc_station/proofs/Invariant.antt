@@ -1,4 +1,4 @@
--- What every run keeps: the records and the requests that wait are the commands that were sent, whatever the link tells.
+-- What every run keeps, after each of its acts, whatever the link tells.
 use Rattle.std.proofs.Common.{◌≡◌, ◌<◌, ◌≤◌, Bool, true, false, List, [], length}
 use Rattle.gc_client.specs.Rule.{fresh}
 use Rattle.gc_texts.specs.declared.tasks.Task.{Task}
@@ -34,7 +34,9 @@ says_done (Closing why) = is_done why
 says_done (Over why) = is_done why
 says_done _ = false
 
--- what every run keeps
+-- what every run keeps: the counts lie within the plan and the commands; each request that waits has a mark, at most seven
+-- wait, and the next id is below 8; no bytes of a line are kept in a phase that `is_bare`; where the run is over nothing waits,
+-- and where it is done nothing is left; and each command had its turn once, in order
 pub record Invariant (plan : Plan) (commands : List Task) (s : Model) : Type 0 where
   pub unsent : s.progress.unsent ≤ length commands
   pub left : s.progress.left ≤ plan.cycles

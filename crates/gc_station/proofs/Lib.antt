@@ -41,7 +41,6 @@ mod Used
 mod Waiting
 mod Walk
 pub mod Words
-pub mod Ended
 pub mod Asked
 pub mod SentAt
 pub mod Linking
@@ -53,4 +52,5 @@ mod Due
 mod Cycles
 mod Unsent
 mod Pauses
-mod Nearly
+mod Qualified
+pub mod Nearly

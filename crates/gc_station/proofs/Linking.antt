@@ -1,4 +1,7 @@
--- Chains by the parts of a run.
+-- Chains by the parts of a run (a part reaches from one beginning to the next): of two commands that go out, the later one has
+-- a later place or cycle; and the commands of a chain are requests of one part. An act is one call of the link, with what came
+-- of it. A mark says which command a request is of, or `None` of a null procedure. Places, parts and requests count from 0.
+-- `Back` says of an earlier command that it went out, was answered well, and is of the part that still goes on.
 use Rattle.std.proofs.Common.{◌≡◌, ◌⊎◌, inl, inr, ℕ, zero, suc, ◌+◌, ◌-◌, ◌<◌, ◌≤◌, ◌&&◌, ◌||◌, Bool, true, false, not, List, [], ◌∷◌, ◌++◌, length, drop, Option, Some, nat_eq, if◌then◌else◌, refl, sym, ◌∙◌, ap, subst, arith, append_assoc}
 use Rattle.std.specs.Prelude.{slice_get, unwrap_or}
 use Rattle.std.proofs.lemmas.List.{length-append, length-drop}
@@ -14,15 +17,17 @@ use Rattle.gc_station.specs.Chains.{IsLinked}
 use Rattle.gc_station.specs.Deciding.{has_begun, is_up}
 use Rattle.gc_station.specs.EachOnce.{IsFurther}
 use Rattle.gc_station.specs.Links.{AreChained, IsBefore, IsAnsweredBack, ChainsStay, MarksGoOn, parts}
-use Rattle.gc_station.specs.Marks.{is_value}
 use Rattle.gc_station.specs.Parts.{Part, nothing, joined, asking_first, doing, beginning, acting, ends_part, in_front, parts_of, mark_of}
 use Rattle.gc_station.specs.Progressing.{begun, is_over, is_over_in}
 use Rattle.gc_station.specs.Reasons.{IsFor}
 use Rattle.gc_station.specs.Records.{Record}
 use Rattle.gc_station.specs.Runs.{stood}
 use Rattle.gc_station.specs.Scopes.{Scope}
-use Rattle.gc_station.specs.Model.{Model, Performs, Puts, Runs, opening, action_at, waiting_of, place_next, cycles_begun, near_first, mark_next, first_text, after, after_all}
+use Rattle.gc_station.specs.Qualities.{IsOfQuality, accepted_at}
+use Rattle.gc_station.specs.Model.{Model, Performs, Puts, Runs, opening, action_at, waiting_of, place_next, cycles_begun, expected_first, mark_next, first_text, after, after_all}
 use Rattle.gc_texts.specs.Endings.{Answered}
+use Rattle.gc_texts.specs.Qualities.{is_good}
+use Rattle.gc_texts.specs.declared.quality.Quality.{Quality}
 use Rattle.gc_catalogue.specs.declared.answer.Answer.{Answer}
 use Rattle.gc_station.proofs.Chaining.{StaysBegun, chain_whole}
 use Rattle.gc_station.proofs.EachRun.{fine_stood}
@@ -34,14 +39,15 @@ use Rattle.gc_station.proofs.SentAt.{some_is, none_is_not, get_behind, fronts, r
 
 -- The parts of a front of acts.
 
--- these parts are the first of those, where the last one may go on in others
+-- the first parts are the front of the second ones: as many or fewer, and the last of them has no more requests than its
+-- counterpart, in which it may go on
 abbrev IsFront : List Part → List Part → Type 0
 IsFront [] qs = ⊥
 IsFront (p ∷ ps) [] = ⊥
 IsFront (p ∷ []) (q ∷ qs) = length p.marks ≤ length q.marks
 IsFront (p ∷ next ∷ ps) (q ∷ qs) = IsFront (next ∷ ps) qs
 
--- the parts behind one act more are still a front, if they were before it
+-- with one act more in front of both, parts that are a front of others still are
 front_more : (p : Part) (b : Bool) (ps qs : List Part) → IsFront ps qs → IsFront (in_front p b ps) (in_front p b qs)
 front_more p b [] qs h = absurd h
 front_more p true (x ∷ ps) [] h = absurd h
@@ -53,7 +59,7 @@ front_more p false (x ∷ []) (y ∷ qs) h =
     omega (arith, a, b, h)
 front_more p false (x ∷ next ∷ ps) (y ∷ qs) h = h
 
--- the part in which nothing happens is a front of any parts
+-- the part in which nothing happens is a front of any parts to which an act was added
 front_none : (p : Part) (b : Bool) (ps : List Part) → IsFront (nothing ∷ []) (in_front p b ps)
 front_none p true ps = omega arith
 front_none p false [] = omega arith
@@ -68,7 +74,8 @@ front_parts plan commands s (act ∷ xs) ys =
     (parts_of plan commands (after plan commands s act) (xs ++ ys))
     (front_parts plan commands (after plan commands s act) xs ys)
 
--- the last part of a front is an earlier part of the whole, or the same with fewer requests or as many
+-- the last part of a front, at place j, comes before the last part of the whole, at place i; or it is the same one, with no more
+-- requests
 front_last : (ps qs : List Part) (j i : ℕ) (p q : Part) → IsFront ps qs → length ps ≡ suc j → length qs ≡ suc i → slice_get ps j ≡ Some p
     → slice_get qs i ≡ Some q → (j < i) ⊎ ((j ≡ i) × (length p.marks ≤ length q.marks))
 front_last [] qs j i p q h a b e f = absurd h
@@ -91,7 +98,7 @@ front_last (x ∷ next ∷ ps) (y ∷ z ∷ qs) (suc j) (suc i) p q h a b e f =
 
 -- The commands go on.
 
--- what comes before something else doesn't come behind it
+-- if the pair (i, m) comes before the pair (j, n), then (j, n) neither comes before (i, m) nor equals it
 apart : (i j m n : ℕ) → IsBefore i m j n → (j < i) ⊎ ((j ≡ i) × (n ≤ m)) → ⊥
 apart i j m n (inl l) (inl k) = omega (arith, l, k)
 apart i j m n (inl l) (inr k) = let same : j ≡ i = k.0 in omega (arith, l, same)
@@ -99,14 +106,14 @@ apart i j m n (inr l) (inl k) = let same : i ≡ j = l.0 in omega (arith, same, 
 apart i j m n (inr l) (inr k) = let less : m < n = l.1 in let le : n ≤ m = k.1 in omega (arith, less, le)
 
 module _ (plan : Plan) (commands : List Task) (scope : Scope) where
-  -- behind a send, and further acts, the station is further than before it
+  -- after a send, and at least one act, the station is further than before it
   further_on : (xs ys more : List Act) → action_at plan (stood plan commands scope xs) ≡ Send → ys ≡ xs ++ more → (more ≡ [] → ⊥)
       → IsFurther plan commands (stood plan commands scope xs) (stood plan commands scope ys)
   further_on xs ys [] sends e some = absurd (some refl)
   further_on xs ys (act ∷ more) sends e some =
       subst (λ l. IsFurther plan commands (stood plan commands scope xs) (stood plan commands scope l)) (sym e) (send_goes_on plan commands scope xs more act sends)
 
-  -- of two commands that went out, the one that went out first, in the order of parts and requests, is of an earlier place or cycle
+  -- of two commands that went out (x before y, in the order of parts and requests), the second one is of a later place or cycle
   further_than : (acts : List Act) (i j m n : ℕ) (a b : Mark) → IsBefore i m j n → (x : SentAt plan commands (opening plan scope) acts i m a)
       → (y : SentAt plan commands (opening plan scope) acts j n b)
       → IsFurther plan commands (stood plan commands scope x.before) (stood plan commands scope y.before)
@@ -116,10 +123,12 @@ module _ (plan : Plan) (commands : List Task) (scope : Scope) where
         | inr h ↦ absurd (behind h.0 h.1)
       ]
     where
+      -- nothing appended changes no list
       nil : (xs : List Act) → xs ++ [] ≡ xs
       nil [] = refl
       nil (z ∷ xs) = ap (λ ys. z ∷ ys) (nil xs)
 
+      -- the first command doesn't go out after the second one
       behind : (more : List Act) → x.before ≡ y.before ++ more → ⊥
       behind more e =
           let front = subst (λ l. IsFront (parts_of plan commands (opening plan scope) y.before) (parts_of plan commands (opening plan scope) l)) (sym e)
@@ -133,6 +142,7 @@ module _ (plan : Plan) (commands : List Task) (scope : Scope) where
             | inr k ↦ (let le : length y.first.marks ≤ length x.first.marks = k.1 in inr (k.0, omega (arith, le, counts_x, counts_y)))
           ])
 
+-- the law: of two commands that go out, the later one is of a later place in its cycle, or of a later cycle
 pub marks_go_on : MarksGoOn
 marks_go_on plan commands scope acts runs i j m n p q a b e f g h l =
     let x = sent_at plan commands (opening plan scope) acts i m p a e g in
@@ -141,26 +151,27 @@ marks_go_on plan commands scope acts runs i j m n p q a b e f g h l =
     subst (λ (u : Mark). IsBefore u.cycle u.place b.cycle b.place) (sym x.is)
     (subst (λ (u : Mark). IsBefore at_x.cycle at_x.place u.cycle u.place) (sym y.is) (further_than plan commands scope acts i j m n a b l x y))
 
--- While it doesn't begin anew all of it is of one part.
+-- While a station doesn't begin anew, all its acts are of one part.
 
 -- the first acts of a run are a run
 runs_front : (plan : Plan) (commands : List Task) (s : Model) (xs ys : List Act) → Runs plan commands s (xs ++ ys) → Runs plan commands s xs
 runs_front plan commands s [] ys h = tt
 runs_front plan commands s (act ∷ xs) ys h = (h.0, runs_front plan commands (after plan commands s act) xs ys h.1)
 
--- where acts go on, the run isn't over before them
+-- where a run isn't over after acts, it isn't before them, as no act follows a run that is over
 goes_on : (plan : Plan) (commands : List Task) (u : Model) (acts : List Act) (b : Bool) → is_over u.progress ≡ b → Runs plan commands u acts
     → is_over (after_all plan commands u acts).progress ≡ false → is_over u.progress ≡ false
 goes_on plan commands u acts false e runs end = e
 goes_on plan commands u [] true e runs end = end
 goes_on plan commands u (act ∷ acts) true e runs end = absurd (over_stays plan commands u act e runs.0)
 
+-- where the station has begun after an act, and the run isn't over, the act ends no part
 neither : (begun later over : Bool) → later ≡ true → over ≡ false → (begun && (not later || over)) ≡ false
 neither true true over a o = o
 neither true false over a o = cc
 neither false later over a o = refl
 
--- acts behind each of which the station has begun are one part, if the run isn't over
+-- acts after each of which the station has begun are one part, if the run isn't over
 single : (plan : Plan) (commands : List Task) (s : Model) (acts : List Act) → Runs plan commands s acts → StaysBegun plan commands s acts
     → is_over (after_all plan commands s acts).progress ≡ false → length (parts_of plan commands s acts) ≡ 1
 single plan commands s [] runs keeps end = refl
@@ -171,6 +182,7 @@ single plan commands s (act ∷ acts) runs keeps end =
     let ends : ends_part plan commands s act ≡ false = neither (has_begun s.progress) (has_begun u.progress) (is_over u.progress) keeps.0 over in
     subst (λ b. length (in_front p b (parts_of plan commands u acts)) ≡ 1) (sym ends) (joined_length p (parts_of plan commands u acts) 0 (single plan commands u acts runs.1 keeps.1 end))
 
+-- lists of as many parts stay so with one act more in front of both
 front_length : (p : Part) (b : Bool) (ps qs : List Part) → length ps ≡ length qs → length (in_front p b ps) ≡ length (in_front p b qs)
 front_length p true ps qs e = ap suc e
 front_length p false [] [] e = refl
@@ -178,7 +190,7 @@ front_length p false [] (y ∷ qs) e = absurd (omega (arith, e))
 front_length p false (x ∷ ps) [] e = absurd (omega (arith, e))
 front_length p false (x ∷ ps) (y ∷ qs) e = e
 
--- acts that are one part go on in the last part of the acts before
+-- acts that are one part add no part to those of the acts before them: they go on in the last one
 parts_more : (plan : Plan) (commands : List Task) (s : Model) (xs ys : List Act) → length (parts_of plan commands (after_all plan commands s xs) ys) ≡ 1
     → length (parts_of plan commands s (xs ++ ys)) ≡ length (parts_of plan commands s xs)
 parts_more plan commands s [] ys one = one
@@ -187,6 +199,7 @@ parts_more plan commands s (act ∷ xs) ys one =
     (parts_of plan commands (after plan commands s act) (xs ++ ys)) (parts_of plan commands (after plan commands s act) xs)
     (parts_more plan commands (after plan commands s act) xs ys one)
 
+-- in the phase `Ready` the run isn't over
 over_ready : (p : Progress) → p.phase ≡ phase.Ready → is_over p ≡ false
 over_ready p is = ap (λ at. is_over_in at || (not (is_up at) && nat_eq p.turns 0)) is
 
@@ -199,7 +212,7 @@ puts_text : (commands : List Task) (plan : Plan) (s : Model) (act : Act) → act
     → Puts (first_text s.client (drop (place_next commands s.progress) commands)) act
 puts_text commands plan s act is obeys = subst (λ (o : Action). Performs commands s o act) is obeys
 
--- a request and the acts behind it, in which the station doesn't begin anew, are of one part
+-- a request and the acts after it, in which the station doesn't begin anew, are of one part
 same_part : (plan : Plan) (commands : List Task) (scope : Scope) (before between : List Act) (request : Act)
     → Runs plan commands (opening plan scope) (before ++ request ∷ between) → action_at plan (stood plan commands scope before) ≡ Send
     → StaysBegun plan commands (stood plan commands scope before) (request ∷ between)
@@ -214,38 +227,40 @@ same_part plan commands scope before between request runs sends keeps next =
 
 -- The mark of a request.
 
--- the first of these commands goes out with its mark
+-- the part of the first of these commands, if there is one, has its mark
 asked_mark : (now : ℕ) (mark : Mark) (left : List Task) → 0 < length left → slice_get (asking_first now mark left).marks 0 ≡ Some (Some mark)
 asked_mark now mark [] some = absurd (omega (arith, some))
 asked_mark now mark (task ∷ others) some = refl
 
--- an act that puts bytes where a command is next has the mark of that command in its part
+-- the part of an act that puts bytes where a command is next has the mark of that command
 put_asks : (plan : Plan) (commands : List Task) (s : Model) (act : Act) (bytes : List ℕ) → Puts bytes act → has_begun s.progress ≡ true → 0 < length (drop (place_next commands s.progress) commands)
     → slice_get (acting plan commands s Send act).marks 0 ≡ Some (Some (mark_next plan commands s.progress))
 put_asks plan commands s act bytes puts begun some = subst (λ (b : Bool). slice_get
     (if b then doing plan commands s Send act else beginning s Send act).marks 0 ≡ Some (Some (mark_next plan commands s.progress))) (sym begun)
     (by_act act puts) where
+      -- the lemma above, by how the act puts the bytes: whole or in part
       by_act : (a : Act) → Puts bytes a → slice_get (doing plan commands s Send a).marks 0 ≡ Some (Some (mark_next plan commands s.progress))
       by_act (Put out) puts = asked_mark s.progress.moment.elapsed (mark_next plan commands s.progress) (drop (place_next commands s.progress) commands) some
       by_act (Cut out count) puts = asked_mark s.progress.moment.elapsed (mark_next plan commands s.progress) (drop (place_next commands s.progress) commands) some
       by_act a puts = absurd puts
 
--- part i of these has a request with this mark
+-- part i of these parts, counted from 0, has a request with this mark
 abbrev Has : List Part → ℕ → Mark → Type 0
 Has ps i mark = (part : Part) × (slice_get ps i ≡ Some part) × (m : ℕ) × (slice_get part.marks m ≡ Some (Some mark))
 
+-- what a list has at a place, it has there with others behind it
 in_more : {A : Type 0} (xs ys : List A) (i : ℕ) (x : A) → slice_get xs i ≡ Some x → slice_get (xs ++ ys) i ≡ Some x
 in_more [] ys i x e = absurd (none_is_not x e)
 in_more (y ∷ xs) ys zero x e = e
 in_more (y ∷ xs) ys (suc i) x e = in_more xs ys i x e
 
--- where a part has a mark first, the first of the parts with it in front has the mark
+-- where an act's part has a mark first, the first of the parts with the act in front has it
 first_has : (p : Part) (b : Bool) (ps : List Part) (mark : Mark) → slice_get p.marks 0 ≡ Some (Some mark) → Has (in_front p b ps) 0 mark
 first_has p true ps mark e = (p, refl, 0, e)
 first_has p false [] mark e = (p, refl, 0, e)
 first_has p false (q ∷ ps) mark e = (joined p q, refl, 0, in_more p.marks q.marks 0 (Some mark) e)
 
--- part i of these has the mark also where a part is joined to the first of them
+-- where part i has a mark, it has it with a part joined to the front of the first one
 on_has : (p : Part) (qs : List Part) (i : ℕ) (mark : Mark) → Has qs i mark → Has (in_front p false qs) i mark
 on_has p [] i mark h = absurd (none_is_not h.0 h.1)
 on_has p (y ∷ qs) zero mark h =
@@ -253,7 +268,8 @@ on_has p (y ∷ qs) zero mark h =
     (joined p y, refl, length p.marks + h.2, get_behind p.marks y.marks h.2 (length p.marks + h.2) (Some mark) refl (subst (λ (x : Part). slice_get x.marks h.2 ≡ Some (Some mark)) same h.3))
 on_has p (y ∷ qs) (suc i) mark h = h
 
--- where the last part has a mark, it has it with one part more in front
+-- `ps` are the parts of some first acts, and `qs` those of all acts. If the part of `qs` at the place of the last part of `ps`
+-- has a mark, it still has it with one act more, whose part is p, in front of both
 step_has : (p : Part) (b : Bool) (ps qs : List Part) (i k : ℕ) (mark : Mark) → length ps ≡ suc k → length (in_front p b ps) ≡ suc i
     → ((j : ℕ) → length ps ≡ suc j → Has qs j mark) → Has (in_front p b qs) i mark
 step_has p true ps qs zero k mark some size has = absurd (omega (arith, some, size))
@@ -261,13 +277,13 @@ step_has p true ps qs (suc i) k mark some size has = has i (omega (arith, size))
 step_has p false [] qs i k mark some size has = absurd (omega (arith, some))
 step_has p false (x ∷ ps) qs i k mark some size has = on_has p qs i mark (has i size)
 
--- parts with one more in front are some
+-- with an act in front there is at least one part
 front_some : (p : Part) (b : Bool) (ps : List Part) → (k : ℕ) × (length (in_front p b ps) ≡ suc k)
 front_some p true ps = (length ps, refl)
 front_some p false [] = (0, refl)
 front_some p false (q ∷ ps) = (length ps, refl)
 
--- the parts of acts are some
+-- acts have at least one part
 parts_some : (plan : Plan) (commands : List Task) (s : Model) (acts : List Act) → (k : ℕ) × (length (parts_of plan commands s acts) ≡ suc k)
 parts_some plan commands s [] = (0, refl)
 parts_some plan commands s (act ∷ acts) = front_some (acting plan commands s (action_at plan s) act) (ends_part plan commands s act) (parts_of plan commands (after plan commands s act) acts)
@@ -289,16 +305,17 @@ mark_there plan commands s (x ∷ start) act rest i size e =
 
 -- Back along a chain.
 
+-- a pair (c, p) of a cycle and a place doesn't come before an equal pair (d, q)
 not_further : (c p d q : ℕ) → IsBefore c p d q → c ≡ d → p ≡ q → ⊥
 not_further c p d q (inl l) e f = omega (arith, l, e)
 not_further c p d q (inr l) e f = let less : p < q = l.1 in omega (arith, less, f)
 
 module _ (plan : Plan) (commands : List Task) (scope : Scope) where
-  -- the model behind these acts
+  -- the model after these acts
   abbrev at : List Act → Model
   at acts = stood plan commands scope acts
 
-  -- a command goes out once: acts that end before the same send are the same acts
+  -- a command goes out once: two fronts of a run after which the same command is to go out are the same
   same_send : (acts xs us ys vs : List Act) → acts ≡ xs ++ us → acts ≡ ys ++ vs → action_at plan (at xs) ≡ Send → action_at plan (at ys) ≡ Send
       → cycles_begun plan (at xs).progress ≡ cycles_begun plan (at ys).progress → place_next commands (at xs).progress ≡ place_next commands (at ys).progress → xs ≡ ys
   same_send acts xs us ys vs e f go_x go_y cycle place =
@@ -307,10 +324,12 @@ module _ (plan : Plan) (commands : List Task) (scope : Scope) where
         | inr h ↦ none h.0 ys xs h.1 go_y (sym cycle) (sym place)
       ]
     where
+      -- nothing appended changes no list
       nil : (zs : List Act) → zs ++ [] ≡ zs
       nil [] = refl
       nil (z ∷ zs) = ap (λ l. z ∷ l) (nil zs)
 
+      -- no acts lie between two fronts after which the same command is to go out
       none : (more zs ws : List Act) → ws ≡ zs ++ more → action_at plan (at zs) ≡ Send
           → cycles_begun plan (at zs).progress ≡ cycles_begun plan (at ws).progress
           → place_next commands (at zs).progress ≡ place_next commands (at ws).progress → ws ≡ zs
@@ -319,7 +338,8 @@ module _ (plan : Plan) (commands : List Task) (scope : Scope) where
           absurd (not_further (cycles_begun plan (at zs).progress) (place_next commands (at zs).progress) (cycles_begun plan (at ws).progress) (place_next commands (at ws).progress)
           (subst (λ l. IsFurther plan commands (at zs) (at l)) (sym is) (send_goes_on plan commands scope zs more act go)) c p)
 
-  -- the command at place a of this cycle went out among these acts, and was answered
+  -- the command at place a of this cycle went out among these acts, at `act`, and has a record that was answered well; and from
+  -- then on all acts are of the same part
   record Back (before : List Act) (cycle a : ℕ) : Type 0 where
     k : ℕ
     answer : Record
@@ -327,17 +347,20 @@ module _ (plan : Plan) (commands : List Task) (scope : Scope) where
     own_cycle : answer.cycle ≡ cycle
     own_place : answer.place ≡ a
     line : List ℕ
+    quality : Quality
     said : Option Answer
-    answered : answer.end ≡ Answered said line
-    well : is_value (scope.reads answer.command.call line) ≡ true
+    answered : answer.end ≡ Answered quality said line
+    well : is_good quality ≡ true
+    says : IsOfQuality scope.reads (accepted_at commands a) answer.command.call quality said line
     start : List Act
     act : Act
     rest : List Act
     order : before ≡ start ++ act ∷ rest
     sends : action_at plan (at start) ≡ Send
-    mark : mark_of (near_first (drop (place_next commands (at start).progress) commands)) answer ≡ mark_next plan commands (at start).progress
+    mark : mark_of (expected_first (drop (place_next commands (at start).progress) commands)) answer ≡ mark_next plan commands (at start).progress
     same : length (parts plan commands scope before) ≡ length (parts plan commands scope start)
 
+  -- the last element stands behind all others
   get_last : (xs : List Record) (x : Record) → slice_get (xs ++ x ∷ []) (length xs) ≡ Some x
   get_last [] x = refl
   get_last (y ∷ xs) x = get_last xs x
@@ -350,7 +373,7 @@ module _ (plan : Plan) (commands : List Task) (scope : Scope) where
       (same_part plan commands scope l.before l.between l.request (subst
       (λ xs. Runs plan commands (opening plan scope) xs) l.order runs) l.sends keeps (subst (λ xs. action_at plan (at xs) ≡ Send) l.order next))
 
-  -- the command before a chained one is `Back`
+  -- after acts where a chained command is to go out, `Back` holds of the command before it
   one_back : (acts : List Act) (a : ℕ) → Runs plan commands (opening plan scope) acts → action_at plan (at acts) ≡ Send
       → place_next commands (at acts).progress ≡ a + 1 → (l : IsLinked plan commands scope acts)
       → StaysBegun plan commands (at l.before) (l.request ∷ l.between) → Back acts (cycles_begun plan (at acts).progress) a
@@ -367,23 +390,26 @@ module _ (plan : Plan) (commands : List Task) (scope : Scope) where
         own_cycle = l.own_cycle ∙ sym l.cycle;
         own_place = l.own_place ∙ here;
         line = l.line;
+        quality = l.quality;
         said = l.said;
         answered = l.answered;
         well = l.well;
+        says = subst (λ p. IsOfQuality scope.reads (accepted_at commands p) l.answer.command.call l.quality l.said l.line) (l.own_place ∙ here) l.says;
         start = l.before;
         act = l.request;
         rest = l.between;
         order = l.order;
         sends = l.sends;
         mark =
-            let near = near_first (drop (place_next commands (at l.before).progress) commands) in
-            ap (λ c. record { cycle = c; place = l.answer.place; sent = unwrap_or l.answer.sent 0; near = near }) l.own_cycle
-            ∙ ap (λ p. record { cycle = cycles_begun plan (at l.before).progress; place = p; sent = unwrap_or l.answer.sent 0; near = near }) l.own_place
-            ∙ ap (λ o. record { cycle = cycles_begun plan (at l.before).progress; place = place_next commands (at l.before).progress; sent = unwrap_or o 0; near = near }) utc;
+            let expected = expected_first (drop (place_next commands (at l.before).progress) commands) in
+            ap (λ c. record { cycle = c; place = l.answer.place; sent = unwrap_or l.answer.sent 0; expected = expected }) l.own_cycle
+            ∙ ap (λ p. record { cycle = cycles_begun plan (at l.before).progress; place = p; sent = unwrap_or l.answer.sent 0; expected = expected }) l.own_place
+            ∙ ap (λ o. record { cycle = cycles_begun plan (at l.before).progress; place = place_next commands (at l.before).progress; sent = unwrap_or o 0; expected = expected }) utc;
         same = same_link acts runs next l keeps;
       }
 
-  -- a command that is `Back` before the request of a link still is behind the request and the acts that follow it
+  -- `l` has the acts before the command that precedes the next one (`l.before`). If `Back` holds there of an earlier command of
+  -- the chain, it holds of it still where the next one is to go out
   more_back : (acts : List Act) (a : ℕ) → Runs plan commands (opening plan scope) acts → action_at plan (at acts) ≡ Send
       → (l : IsLinked plan commands scope acts) → StaysBegun plan commands (at l.before) (l.request ∷ l.between)
       → Back l.before (cycles_begun plan (at l.before).progress) a → Back acts (cycles_begun plan (at acts).progress) a
@@ -396,9 +422,11 @@ module _ (plan : Plan) (commands : List Task) (scope : Scope) where
         own_cycle = h.own_cycle ∙ sym l.cycle;
         own_place = h.own_place;
         line = h.line;
+        quality = h.quality;
         said = h.said;
         answered = h.answered;
         well = h.well;
+        says = h.says;
         start = h.start;
         act = h.act;
         rest = h.rest ++ l.request ∷ l.between;
@@ -408,7 +436,7 @@ module _ (plan : Plan) (commands : List Task) (scope : Scope) where
         same = same_link acts runs next l keeps ∙ h.same;
       }
 
-  -- each command from which the next one is chained is `Back`
+  -- where a command is to go out, `Back` holds of each earlier command of its chain, which is d + 1 places before it
   back_to : (d a : ℕ) (acts : List Act) → Runs plan commands (opening plan scope) acts → action_at plan (at acts) ≡ Send
       → place_next commands (at acts).progress ≡ a + suc d → AreChained commands a (place_next commands (at acts).progress)
       → Back acts (cycles_begun plan (at acts).progress) a
@@ -424,7 +452,7 @@ module _ (plan : Plan) (commands : List Task) (scope : Scope) where
       (subst (λ xs. Runs plan commands (opening plan scope) xs) l.order runs)) l.sends (omega (arith, on, place))
       (λ p above upto. chained p above (omega (arith, on, upto))))
 
-  -- the request of a command that is `Back` is one of the last part
+  -- where `Back` holds of a command, `IsAnsweredBack` does: its request is one of the last part
   in_part : (acts : List Act) (i cycle a : ℕ) (first : Part) → Runs plan commands (opening plan scope) acts
       → slice_get (parts plan commands scope acts) i ≡ Some first → length (parts plan commands scope acts) ≡ suc i → Back acts cycle a
       → IsAnsweredBack plan commands scope acts first cycle a
@@ -446,14 +474,17 @@ module _ (plan : Plan) (commands : List Task) (scope : Scope) where
         own_cycle = h.own_cycle;
         own_place = h.own_place;
         line = h.line;
+        quality = h.quality;
         said = h.said;
         answered = h.answered;
         well = h.well;
+        says = h.says;
         m = has.2;
-        near = near_first (drop (place_next commands s.progress) commands);
-        mark = subst (λ (p : Part). slice_get p.marks has.2 ≡ Some (Some (mark_of (near_first (drop (place_next commands s.progress) commands)) h.answer))) same (subst (λ (k : Mark). slice_get has.0.marks has.2 ≡ Some (Some k)) (sym h.mark) has.3);
+        expected = expected_first (drop (place_next commands s.progress) commands);
+        mark = subst (λ (p : Part). slice_get p.marks has.2 ≡ Some (Some (mark_of (expected_first (drop (place_next commands s.progress) commands)) h.answer))) same (subst (λ (k : Mark). slice_get has.0.marks has.2 ≡ Some (Some k)) (sym h.mark) has.3);
       }
 
+-- the law: each command of a chain goes out after the answers of the earlier ones, as a request of the same part
 pub chains_stay : ChainsStay
 chains_stay plan commands scope acts runs i n part mark e f =
     let x = sent_at plan commands (opening plan scope) acts i n part mark e f in

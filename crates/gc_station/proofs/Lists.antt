@@ -1,4 +1,5 @@
--- Lists: what each of a list is, alone, with where it stands, or by its place and beside one of another list; and lists cut at an element.
+-- Lists: facts of each element alone (`AllByRecursion`), by its place and the element beside it in another list (`AllAt`), or
+-- with a rising number besides (`Rows`); and lists cut at an element.
 use Rattle.std.proofs.Common.{◌≡◌, ℕ, zero, suc, ◌+◌, ◌<◌, ◌≤◌, List, [], ◌∷◌, ◌++◌, length, drop, map, refl, sym, ap, ◌∙◌, subst, arith, append_assoc}
 use Rattle.std.specs.List.{AllByRecursion}
 
@@ -7,32 +8,33 @@ pub all_append : {A : Type 0} (P : A → Type 0) (xs ys : List A) → AllByRecur
 all_append P [] ys p q = q
 all_append P (x ∷ xs) ys p q = (p.0, all_append P xs ys p.1 q)
 
--- what follows for each element from a fact of it holds of all, if the fact does
+-- if one fact of an element follows from another, it holds of all elements where the other does
 pub all_on : {A : Type 0} (P Q : A → Type 0) (xs : List A) → ((x : A) → P x → Q x) → AllByRecursion P xs → AllByRecursion Q xs
 all_on P Q [] step p = tt
 all_on P Q (x ∷ xs) step p = (step x p.0, all_on P Q xs step p.1)
 
--- what holds of each of a list, with what stands before and behind it, follows from another fact of each
+-- if one fact follows from another for an element with what stands before and behind it, it holds of all elements where the other
+-- does
 pub all_split : {A : Type 0} (P Q : A → Type 0) (front xs all : List A) → front ++ xs ≡ all
     → ((earlier : List A) (x : A) (later : List A) → earlier ++ x ∷ later ≡ all → P x → Q x) → AllByRecursion P xs → AllByRecursion Q xs
 all_split P Q front [] all e step p = tt
 all_split P Q front (x ∷ xs) all e step p = (step front x xs e p.0, all_split P Q (front ++ x ∷ []) xs all (append_assoc front (x ∷ []) xs ∙ e) step p.1)
 
--- each element of a list, with its place (the first one's is this) and the element beside it in another list, if there is one, has the
--- property
+-- P holds of each element of the first list, with its place (k for the first one) and the element beside it in the second list,
+-- as far as that has one
 abbrev pub AllAt : {A B : Type 0} → (ℕ → A → B → Type 0) → ℕ → List A → List B → Type 0
 AllAt P k [] ys = Unit {0}
 AllAt P k (x ∷ xs) [] = Unit {0}
 AllAt P k (x ∷ xs) (y ∷ ys) = P k x y × AllAt P (suc k) xs ys
 
--- each element of a list, with its place (the first one's is this) and the element beside it in another list, has the property for some
--- number. The numbers are at least this, and each is higher than those before it
+-- P holds of each element of the first list, with a number, its place (k for the first one) and the element beside it in the
+-- second list, which must have one. The numbers are at least `low`, and rise
 abbrev pub Rows : {A B : Type 0} → (ℕ → ℕ → A → B → Type 0) → ℕ → ℕ → List A → List B → Type 0
 Rows P low k [] ys = Unit {0}
 Rows P low k (x ∷ xs) [] = ⊥
 Rows P low k (x ∷ xs) (y ∷ ys) = (n : ℕ) × (low ≤ n) × P n k x y × Rows P (suc n) (suc k) xs ys
 
--- the lowest number may be said to be lower
+-- `Rows` holds with a lower bound `low` of the numbers, too
 pub rows_from : {A B : Type 0} (P : ℕ → ℕ → A → B → Type 0) (low high k : ℕ) (xs : List A) (ys : List B) → low ≤ high → Rows P high k xs ys → Rows P low k xs ys
 rows_from P low high k [] ys le p = tt
 rows_from P low high k (x ∷ xs) [] le p = absurd p
@@ -44,7 +46,7 @@ rows_same P Q low k [] ys step p = tt
 rows_same P Q low k (x ∷ xs) [] step p = absurd p
 rows_same P Q low k (x ∷ xs) (y ∷ ys) step p = (p.0, p.1, step p.0 k x y p.2, rows_same P Q (suc p.0) (suc k) xs ys step p.3)
 
--- `Rows` of one predicate gives `Rows` of another that follows from it, at shifted places
+-- `Rows` of one property, at places that are higher by d, gives `Rows` of another that follows from it
 pub rows_on : {A B : Type 0} (P Q : ℕ → ℕ → A → B → Type 0) (d low k : ℕ) (xs : List A) (ys : List B)
     → ((n j : ℕ) (x : A) (y : B) → j < k + length xs → P n (d + j) x y → Q n j x y) → Rows P low (d + k) xs ys → Rows Q low k xs ys
 rows_on P Q d low k [] ys step p = tt
@@ -53,7 +55,7 @@ rows_on P Q d low k (x ∷ xs) (y ∷ ys) step p =
     let next : suc (d + k) ≡ d + suc k = omega arith in
     (p.0, p.1, step p.0 k x y (omega arith) p.2, rows_on P Q d (suc p.0) (suc k) xs ys (λ n j a b below. step n j a b (omega (arith, below))) (subst (λ (i : ℕ). Rows P (suc p.0) i xs ys) next p.3))
 
--- `Rows` of one property gives `Rows` of another over a list whose elements are mapped
+-- `Rows` of P gives `Rows` of Q over the list with its elements mapped by f, if Q follows from P
 pub rows_map : {A B C : Type 0} (P : ℕ → ℕ → A → C → Type 0) (Q : ℕ → ℕ → B → C → Type 0) (f : A → B) (low k : ℕ) (xs : List A) (ys : List C)
     → ((n j : ℕ) (x : A) (y : C) → j < k + length xs → P n j x y → Q n j (f x) y)
     → Rows P low k xs ys → Rows Q low k (map f xs) ys
@@ -61,7 +63,7 @@ rows_map P Q f low k [] ys step p = tt
 rows_map P Q f low k (x ∷ xs) [] step p = absurd p
 rows_map P Q f low k (x ∷ xs) (y ∷ ys) step p = (p.0, p.1, step p.0 k x y (omega arith) p.2, rows_map P Q f (suc p.0) (suc k) xs ys (λ n j a b below. step n j a b (omega (arith, below))) p.3)
 
--- `Rows` holds without the first elements of both lists
+-- `Rows` holds without the first d elements of both lists
 pub rows_drop : {A B : Type 0} (P : ℕ → ℕ → A → B → Type 0) (d low k : ℕ) (xs : List A) (ys : List B) → Rows P low k xs ys → Rows P low (d + k) (drop d xs) (drop d ys)
 rows_drop P zero low k xs ys p = let here : 0 + k ≡ k = omega arith in subst (λ (i : ℕ). Rows P low i xs ys) (sym here) p
 rows_drop P (suc d) low k [] ys p = tt
@@ -71,7 +73,8 @@ rows_drop P (suc d) low k (x ∷ xs) (y ∷ ys) p =
     let from : low ≤ suc p.0 = omega (arith, p.1) in
     rows_from P low (suc p.0) (suc d + k) (drop d xs) (drop d ys) from (subst (λ (i : ℕ). Rows P (suc p.0) i (drop d xs) (drop d ys)) next (rows_drop P d (suc p.0) (suc k) xs ys p.3))
 
--- `Rows` with one more element at the end of both lists, of a number above the others
+-- `Rows` of Q for lists with one more element at their ends, which has the number `last` and the place `place`: P holds of the
+-- other rows (`Rows`), and gives Q and a number below `last` for each
 pub rows_more : {A B : Type 0} (P Q : ℕ → ℕ → A → B → Type 0) (low k last place : ℕ) (xs : List A) (ys : List B) (x : A) (y : B) → place ≡ k + length xs → length ys ≡ length xs → low ≤ last
     → ((n j : ℕ) (a : A) (b : B) → j < k + length xs → P n j a b → (n < last) × Q n j a b) → Rows P low k xs ys → Q last place x y → Rows Q low k (xs ++ x ∷ []) (ys ++ y ∷ [])
 rows_more P Q low k last place [] [] x y is same from step p one = let here : place ≡ k = omega (arith, is) in (last, from, subst (λ (i : ℕ). Q last i x y) here one, tt)
@@ -84,7 +87,7 @@ rows_more P Q low k last place (a ∷ xs) (b ∷ ys) x y is same from step p one
     let above : suc p.0 ≤ last = omega (arith, here.0) in
     (p.0, p.1, here.1, rows_more P Q (suc p.0) (suc k) last place xs ys x y next fewer above (λ n j c d below. step n j c d (omega (arith, below))) p.3 one)
 
--- the element at a place, the one beside it, and its number
+-- a row at this place: an element, the one beside it, and their number, which is at least `low`
 pub record RowAt {A B : Type 0} (P : ℕ → ℕ → A → B → Type 0) (low place : ℕ) : Type 0 where
   pub number : ℕ
   pub least : low ≤ number
@@ -92,7 +95,7 @@ pub record RowAt {A B : Type 0} (P : ℕ → ℕ → A → B → Type 0) (low pl
   pub beside : B
   pub holds : P number place one beside
 
--- `Rows` has a `RowAt` for each place
+-- where `Rows` holds, there is a row (`RowAt`) at each place within the list
 pub row_at : {A B : Type 0} (P : ℕ → ℕ → A → B → Type 0) (low k j place : ℕ) (xs : List A) (ys : List B) → place ≡ k + j → j < length xs → Rows P low k xs ys → RowAt P low place
 row_at P low k j place [] ys is below p = absurd (omega (arith, below))
 row_at P low k j place (x ∷ xs) [] is below p = absurd p
@@ -105,7 +108,7 @@ row_at P low k (suc j) place (x ∷ xs) (y ∷ ys) is below p =
     let from : low ≤ found.number = omega (arith, p.1, found.least) in
     record { number = found.number; least = from; one = found.one; beside = found.beside; holds = found.holds }
 
--- `Rows` gives `AllAt` of a property that follows, over a list whose elements are mapped
+-- `Rows` gives `AllAt` of a property that follows from it, for the elements mapped by f
 pub rows_all : {A B C : Type 0} (P : ℕ → ℕ → A → B → Type 0) (Q : ℕ → C → B → Type 0) (f : A → C) (low k : ℕ) (xs : List A) (ys : List B)
     → ((n j : ℕ) (x : A) (y : B) → P n j x y → Q j (f x) y) → Rows P low k xs ys → AllAt Q k (map f xs) ys
 rows_all P Q f low k [] ys step p = tt
@@ -114,7 +117,8 @@ rows_all P Q f low k (x ∷ xs) (y ∷ ys) step p = (step p.0 k x y p.2, rows_al
 
 -- Lists cut at an element.
 
--- of two cuts of a list, the longer front goes on behind the element of the shorter one
+-- of two cuts of a list, one behind `front` at x and one behind `longer` at y, the second lies behind the first: `between` stands
+-- between x and y
 pub record CutsOn {A : Type 0} (front behind longer : List A) (x y : A) (tail : List A) : Type 0 where
   pub between : List A
   pub goes_on : longer ≡ front ++ x ∷ between
@@ -145,12 +149,15 @@ cut_at [] (b ∷ []) behind last x e = cc
 cut_at [] (b ∷ c ∷ front) behind last x e = cc
 cut_at (a ∷ xs) [] behind last x e = let head : a ≡ x = cc in let others : xs ++ last ∷ [] ≡ behind = cc in Before xs (ap (λ z. z ∷ xs) head) (sym others)
 cut_at (a ∷ xs) (b ∷ front) behind last x e = on (cut_at xs front behind last x others) where
+  -- equal lists have the same first element
   head : a ≡ b
   head = cc
 
+  -- equal lists are equal behind their first elements
   others : xs ++ last ∷ [] ≡ front ++ x ∷ behind
   others = cc
 
+  -- the lemma above with one more element in front
   on : Cut xs last front behind x → Cut (a ∷ xs) last (b ∷ front) behind x
   on (AtEnd same) = AtEnd (ap (λ z. z ∷ xs) head ∙ ap (λ zs. b ∷ zs) same)
   on (Before between at tail) = Before between (ap (λ z. z ∷ xs) head ∙ ap (λ zs. b ∷ zs) at) tail

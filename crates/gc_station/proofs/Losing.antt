@@ -1,4 +1,5 @@
--- All that wait are lost for a cause: behind the act the station begins anew, or no act follows.
+-- All that wait are lost only for a cause: after the act the station begins anew, or no act follows. An act is one call of the
+-- link, with what came of it.
 use Rattle.std.proofs.Common.{◌≡◌, ◌⊎◌, inl, inr, ℕ, ◌&&◌, ◌||◌, Bool, true, false, not, List, [], ◌∷◌, ◌++◌, length, map, Option, Some, if◌then◌else◌, nat_eq, refl, sym, ap, ◌∙◌, subst, append_assoc}
 use Rattle.std.specs.List.{AllByRecursion}
 use Rattle.std.proofs.lemmas.List.{nil_from_length}
@@ -46,44 +47,50 @@ use Rattle.gc_station.specs.Scopes.{Scope}
 abbrev Unwritten : List (Option Mark) → Type 0
 Unwritten marks = (reads : Call → List ℕ → Reading) (utc : ℕ) (settlements : List Settlement) → records_of reads utc marks settlements ≡ []
 
+-- where there are no marks, no record is written
 unwritten_none : (marks : List (Option Mark)) → marks ≡ [] → Unwritten marks
 unwritten_none marks is reads utc settlements = ap (λ (ms : List (Option Mark)). records_of reads utc ms settlements) is
 
 -- where no act follows, the run stops for some cause
 over_stops : (plan : Plan) (p : Progress) (w : Waiting) → is_over p ≡ true → (why : Cause) × (action_of plan p w ≡ actions.Stop why)
 over_stops plan p w over = by_phase p.phase refl over where
+  -- without a connection and a turn, a run stops because its turns are used up
   no_turn : (phase : Phase) (other : Action) → p.phase ≡ phase → is_up phase ≡ false → nat_eq p.turns 0 ≡ true
       → (if nat_eq p.turns 0 then action_up (is_up p.phase) else other) ≡ actions.Stop cause.Turns
   no_turn phase other is down none = ap (λ (b : Bool). if b then action_up (is_up p.phase) else other) none ∙ ap (λ (x : Phase). action_up (is_up x)) is ∙ ap action_up down
 
+  -- the lemma above, by the phase: the run is over, or there is no connection and no turn is left
   by_phase : (phase : Phase) → p.phase ≡ phase → (is_over_in phase || (not (is_up phase) && nat_eq p.turns 0)) ≡ true → (why : Cause) × (action_in phase plan p w ≡ actions.Stop why)
   by_phase Down is e = (cause.Turns, no_turn Down _ is refl e)
   by_phase Pausing is e = (cause.Turns, no_turn Pausing _ is refl e)
   by_phase (Over why) is e = (why, refl)
   by_phase phase is e = cc
 
--- where the negation of a holds, or nothing, a is false
+-- where all that waits is lost though the run isn't over, the station hasn't begun (a is whether it has)
 only_first : (a : Bool) → (not a || false) ≡ true → a ≡ false
 only_first true e = cc
 only_first false e = refl
 
--- where all that wait are lost at an act, and one of them is a command, the station begins anew or no act follows
+-- where all that wait are lost at an act, the station begins anew there, or no act follows; or no command waits
 loses_why : (plan : Plan) (commands : List Task) (scope : Scope) (acts : List Act) (act : Act) → Invariant plan commands (stood plan commands scope acts)
     → Performs commands (stood plan commands scope acts) (action_at plan (stood plan commands scope acts)) act
     → loses_all (moved plan commands (action_at plan (stood plan commands scope acts)) (with_progress turned (stood plan commands scope acts)) act).progress ≡ true
     → Unwritten (moved plan commands (action_at plan (stood plan commands scope acts)) (with_progress turned (stood plan commands scope acts)) act).marks
     ⊎ (BeginsAnew plan commands scope acts act ⊎ IsLast plan commands scope acts act [])
 loses_why plan commands scope acts act fine obeys loses = by_test (is_over t.progress) refl loses where
+  -- the model before the act
   s : Model
   s = stood plan commands scope acts
 
+  -- the model after the act, before what waits is lost
   t : Model
   t = moved plan commands (action_at plan s) (with_progress turned s) act
 
+  -- the model after the whole act
   next : stood plan commands scope (acts ++ act ∷ []) ≡ ended t
   next = after_all-append plan commands (opening plan scope) acts (act ∷ [])
 
-  -- while it begins none waits
+  -- while the station begins no request waits, so none is written down
   none_waits : has_begun s.progress ≡ false → Unwritten t.marks
   none_waits begins =
       let new = fine.begins begins in
@@ -91,6 +98,7 @@ loses_why plan commands scope acts act fine obeys loses = by_test (is_over t.pro
       ((keeps_action plan commands s (action_at plan s) act (action_for plan s.progress (waiting_of s)) obeys begins new).1
       ∙ nil_from_length s.marks (fine.paired ∙ ap (λ (c : ById). length c.waiting) new))
 
+  -- where the station hasn't begun after the act: it hadn't before it, or it begins anew at it
   renews : (begun : Bool) → has_begun s.progress ≡ begun → has_begun t.progress ≡ false → Unwritten t.marks ⊎ (BeginsAnew plan commands scope acts act ⊎ IsLast plan commands scope acts act [])
   renews false begun begins = inl (none_waits begun)
   renews true begun begins =
@@ -98,6 +106,7 @@ loses_why plan commands scope acts act fine obeys loses = by_test (is_over t.pro
       let full = renews_needs plan commands s (action_at plan s) fine it.0 (action_for plan s.progress (waiting_of s)) in
       inr (inl (record { renews = it.0; moment = it.1; told = it.2; seven = full.0; given_up = full.1 }))
 
+  -- the lemma above, by whether the run is over after the act (`true`)
   by_test : (b : Bool) → is_over t.progress ≡ b → (not (has_begun t.progress) || b) ≡ true → Unwritten t.marks ⊎ (BeginsAnew plan commands scope acts act ⊎ IsLast plan commands scope acts act [])
   by_test true over e =
       let stops = over_stops plan (ended t).progress (waiting_of (ended t)) (ap is_over (ended_progress t) ∙ over) in
@@ -108,15 +117,16 @@ loses_why plan commands scope acts act fine obeys loses = by_test (is_over t.pro
 going_on : (p : Progress) → p.phase ≡ Ready → is_over p ≡ false
 going_on p is = ap (λ (phase : Phase). is_over_in phase || (not (is_up phase) && nat_eq p.turns 0)) is
 
--- where requests go out, the run isn't over behind a failure
+-- where requests go out, the run isn't over after a failure
 failing_goes : (why : Cause) (p : Progress) → p.phase ≡ Ready → is_over (failing why p) ≡ false
 failing_goes why p is = ap (λ (phase : Phase). is_over_in (if is_up phase then Closing why else Over why) || (not (is_up (if is_up phase then Closing why else Over why)) && nat_eq p.turns 0)) is
 
--- where requests go out, the run isn't over behind a write
+-- where requests go out, the run isn't over after a write
 put_goes : (requests : ℕ) (f : Model → Model) (s : Model) (act : Act) → (f s).progress.phase ≡ Ready → is_over (after_put requests f s act).progress ≡ false
 put_goes requests f s (Cut bytes n) is = failing_goes (cause.Write requests n) (f s).progress is
 put_goes requests f s act is = going_on (f s).progress is
 
+-- where the station has begun (a), and the run isn't over (b), nothing is lost
 neither : (a b : Bool) → a ≡ true → b ≡ false → (not a || b) ≡ false
 neither true b x y = y
 neither false b x y = cc
@@ -132,7 +142,7 @@ send_loses_none plan commands s act fine needs =
 
 -- The records of those that are lost.
 
--- a settlement is that of a request that is lost at this act, with this mark
+-- this settlement is of a request that is lost, with this mark; that request was put among these acts
 pub record LostOf (plan : Plan) (commands : List Task) (scope : Scope) (acts : List Act) (x : Settlement) (mark : Option Mark) : Type 0 where
   pub number : ℕ
   pub at : ℕ
@@ -141,12 +151,13 @@ pub record LostOf (plan : Plan) (commands : List Task) (scope : Scope) (acts : L
   pub is : x ≡ lost pending
   pub asked : Asked plan commands scope acts Stayed number at id pending mark
 
--- if the record is of a lost command, it is lost for a cause
+-- the record is of the settlement of a command that is lost (`LostOf`), with the cycle, place and moment of its mark
 abbrev IsLostRecord : Plan → List Task → Scope → List Act → Record → Type 0
 IsLostRecord plan commands scope acts r = (mark : Mark) × (y : Settlement) × (r.cycle ≡ mark.cycle) × (r.place ≡ mark.place) × (r.sent ≡ Some mark.sent)
     × IsRecordOf r y × LostOf plan commands scope acts y (Some mark)
 
--- the record of a settlement that is `LostOf` a request is lost for a cause
+-- where all that wait are lost because the station begins anew or no act follows, each record that the act writes of them is true
+-- (`IsTrue`)
 lost_true : (plan : Plan) (commands : List Task) (scope : Scope) (acts : List Act) (act : Act) (r : Record) (news earlier later : List Record)
     → Invariant plan commands (stood plan commands scope acts)
     → loses_all (moved plan commands (action_at plan (stood plan commands scope acts)) (with_progress turned (stood plan commands scope acts)) act).progress ≡ true
@@ -158,21 +169,27 @@ lost_true plan commands scope acts act r news earlier later fine loses why ends 
   late = λ e. absurd (not_late (sym outcome ∙ was_late r it.1 it.5 e));
   lost = λ e. on (cut_at acts a.before a.between act a.request a.order);
 } where
+  -- the settlement is of a request that is lost
   x : LostOf plan commands scope (acts ++ act ∷ []) it.1 (Some it.0)
   x = it.6
 
+  -- that request was put among the acts
   a : Asked plan commands scope (acts ++ act ∷ []) Stayed x.number x.at x.id x.pending (Some it.0)
   a = x.asked
 
+  -- the outcome is that it is lost
   outcome : it.1.outcome ≡ Lost
   outcome = ap (λ (y : Settlement). y.outcome) x.is
 
+  -- a request that is lost isn't answered
   not_answered : (line : List ℕ) → Lost ≡ Answered line → ⊥
   not_answered line e = cc
 
+  -- a request that is lost isn't late
   not_late : Lost ≡ Late → ⊥
   not_late e = cc
 
+  -- the act writes the record
   here : IsWrittenAt plan commands scope acts act r
   here = record {
     earlier = news ++ earlier;
@@ -180,6 +197,7 @@ lost_true plan commands scope acts act r news earlier later fine loses why ends 
     written = let rs = (stood plan commands scope acts).records in ends ∙ append_assoc rs news (earlier ++ r ∷ later) ∙ ap (λ xs. rs ++ xs) (sym (append_assoc news earlier (r ∷ later)));
   }
 
+  -- the request was put among the acts before this act, which sends none: so its record is lost for a cause, as `IsLostIn` says
   on : CutOf acts act a.before a.between a.request → IsLostIn plan commands scope (acts ++ act ∷ []) r
   on (AtEnd same) =
       let s = stood plan commands scope acts in
@@ -207,36 +225,43 @@ lost_true plan commands scope acts act r news earlier later fine loses why ends 
         shown = inr (subst (λ (xs : List Act). BeginsAnew plan commands scope xs act ⊎ IsLast plan commands scope xs act []) at why);
       }
 
--- what every run keeps is kept where all that wait are lost
+-- `IsHonest` holds after an act whether all that wait are lost or not, if it holds before that
 pub losing_honest : (plan : Plan) (commands : List Task) (scope : Scope) (acts : List Act) (act : Act) → Invariant plan commands (stood plan commands scope acts)
     → Performs commands (stood plan commands scope acts) (action_at plan (stood plan commands scope acts)) act
     → IsHonest plan commands scope (acts ++ act ∷ []) (acts ++ act ∷ [])
     (moved plan commands (action_at plan (stood plan commands scope acts)) (with_progress turned (stood plan commands scope acts)) act)
     → IsHonest plan commands scope (acts ++ act ∷ []) (acts ++ act ∷ []) (after plan commands (stood plan commands scope acts) act)
 losing_honest plan commands scope acts act fine obeys h = by_test (loses_all t.progress) refl where
+  -- the acts up to this one
   all : List Act
   all = acts ++ act ∷ []
 
+  -- the model before the act
   s : Model
   s = stood plan commands scope acts
 
+  -- the model after the act, before what waits is lost
   t : Model
   t = moved plan commands (action_at plan s) (with_progress turned s) act
 
+  -- the records of all that wait, as lost
   written : List Record
   written = records_of t.reads t.progress.moment.utc t.marks (map lost t.client.waiting)
 
+  -- where all are lost, these records stand last after the whole act
   ends : loses_all t.progress ≡ true → (more : List Record) → t.records ≡ s.records ++ more → (stood plan commands scope all).records ≡ (s.records ++ more) ++ written
   ends loses more grew =
       ap (λ (x : Model). x.records) (after_all-append plan commands (opening plan scope) acts (act ∷ [])) ∙ ap (λ (b : Bool). (losing b t).records) loses ∙ ap (λ xs. xs ++ written) grew
 
+  -- each of these records is of a command that is lost
   of_lost : AllByRecursion (IsLostRecord plan commands scope all) written
   of_lost =
       records_all (λ (k : ℕ). LostOf plan commands scope all) (IsLostRecord plan commands scope all) t.reads t.progress.moment.utc 0 (map lost t.client.waiting) t.marks
-      (λ i x mark is. (mark, x, refl, refl, refl, record { reads = t.reads; near = mark.near; command = refl; ended = refl }, is))
+      (λ i x mark is. (mark, x, refl, refl, refl, record { reads = t.reads; expected = mark.expected; command = refl; ended = refl }, is))
       (rows_all (Waits plan commands scope all t.client.next (length t.client.waiting)) (λ (k : ℕ). LostOf plan commands scope all) lost 0 0 t.client.waiting t.marks
       (λ n j p mark w. record { number = n; at = j; id = id_at t.client.next (length t.client.waiting) j; pending = p; is = refl; asked = w }) h.waiting)
 
+  -- each of these records is true, where all are lost for a cause
   all_lost : loses_all t.progress ≡ true → Unwritten t.marks ⊎ (BeginsAnew plan commands scope acts act ⊎ IsLast plan commands scope acts act [])
       → AllByRecursion (IsTrue plan commands scope all) written
   all_lost loses (inl none) = subst (λ (rs : List Record). AllByRecursion (IsTrue plan commands scope all) rs) (sym (none t.reads t.progress.moment.utc (map lost t.client.waiting))) tt
@@ -246,6 +271,7 @@ losing_honest plan commands scope acts act fine obeys h = by_test (loses_all t.p
       (λ (earlier : List Record) (r : Record) (later : List Record) at is.
       lost_true plan commands scope acts act r grew.0 earlier later fine loses why (ends loses grew.0 grew.1 ∙ ap (λ xs. (s.records ++ grew.0) ++ xs) (sym at)) is) of_lost
 
+  -- the lemma above, by whether all that wait are lost (`true`)
   by_test : (b : Bool) → loses_all t.progress ≡ b → IsHonest plan commands scope all all (losing b t)
   by_test true loses = record {
     waiting = tt;

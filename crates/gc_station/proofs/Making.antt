@@ -1,9 +1,11 @@
--- What the calls of a station make: where it stands behind one act more.
+-- What each call of a station makes: after it, the station is as its model (`Refines`) after one act more. An act is one call
+-- of the link, with what came of it. `told` and `told'` are what the link had told before the call and has told after it,
+-- `start`, `taken` and `taken'` what the book had taken at first, before the call and after it; `text` is how a record is
+-- written.
 use Rattle.std.proofs.Common.{◌≡◌, ℕ, zero, suc, ◌+◌, ◌<◌, Bool, true, false, List, [], ◌∷◌, ◌++◌, length, drop, get_or, if◌then◌else◌, nat_eq, Option, Some, None, Result, Ok, Err, refl, sym, ap, ◌∙◌, subst, append-nil, arith}
 use Rattle.std.proofs.lemmas.Bool.{ne_eqb}
 use Rattle.std.proofs.lemmas.List.{length-append}
 use Rattle.gc_lines.specs.Assembler.{StandsFor}
-use Rattle.gc_catalogue.specs.declared.answer.Reading.{Reading}
 use Rattle.gc_catalogue.specs.declared.call.Call.{Call}
 use Rattle.gc_client.specs.declared.window.TheConstants.{WINDOW}
 use Rattle.gc_client.specs.Rule.{ById, sends, id_send}
@@ -48,7 +50,7 @@ pub put_puts : (put : Result (Unit {0}) ℕ) (bytes want : List ℕ) → bytes �
 put_puts (Ok r) bytes want is part = is
 put_puts (Err n) bytes want is part = (is, subst (λ (xs : List ℕ). n < length xs) is part)
 
--- behind a write, whole or cut, the station is as the model behind it
+-- after a write, whole or cut, the station is as the model after that write
 pub put_stands : (put : Result (Unit {0}) ℕ) (bytes : List ℕ) (requests wanted : ℕ) (f : Model → Model) (s : Model) (mid new : Station) → Refines mid (f s)
     → new ≡ record mid { progress = cut_progress put requests mid.progress } → requests ≡ wanted → Refines new (after_put wanted f s (put_as put bytes))
 put_stands (Ok r) bytes requests wanted f s mid new stands is same = subst (λ (x : Station). Refines x (f s)) (sym is) stands
@@ -57,7 +59,7 @@ put_stands (Err n) bytes requests wanted f s mid new stands is same =
     subst (λ (x : Station). Refines x (with_progress (failing (cause.Write wanted n)) (f s))) (sym is)
     (stands_with mid (cut_progress (Err n) requests mid.progress) (failing (cause.Write wanted n)) (f s) stands why)
 
--- a write adds no records
+-- a write adds no records, so a book that has the model's records still has them
 pub put_took : (text : Record → List ℕ) (start taken : Option (List ℕ)) (put : Result (Unit {0}) ℕ) (bytes : List ℕ) (requests : ℕ) (f : Model → Model)
     (s : Model) → Took text start taken (f s) → Took text start taken (after_put requests f s (put_as put bytes))
 put_took text start taken (Ok r) bytes requests f s so = so
@@ -65,10 +67,12 @@ put_took text start taken (Err n) bytes requests f s so = so
 
 -- Requests are sent.
 
+-- the client after a send of this command at the moment `now`, which waits for `wait` milliseconds. The arguments are how many
+-- requests may wait at once, the client before, the command, `now` and `wait`
 abbrev sent_to : ℕ → ById → Command → ℕ → ℕ → ById
 sent_to width ids command now wait = client_sent ids (sends width ids command.target command.call (later now wait))
 
--- one request more waits behind a send
+-- one request more waits after a send
 sent_count : (c : ById) (target : ℕ) (call : Call) (deadline : ℕ) (b : Bool) → b ≡ false → length (client_sent c (id_send c target call deadline b)).waiting ≡ length c.waiting + 1
 sent_count c target call deadline true e = cc
 sent_count c target call deadline false e = length-append c.waiting _
@@ -101,13 +105,13 @@ asks_stands old new s wait command other mark stands room e is =
       well = λ are. ap (λ (n : Station). n.well) is ∙ stands.well are;
     }
 
--- the elements behind the first i begin with the one at place i
+-- without its first i elements a list begins with the one at place i
 pub drop_here : {A : Type 0} (xs : List A) (i : ℕ) (x : A) → i < length xs → x ≡ get_or xs i x → (others : List A) × (drop i xs ≡ x ∷ others)
 drop_here [] i x below e = absurd (omega (arith, below))
 drop_here (y ∷ ys) zero x below e = (ys, ap (λ z. z ∷ ys) (sym e))
 drop_here (y ∷ ys) (suc i) x below e = drop_here ys i x (omega (arith, below)) e
 
--- there are elements behind the first i, where i is below the length
+-- without its first i elements a longer list still has some
 pub drop_some : {A : Type 0} (xs : List A) (i : ℕ) → i < length xs → (x : A) × (others : List A) × (drop i xs ≡ x ∷ others)
 drop_some [] i below = absurd (omega (arith, below))
 drop_some (y ∷ ys) zero below = (y, ys, refl)
@@ -119,14 +123,15 @@ pub first_stands : (new : Station) (s : Model) (mark mark' : Mark) (list : List 
 first_stands new s mark mark' list task others is e stands =
     subst (λ (ts : List Task). Refines new (asks_first mark' ts s)) (sym is) (subst (λ (m : Mark). Refines new (asks task.deadline task.command.target task.command.call (Some m) s)) e stands)
 
--- a send adds no records
+-- a send adds no records, so a book that has the model's records still has them
 pub first_took : (text : Record → List ℕ) (start taken : Option (List ℕ)) (s : Model) (mark : Mark) (list : List Task) → Took text start taken s → Took text start taken (asks_first mark list s)
 first_took text start taken s mark [] so = so
 first_took text start taken s mark (task ∷ others) so = so
 
 -- A command is skipped.
 
--- the record that is written of the first of these commands, which isn't sent, is the one that the model has
+-- the record that the code writes of `task`, the first of the commands in `list`, which isn't sent, is the one that the model
+-- adds (`skips_first`)
 pub skips_as : (p : Progress) (m : Moment) (mark mark' : Mark) (utc : ℕ) (end : End) (list : List Task) (task : Task) (others : List Task)
     → list ≡ task ∷ others → mark ≡ mark' → utc ≡ skipped_at m p → end ≡ (if p.missed then Missed else Skipped)
     → record { sent = None; utc = utc; cycle = mark.cycle; place = mark.place; command = task.command; end = end } ∷ [] ≡ skips_first p m mark' list
@@ -136,17 +141,18 @@ skips_as p m mark mark' utc end list task others is e at ends =
     ∙ ap (λ (x : End). record { sent = None; utc = skipped_at m p; cycle = mark'.cycle; place = mark'.place; command = task.command; end = x } ∷ []) ends
     ∙ sym (ap (skips_first p m mark') is)
 
-unwell_end : (reads : Call → List ℕ → Reading) (call : Call) (b : Bool) → is_well reads call (if b then Missed else Skipped) ≡ false
-unwell_end reads call true = refl
-unwell_end reads call false = refl
+-- a command that isn't sent wasn't answered well
+unwell_end : (b : Bool) → is_well (if b then Missed else Skipped) ≡ false
+unwell_end true = refl
+unwell_end false = refl
 
--- behind the record of a command that isn't sent, the last command wasn't answered well
-pub skips_unwell : (reads : Call → List ℕ → Reading) (b : Bool) (p : Progress) (m : Moment) (mark : Mark) (list : List Task) (task : Task)
-    (others : List Task) → list ≡ task ∷ others → last_well reads b (skips_first p m mark list) ≡ false
-skips_unwell reads b p m mark list task others is = ap (λ ts. last_well reads b (skips_first p m mark ts)) is ∙ unwell_end reads task.command.call p.missed
+-- after the record of a command that isn't sent, the last command wasn't answered well
+pub skips_unwell : (b : Bool) (p : Progress) (m : Moment) (mark : Mark) (list : List Task) (task : Task)
+    (others : List Task) → list ≡ task ∷ others → last_well b (skips_first p m mark list) ≡ false
+skips_unwell b p m mark list task others is = ap (λ ts. last_well b (skips_first p m mark ts)) is ∙ unwell_end p.missed
 
 -- a station that counted the record of a command that isn't sent is as the model with that record
-pub skipped_stands : (old new : Station) (s : Model) (rs : List Record) → Refines old s → ((reads : Call → List ℕ → Reading) (b : Bool) → last_well reads b rs ≡ false)
+pub skipped_stands : (old new : Station) (s : Model) (rs : List Record) → Refines old s → ((b : Bool) → last_well b rs ≡ false)
     → new ≡ record old { tally = tallied old.tally rs; well = false } → Refines new (with_records rs s)
 skipped_stands old new s rs stands unwell is = record {
   progress = ap (λ (n : Station). n.progress) is ∙ stands.progress;
@@ -156,16 +162,16 @@ skipped_stands old new s rs stands unwell is = record {
   paired = stands.paired;
   assembles = subst (λ (x : Station). StandsFor x.assembler s.rest) (sym is) stands.assembles;
   tally = λ are. ap (λ (n : Station). n.tally) is ∙ ap (λ t. tallied t rs) (stands.tally are) ∙ sym (tallied-append none_yet s.records rs);
-  well = λ are. ap (λ (n : Station). n.well) is ∙ sym (last-append s.reads false s.records rs ∙ unwell s.reads (last_well s.reads false s.records));
+  well = λ are. ap (λ (n : Station). n.well) is ∙ sym (last-append false s.records rs ∙ unwell (last_well false s.records));
 }
 
--- no records behind a model's leave it as it is
+-- no records added to a model leave it as it is
 pub none_skipped : (s : Model) → with_records [] s ≡ s
 none_skipped s = ap (λ (rs : List Record). record s { records = rs }) (append-nil s.records)
 
 -- A read.
 
--- a station that made a read is as the model behind the read
+-- a station that made a read is as the model after the read
 pub makes_read : (plan : Plan) (commands : List Task) (until : Until) (text : Record → List ℕ) (told told' : Option (List Act))
     (taken taken' : Option (List ℕ)) (station new : Station) (act : Act) → Tells told told' (act ∷ []) → IsReading act
     → ((s : Model) (start : Option (List ℕ)) → Refines station s → Took text start taken s → Refines new (after_read plan until s act) × Took text start taken' (after_read plan until s act))

@@ -1,4 +1,5 @@
--- What each act of a run is: which bytes it puts, and what is left of a line behind it.
+-- What each act of a run puts: a line feed, or a request's line, by the part (`Parts`) that the act has; and which bytes of a
+-- line are kept after it. An act is one call of the link, with what came of it.
 use Rattle.std.proofs.Common.{◌≡◌, ◌⊎◌, inl, inr, ℕ, ◌-◌, ◌<◌, Bool, true, false, List, [], ◌∷◌, length, drop, Option, Some, None, refl, ◌∙◌, arith, length-drop}
 use Rattle.gc_lines.specs.Frames.{rest_behind}
 use Rattle.gc_catalogue.specs.declared.call.Call.{Call}
@@ -18,7 +19,7 @@ use Rattle.gc_station.proofs.Invariant.{Invariant}
 use Rattle.gc_station.proofs.Midway.{clash}
 use Rattle.gc_station.proofs.Givens.{rest_with, after_rest}
 
--- a request goes out by this part: the bytes are its line
+-- the part p is that of a request that goes out, and these bytes are its line
 pub record IsSent (s : Model) (bytes : List ℕ) (p : Part) : Type 0 where
   pub target : ℕ
   pub call : Call
@@ -28,7 +29,7 @@ pub record IsSent (s : Model) (bytes : List ℕ) (p : Part) : Type 0 where
   pub text : bytes ≡ request_text s.client call
   pub room : length s.client.waiting < 7
 
--- these bytes are a line feed, which is no part; or the line of a request that goes out by this part
+-- these bytes are a line feed, which is no part; or the line of a request whose part is p
 abbrev pub IsPut : Model → List ℕ → Part → Type 0
 IsPut s bytes p = ((bytes ≡ 10 ∷ []) × (p ≡ nothing)) ⊎ IsSent s bytes p
 
@@ -38,7 +39,8 @@ put_by (Put bytes) = Some bytes
 put_by (Cut bytes count) = Some bytes
 put_by _ = None
 
--- the bytes of a line that are kept behind an act, by whether bytes are heard
+-- the bytes of an unfinished line that are kept after an act, by whether bytes are heard and by the bytes kept before it (the
+-- second argument)
 abbrev pub left_of : Bool → List ℕ → Act → List ℕ
 left_of true rest (Gave piece m) = rest_behind rest piece
 left_of heard rest Closed = []
@@ -57,7 +59,7 @@ module _ (plan : Plan) (commands : List Task) where
   never_puts (Cut out count) bytes e h = elim h [ inl a ↦ a | inr b ↦ elim b [ inl c ↦ c | inr d ↦ elim d [ inl f ↦ f | inr g ↦ cc ] ] ]
   never_puts act bytes e h = cc
 
-  -- the next command goes out by the part of its request
+  -- the bytes of the next command are the line of the request of its part
   first_put : (s : Model) (left : List Task) (bytes : List ℕ) → 0 < length left → length s.client.waiting < 7 → bytes ≡ first_text s.client left
       → IsSent s bytes (asking_first s.progress.moment.elapsed (mark_next plan commands s.progress) left)
   first_put s [] bytes some room e = absurd (omega (arith, some))
@@ -71,12 +73,12 @@ module _ (plan : Plan) (commands : List Task) where
     room = room;
   }
 
-  -- a null procedure behind commands goes out by the part of its request
+  -- the bytes of a null procedure after commands are the line of the request of its part
   null_put : (s : Model) (bytes : List ℕ) → length s.client.waiting < 7 → bytes ≡ request_text s.client NullProc
       → IsSent s bytes (asking 0 NullProc (later s.progress.moment.elapsed plan.deadline) None)
   null_put s bytes room e = record { target = 0; call = NullProc; deadline = later s.progress.moment.elapsed plan.deadline; mark = None; part = refl; text = e; room = room }
 
-  -- once the station has begun, bytes that an act of this action puts go out by its part
+  -- once the station has begun, the bytes that an act of this action puts are as `IsPut` says of the action's part
   put_order : (s : Model) (o : Action) (act : Act) (bytes : List ℕ) → Invariant plan commands s → IsFor plan s.progress (waiting_of s) o
       → Performs commands s o act → put_by act ≡ Some bytes → has_begun s.progress ≡ true → IsPut s bytes (putting plan commands s o)
   put_order s action.Clear act bytes fine is obeys e begun = inl (puts_same (10 ∷ []) bytes act e obeys, refl)
@@ -95,22 +97,24 @@ module _ (plan : Plan) (commands : List Task) where
   put_order s (action.Close why) act bytes fine is obeys e begun = absurd (never_puts act bytes e (inr (inr (inr obeys))))
   put_order s (action.Stop why) act bytes fine is obeys e begun = absurd obeys
 
-  -- once the station has begun, bytes that an act of a run puts go out by its part
+  -- once the station has begun, the bytes that an act of a run puts are as `IsPut` says of its part
   pub put_is : (s : Model) (act : Act) (bytes : List ℕ) → Invariant plan commands s → Performs commands s (action_at plan s) act → put_by act ≡ Some bytes
       → has_begun s.progress ≡ true → IsPut s bytes (putting plan commands s (action_at plan s))
   put_is s act bytes fine obeys e begun = put_order s (action_at plan s) act bytes fine (action_for plan s.progress (waiting_of s)) obeys e begun
 
-  -- while the station begins: these bytes are a line feed, which is no turn; or the null procedure of the first id that isn't answered
+  -- while the station begins: these bytes are a line feed, which is no part; or the null procedure of the first id that isn't
+  -- answered, whose part p is one turn
   abbrev pub IsAsked : Model → List ℕ → Part → Type 0
   IsAsked s bytes p = ((bytes ≡ 10 ∷ []) × (p ≡ nothing)) ⊎ ((bytes ≡ null_text s.progress.word) × (p ≡ only_turns (Asks ∷ [])))
 
-  -- an act that puts bytes as `Ask` is the turn that asks
+  -- the part of an act of the action `Ask` that puts bytes is one turn, `Asks`
   asked_turn : (s : Model) (act : Act) (bytes : List ℕ) → put_by act ≡ Some bytes → beginning s action.Ask act ≡ only_turns (Asks ∷ [])
   asked_turn s (Put out) bytes e = refl
   asked_turn s (Cut out count) bytes e = refl
   asked_turn s act bytes e = cc
 
-  -- while the station begins, bytes that an act of this action puts are a line feed or the null procedure of the first id that isn't answered
+  -- while the station begins, bytes that an act of this action puts are a line feed or the null procedure of the first id that
+  -- isn't answered
   asked_order : (s : Model) (o : Action) (act : Act) (bytes : List ℕ) → IsFor plan s.progress (waiting_of s) o → Performs commands s o act
       → put_by act ≡ Some bytes → has_begun s.progress ≡ false → IsAsked s bytes (beginning s o act)
   asked_order s action.Clear act bytes is obeys e begins = inl (puts_same (10 ∷ []) bytes act e obeys, refl)
@@ -126,13 +130,15 @@ module _ (plan : Plan) (commands : List Task) where
   asked_order s (action.Close why) act bytes is obeys e begins = absurd (never_puts act bytes e (inr (inr (inr obeys))))
   asked_order s (action.Stop why) act bytes is obeys e begins = absurd obeys
 
-  -- while the station begins, bytes that an act of a run puts are a line feed or the null procedure of the first id that isn't answered
+  -- while the station begins, bytes that an act of a run puts are a line feed or the null procedure of the first id that isn't
+  -- answered
   pub asked_is : (s : Model) (act : Act) (bytes : List ℕ) → Performs commands s (action_at plan s) act → put_by act ≡ Some bytes
       → has_begun s.progress ≡ false → IsAsked s bytes (beginning s (action_at plan s) act)
   asked_is s act bytes obeys e begins = asked_order s (action_at plan s) act bytes (action_for plan s.progress (waiting_of s)) obeys e begins
 
   -- What is left of a line.
 
+  -- `left_of` says the same as `rest_with`
   left_same : (h : Bool) (act : Act) (rest : List ℕ) → rest_with h act rest ≡ left_of h rest act
   left_same true (Gave piece m) rest = refl
   left_same false (Gave piece m) rest = refl

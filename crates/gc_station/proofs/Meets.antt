@@ -1,4 +1,6 @@
--- What a line settles, and which requests it leaves.
+-- What a line settles, and which requests it leaves waiting. P is what is known of a request that waits, by its number (how
+-- many acts came before the one that put it), its place among those that wait, the request itself and its mark. An act is one
+-- call of the link, with what came of it. `EndedBy` says how a request that a line settles has ended, and by which id.
 use Rattle.std.proofs.Common.{◌≡◌, ℕ, zero, suc, ◌+◌, ◌-◌, ◌<◌, ◌≤◌, Bool, true, false, List, [], ◌∷◌, length, drop, Option, Some, None, if◌then◌else◌, nat_lt, refl, sym, ap, ◌∙◌, subst, arith}
 use Rattle.std.specs.List.{AllByRecursion}
 use Rattle.std.proofs.lemmas.Bool.{ltb-true}
@@ -15,34 +17,39 @@ use Rattle.gc_client.proofs.Digits.{settling}
 use Rattle.gc_texts.specs.declared.tasks.Task.{Task}
 use Rattle.gc_texts.specs.Endings.{End}
 use Rattle.gc_texts.specs.Endings as ends
+use Rattle.gc_texts.specs.Codes.{are_accepted}
 use Rattle.gc_texts.specs.Nears.{is_elsewhere}
+use Rattle.gc_texts.specs.Zeroed.{as_zero}
+use Rattle.gc_texts.specs.declared.near.Expected.{Expected}
 use Rattle.gc_texts.specs.declared.near.Near.{Near}
+use Rattle.gc_texts.specs.declared.quality.Quality.{Quality}
+use Rattle.gc_texts.specs.declared.quality.Quality.TheVariants as quality
 use Rattle.gc_station.specs.declared.mark.Mark.{Mark}
 use Rattle.gc_station.specs.declared.plan.Plan.{Plan}
 use Rattle.gc_links.specs.Acts.{Act}
 use Rattle.gc_station.specs.Answers.{answer_of}
-use Rattle.gc_station.specs.Marks.{value_as, answer_as, end_of, command_of, record_of, records_of}
+use Rattle.gc_station.specs.Marks.{value_as, warned_as, refused_as, answer_as, end_of, command_of, record_of, records_of}
 use Rattle.gc_station.specs.Records.{Record}
 use Rattle.gc_station.proofs.Lists.{AllAt, Rows, RowAt, rows_on, rows_drop, row_at}
 use Rattle.gc_station.proofs.Waiting.{StayedAt, WaitsAt, asked_as}
 use Rattle.gc_station.specs.Scopes.{Scope}
 
--- the id that was heard is that of the request at this place
+-- the id that was heard is that of the request that waits at this place
 pub record HasPlace (c : ById) (o : Option ℕ) (at : ℕ) : Type 0 where
   pub id : ℕ
   pub has : o ≡ Some id
   pub is : at ≡ place_in c id
 
--- behind the request with this number, at this place, another one waits, whose id was heard
+-- behind the request with this number and at this place, another one waits, whose id was heard
 pub record Overtakes (P : ℕ → ℕ → Pending → Option Mark → Type 0) (c : ById) (o : Option ℕ) (number at : ℕ) : Type 0 where
   pub place : ℕ
   pub above : at < place
   pub found : RowAt P (suc number) place
   pub heard : HasPlace c o place
 
--- a settlement is of the request that waits at this place, with this mark. If it is an answer, it is of this line, and the request
--- isn't given up; if it is late, the request is given up; in both cases the id that was heard is the request's. If it is lost, the id
--- is that of a request behind it
+-- this settlement is of the request that waits at the place `at`, with this mark. If it is an answer, it is this line, and the
+-- request isn't given up; if it is late, the request is given up; in both cases the id that was heard is the request's. If it is
+-- lost, that id is of a request behind it
 pub record EndedBy (P : ℕ → ℕ → Pending → Option Mark → Type 0) (c : ById) (o : Option ℕ) (line : List ℕ) (at : ℕ) (x : Settlement) (mark : Option Mark) : Type 0 where
   pub number : ℕ
   pub pending : Pending
@@ -52,22 +59,22 @@ pub record EndedBy (P : ℕ → ℕ → Pending → Option Mark → Type 0) (c :
   pub late : x.outcome ≡ Late → (pending.given_up ≡ true) × HasPlace c o at
   pub lost : x.outcome ≡ Lost → Overtakes P c o number at
 
--- a request that a reply meets, and that is answered, isn't given up
+-- a request whose own reply comes, and that is answered by it, isn't given up
 met_answered : (b : Bool) (line l : List ℕ) → (if b then Late else Answered line) ≡ Answered l → (l ≡ line) × (b ≡ false)
 met_answered true line l e = cc
 met_answered false line l e = let same : l ≡ line = cc in (same, refl)
 
--- a request that a reply meets, and that is late, is given up
+-- a request whose own reply comes, and that is late, is given up
 met_late : (b : Bool) (line : List ℕ) → (if b then Late else Answered line) ≡ Late → b ≡ true
 met_late true line e = refl
 met_late false line e = cc
 
--- a request that a reply meets isn't lost
+-- a request whose own reply comes isn't lost
 met_lost : (b : Bool) (line : List ℕ) → (if b then Late else Answered line) ≡ Lost → ⊥
 met_lost true line e = cc
 met_lost false line e = cc
 
--- the request whose reply came ended by it
+-- `EndedBy` holds of the request whose own reply came
 met_ended : (P : ℕ → ℕ → Pending → Option Mark → Type 0) (c : ById) (o : Option ℕ) (line : List ℕ) (number at : ℕ) (p : Pending) (mark : Option Mark)
     → HasPlace c o at → P number at p mark → EndedBy P c o line at (met p line) mark
 met_ended P c o line number at p mark place holds = record {
@@ -80,7 +87,7 @@ met_ended P c o line number at p mark place holds = record {
   lost = λ e. absurd (met_lost p.given_up line e);
 }
 
--- the requests up to the one whose reply came ended by it
+-- `EndedBy` holds of each request up to the one whose own reply came
 settle_ended : (P : ℕ → ℕ → Pending → Option Mark → Type 0) (c : ById) (o : Option ℕ) (line : List ℕ) (there low k at : ℕ) (ps : List Pending)
     (marks : List (Option Mark)) → HasPlace c o there → there ≡ k + at → k < length ps
     → Rows P low at ps marks → AllAt (EndedBy P c o line) at (settle k line ps) marks
@@ -105,11 +112,12 @@ settle_ended P c o line there low (suc k) at (p ∷ ps) (mark ∷ marks) has is 
       settle_ended P c o line there (suc all.0) k (suc at) ps marks has next fewer all.3,
     )
 
--- all requests that a line settles ended by it
+-- `EndedBy` holds of each request that a line settles
 pub heard_ended : (P : ℕ → ℕ → Pending → Option Mark → Type 0) (c : ById) (marks : List (Option Mark)) (line : List ℕ) (o : Option ℕ)
     → Rows P 0 0 c.waiting marks → AllAt (EndedBy P c o line) 0 (hears c line o).settlements marks
 heard_ended P c marks line None all = tt
 heard_ended P c marks line (Some id) all = by_test (place_in c id) refl (nat_lt (place_in c id) (length c.waiting)) refl where
+  -- the lemma above, by whether a request with this id waits (`true`)
   by_test : (k : ℕ) → k ≡ place_in c id → (b : Bool) → nat_lt (place_in c id) (length c.waiting) ≡ b → AllAt (EndedBy P c (Some id) line) 0 (id_settled c line k b).settlements marks
   by_test k is true fits =
       let at : k ≡ k + 0 = omega arith in
@@ -126,15 +134,17 @@ pub record Left (c : ById) (x : Settled ById) : Type 0 where
   pub waiting : x.client.waiting ≡ drop count c.waiting
   pub settled : length x.settlements ≡ count
 
+-- where a reply is of the request at place k, it settles k + 1 requests
 settle_length : (k : ℕ) (line : List ℕ) (ps : List Pending) → k < length ps → length (settle k line ps) ≡ k + 1
 settle_length k line [] low = absurd (omega (arith, low))
 settle_length zero line (p ∷ ps) low = refl
 settle_length (suc k) line (p ∷ ps) low = let more = settle_length k line ps (omega (arith, low)) in omega (arith, more)
 
--- what a line leaves waiting is `Left`
+-- after a line the requests that wait are those that `Left` says: all but the oldest, as many as it settled
 pub heard_left : (c : ById) (line : List ℕ) (o : Option ℕ) → Left c (hears c line o)
 heard_left c line None = record { count = 0; enough = omega arith; next = refl; waiting = refl; settled = refl }
 heard_left c line (Some id) = by_test (place_in c id) (nat_lt (place_in c id) (length c.waiting)) refl where
+  -- the lemma above, by whether the id is of a request that waits (`true`)
   by_test : (k : ℕ) (b : Bool) → nat_lt k (length c.waiting) ≡ b → Left c (id_settled c line k b)
   by_test k true fits = let low = ltb-true k (length c.waiting) fits in record { count = k + 1; enough = omega (arith, low); next = refl; waiting = refl; settled = settle_length k line c.waiting low }
   by_test k false fits = record { count = 0; enough = omega arith; next = refl; waiting = refl; settled = refl }
@@ -147,7 +157,7 @@ left_count c x l = ap length l.waiting ∙ length-drop l.count c.waiting
 pub left_window : (c : ById) (x : Settled ById) → Left c x → IsWindow c → IsWindow x.client
 left_window c x l w = let many = left_count c x l in record { digit = subst (λ (n : ℕ). n < 8) (sym l.next) w.digit; few = omega (arith, many, w.few) }
 
--- the requests that a line leaves waited before it, with the same numbers
+-- the requests that a line leaves waiting are as they were (`WaitsAt`), with the same numbers and at lower places
 pub left_waits : (plan : Plan) (commands : List Task) (scope : Scope) (acts : List Act) (first : ById) (now : ℕ) (c : ById) (x : Settled ById) (marks : List (Option Mark)) → Left c x → IsWindow c
     → Rows (WaitsAt plan commands scope acts first now c.next (length c.waiting)) 0 0 c.waiting marks
     → Rows (WaitsAt plan commands scope acts first now x.client.next (length x.client.waiting)) 0 0 x.client.waiting (drop (length x.settlements) marks)
@@ -167,56 +177,73 @@ left_waits plan commands scope acts first now c x marks l w all =
     ap (λ (y : ℕ). id_at y (length d.waiting) j) l.next ∙ ap (λ (y : ℕ). id_at c.next y j) many ∙ settling c.next (length c.waiting) w.few n j below in
     (asked_as plan commands scope acts (StayedAt now) number (n + j) j _ _ p mark (λ above. omega (arith, above)) ids wait.0, subst (λ (i : ℕ). Ids.Waits first i) (sym ids) wait.1)) marked
 
--- a record has the ending of this settlement, by the readings of replies
+-- a record is of this settlement: it has its command, and its ending by some readings of replies and some place of the target
 pub record IsRecordOf (r : Record) (x : Settlement) : Type 0 where
   pub reads : Call → List ℕ → Reading
-  pub near : Option Near
+  pub expected : Expected
   pub command : r.command ≡ command_of x
-  pub ended : r.end ≡ end_of reads near x.call x.outcome
+  pub ended : r.end ≡ end_of reads expected x.call x.outcome
 
-value_line : (away : Bool) (answer : Answer) (line : List ℕ) → answer_of (value_as away answer line) ≡ Some line
-value_line true answer line = refl
-value_line false answer line = refl
+-- the ending by an answer has the reply's line, whether the answer is elsewhere or not
+value_line : (q : Quality) (away : Bool) (answer : Answer) (line : List ℕ) → answer_of (value_as q away answer line) ≡ Some line
+value_line q true answer line = refl
+value_line q false answer line = refl
 
-answer_line : (near : Option Near) (x : Reading) (line : List ℕ) → answer_of (answer_as near x line) ≡ Some line
-answer_line near (reading.Value answer) line = value_line (is_elsewhere near answer) answer line
-answer_line near (reading.Refused code) line = refl
-answer_line near (reading.ComFault code) line = refl
-answer_line near (reading.Unreadable fault) line = refl
+-- the ending by a reply with an accepted return code has the reply's line, whatever it says with return code 0
+warned_line : (near : Option Near) (x : Reading) (line : List ℕ) → answer_of (warned_as near x line) ≡ Some line
+warned_line near (reading.Value answer) line = value_line quality.Warning (is_elsewhere near answer) answer line
+warned_line near (reading.Refused code) line = refl
+warned_line near (reading.ComFault code) line = refl
+warned_line near (reading.Unreadable fault) line = refl
 
--- an end without a line is none of an answer
-unanswered : (near : Option Near) (x : Reading) (line : List ℕ) (end : End) → answer_of end ≡ None → answer_as near x line ≡ end → ⊥
-unanswered near x line end none e = let bad : Some line ≡ None = sym (answer_line near x line) ∙ ap answer_of e ∙ none in cc
+-- the ending by a reply with another return code than 0 has the reply's line, whether that code is accepted or not
+refused_line : (accepted : Bool) (near : Option Near) (x : Reading) (line : List ℕ) → answer_of (refused_as accepted near x line) ≡ Some line
+refused_line true near x line = warned_line near x line
+refused_line false near x line = refl
 
--- a command with the line of an answer is one whose request was answered by that line
-answered_so : (reads : Call → List ℕ → Reading) (near : Option Near) (call : Call) (o : Outcome) (l : List ℕ) → answer_of (end_of reads near call o) ≡ Some l → o ≡ Answered l
-answered_so reads near call (Answered line) l e = let same : Some line ≡ Some l = sym (answer_line near (reads call line) line) ∙ e in cc
-answered_so reads near call Late l e = cc
-answered_so reads near call Lost l e = cc
+-- the ending by a reply in time has the reply's line, whatever it says
+answer_line : (expected : Expected) (x y : Reading) (line : List ℕ) → answer_of (answer_as expected x y line) ≡ Some line
+answer_line expected (reading.Value answer) y line = value_line quality.Fine (is_elsewhere expected.near answer) answer line
+answer_line expected (reading.Refused code) y line = refused_line (are_accepted expected.accepted code) expected.near y line
+answer_line expected (reading.ComFault code) y line = refl
+answer_line expected (reading.Unreadable fault) y line = refl
 
-late_so : (reads : Call → List ℕ → Reading) (near : Option Near) (call : Call) (o : Outcome) → end_of reads near call o ≡ ends.Late → o ≡ Late
-late_so reads near call (Answered line) e = absurd (unanswered near (reads call line) line ends.Late refl e)
-late_so reads near call Late e = refl
-late_so reads near call Lost e = cc
+-- an ending without a line isn't that by a reply in time
+unanswered : (expected : Expected) (x y : Reading) (line : List ℕ) (end : End) → answer_of end ≡ None → answer_as expected x y line ≡ end → ⊥
+unanswered expected x y line end none e = let bad : Some line ≡ None = sym (answer_line expected x y line) ∙ ap answer_of e ∙ none in cc
 
-lost_so : (reads : Call → List ℕ → Reading) (near : Option Near) (call : Call) (o : Outcome) → end_of reads near call o ≡ ends.Lost → o ≡ Lost
-lost_so reads near call (Answered line) e = absurd (unanswered near (reads call line) line ends.Lost refl e)
-lost_so reads near call Late e = cc
-lost_so reads near call Lost e = refl
+-- a command whose ending has a reply's line was settled as answered, by that line
+pub answered_so : (reads : Call → List ℕ → Reading) (expected : Expected) (call : Call) (o : Outcome) (l : List ℕ) → answer_of (end_of reads expected call o) ≡ Some l → o ≡ Answered l
+answered_so reads expected call (Answered line) l e = let same : Some line ≡ Some l = sym (answer_line expected (reads call line) (reads call (as_zero line)) line) ∙ e in cc
+answered_so reads expected call Late l e = cc
+answered_so reads expected call Lost l e = cc
+
+-- a command that ended as late was settled as late
+late_so : (reads : Call → List ℕ → Reading) (expected : Expected) (call : Call) (o : Outcome) → end_of reads expected call o ≡ ends.Late → o ≡ Late
+late_so reads expected call (Answered line) e = absurd (unanswered expected (reads call line) (reads call (as_zero line)) line ends.Late refl e)
+late_so reads expected call Late e = refl
+late_so reads expected call Lost e = cc
+
+-- a command that ended as lost was settled as lost
+lost_so : (reads : Call → List ℕ → Reading) (expected : Expected) (call : Call) (o : Outcome) → end_of reads expected call o ≡ ends.Lost → o ≡ Lost
+lost_so reads expected call (Answered line) e = absurd (unanswered expected (reads call line) (reads call (as_zero line)) line ends.Lost refl e)
+lost_so reads expected call Late e = cc
+lost_so reads expected call Lost e = refl
 
 -- the settlement of a record of an answer is an answer, of the same line
 pub was_answered : (r : Record) (x : Settlement) → IsRecordOf r x → (l : List ℕ) → answer_of r.end ≡ Some l → x.outcome ≡ Answered l
-was_answered r x is l e = answered_so is.reads is.near x.call x.outcome l (ap answer_of (sym is.ended) ∙ e)
+was_answered r x is l e = answered_so is.reads is.expected x.call x.outcome l (ap answer_of (sym is.ended) ∙ e)
 
 -- the settlement of a late record is late
 pub was_late : (r : Record) (x : Settlement) → IsRecordOf r x → r.end ≡ ends.Late → x.outcome ≡ Late
-was_late r x is e = late_so is.reads is.near x.call x.outcome (sym is.ended ∙ e)
+was_late r x is e = late_so is.reads is.expected x.call x.outcome (sym is.ended ∙ e)
 
 -- the settlement of a lost record is lost
 pub was_lost : (r : Record) (x : Settlement) → IsRecordOf r x → r.end ≡ ends.Lost → x.outcome ≡ Lost
-was_lost r x is e = lost_so is.reads is.near x.call x.outcome (sym is.ended ∙ e)
+was_lost r x is e = lost_so is.reads is.expected x.call x.outcome (sym is.ended ∙ e)
 
--- what follows for a record from its settlement and its mark holds of all records of these settlements
+-- where Q of a settlement and its mark gives R of its record, and Q holds of these settlements and marks, one for one, R holds
+-- of all their records
 pub records_all : (Q : ℕ → Settlement → Option Mark → Type 0) (R : Record → Type 0) (reads : Call → List ℕ → Reading) (utc j : ℕ) (xs : List Settlement) (marks : List (Option Mark))
     → ((i : ℕ) (x : Settlement) (m : Mark) → Q i x (Some m) → R (record_of reads utc m x)) → AllAt Q j xs marks → AllByRecursion R (records_of reads utc marks xs)
 records_all Q R reads utc j xs [] step all = tt

@@ -1,5 +1,5 @@
--- What holds between an act and the end of what waits: the counts and the records, and what the phase says. The weaker form of what every
--- run keeps.
+-- What holds in the midst of an act, before what waits is lost: `Mid`, the weaker record, which has the counts and the records,
+-- and what the phase says. At the end of an act it gives what every run keeps (`Invariant`).
 use Rattle.std.proofs.Common.{◌≡◌, ℕ, ◌+◌, ◌-◌, ◌%◌, ◌<◌, ◌≤◌, ◌⊎◌, inl, inr, ◌&&◌, ◌||◌, Bool, true, false, not, List, [], ◌∷◌, ◌++◌, length, drop, map, nat_eq, Option, Some, None, refl, sym, ap, ◌∙◌, subst, arith, length-append}
 use Rattle.std.proofs.Math.Nat.{mod-lt}
 use Rattle.std.proofs.lemmas.Bool.Decides.{nat_tests}
@@ -11,7 +11,7 @@ use Rattle.gc_client.specs.declared.pending.Pending.{Pending}
 use Rattle.gc_client.specs.Rule.{ById, Settlement, expires, expired, fresh, lost, pending_of, id_send, sends}
 use Rattle.gc_client.specs.OneForOne.{of_settled, of_pending}
 use Rattle.gc_client.proofs.OneForOne.{lost_parts}
-use Rattle.gc_texts.specs.declared.near.Near.{Near}
+use Rattle.gc_texts.specs.declared.near.Expected.{Expected}
 use Rattle.gc_texts.specs.declared.tasks.Task.{Task}
 use Rattle.gc_texts.specs.Endings.{End}
 use Rattle.gc_station.specs.declared.mark.Mark.{Mark}
@@ -27,7 +27,9 @@ use Rattle.gc_station.specs.Model.{Model, client_sent, losing, ended}
 use Rattle.gc_station.proofs.Each.{EachIs, each_moment, each_settles, each_null, each_sent, each_skipped, each_begun}
 use Rattle.gc_station.proofs.Invariant.{Invariant, is_bare, says_done}
 
--- the records and the commands that wait are what was sent, by these counts; and the client's ids and window are right
+-- where `left` cycles haven't begun, and `unsent` commands of the present one haven't had their turn: the records, and after
+-- them the commands that wait, are the commands that had their turn, sent or not, in order. Each request that waits has its
+-- mark, at most 7 wait, and the next id is below 8
 pub record Sound (plan : Plan) (commands : List Task) (left unsent : ℕ) (client : ById) (marks : List (Option Mark)) (records : List Record) : Type 0 where
   pub unsents : unsent ≤ length commands
   pub lefts : left ≤ plan.cycles
@@ -50,7 +52,7 @@ SoundAt plan commands p client marks records = Sound plan commands p.left p.unse
 abbrev pub PlacedAt : Progress → List ℕ → List (Option Mark) → Type 0
 PlacedAt p rest marks = Placed p.phase p.left p.unsent rest marks
 
--- the weaker record: both of a model
+-- the weaker record of a model: `Sound` of its counts, and `Placed` of its phase
 abbrev pub Mid : Plan → List Task → Model → Type 0
 Mid plan commands s = SoundAt plan commands s.progress s.client s.marks s.records × PlacedAt s.progress s.rest s.marks
 
@@ -72,6 +74,7 @@ mid_of plan commands s fine = (
   },
 )
 
+-- a test isn't true and false
 pub clash : (b : Bool) → b ≡ true → b ≡ false → ⊥
 clash b e g = cc
 
@@ -115,11 +118,12 @@ sound_settles reads plan commands left unsent client next marks records utc ss p
       each = each_settles reads utc marks client.waiting next.waiting ss records (sent_by commands (plan.cycles - left) (length commands - unsent)) parts sound.each;
     }
 
--- where there is room, the client behind a send has the next id, and one request more that waits
+-- where there is room, the client after a send has the next id, and one request more that waits
 pub client_behind : (client : ById) (target : ℕ) (call : Call) (deadline : ℕ) → length client.waiting < 7
     → client_sent client (sends WINDOW client target call deadline) ≡ record { next = (client.next + 1) % IDS; waiting = client.waiting ++ pending_of target call deadline ∷ [] }
 client_behind client target call deadline room =
     ap (λ (b : Bool). client_sent client (id_send client target call deadline b)) (room_left (length client.waiting) room) where
+      -- a number below 7 isn't 7
       room_left : (n : ℕ) → n < 7 → nat_eq n 7 ≡ false
       room_left n room = grind (arith, nat_tests, room)
 
@@ -144,21 +148,21 @@ sound_null plan commands left unsent client marks records target call deadline r
       each = each_null marks client.waiting p records (sent_by commands (plan.cycles - left) (length commands - unsent)) sound.paired sound.each;
     })
 
--- a command that is sent keeps `Sound`, with one less unsent
-pub sound_sent : (plan : Plan) (commands : List Task) (left unsent : ℕ) (client : ById) (marks : List (Option Mark)) (records : List Record) (utc deadline : ℕ) (near : Option Near) (task : Task) (others : List Task)
+-- a command that is sent keeps `Sound`, with one command less unsent
+pub sound_sent : (plan : Plan) (commands : List Task) (left unsent : ℕ) (client : ById) (marks : List (Option Mark)) (records : List Record) (utc deadline : ℕ) (expected : Expected) (task : Task) (others : List Task)
     → length client.waiting < 7 → 0 < unsent → drop (length commands - unsent) commands ≡ task ∷ others → Sound plan commands left unsent client marks records
     → Sound plan commands left (unsent - 1) (client_sent client (sends WINDOW client task.command.target task.command.call deadline))
-    (marks ++ Some (record { cycle = plan.cycles - left; place = length commands - unsent; sent = utc; near = near }) ∷ []) records
-sound_sent plan commands left unsent client marks records utc deadline near task others room some at sound =
+    (marks ++ Some (record { cycle = plan.cycles - left; place = length commands - unsent; sent = utc; expected = expected }) ∷ []) records
+sound_sent plan commands left unsent client marks records utc deadline expected task others room some at sound =
     let p = pending_of task.command.target task.command.call deadline in
     let begun = plan.cycles - left in
     let place = length commands - unsent in
-    let mark : Mark = record { cycle = begun; place = place; sent = utc; near = near } in
+    let mark : Mark = record { cycle = begun; place = place; sent = utc; expected = expected } in
     let more : length (client.waiting ++ p ∷ []) ≡ length client.waiting + 1 = length-append client.waiting (p ∷ []) in
     let below = sound.begun some in
     let many : 0 < begun = omega (arith, below) in
     let place_is : length commands - (unsent - 1) ≡ place + 1 = omega (arith, some, sound.unsents) in
-    let each = each_sent commands begun place utc near marks client.waiting p records task others sound.paired at refl many sound.each in
+    let each = each_sent commands begun place utc expected marks client.waiting p records task others sound.paired at refl many sound.each in
     subst (λ (c : ById). Sound plan commands left (unsent - 1) c (marks ++ Some mark ∷ []) records) (sym (client_behind client task.command.target task.command.call deadline room)) (record {
       unsents = omega (arith, sound.unsents);
       lefts = sound.lefts;
@@ -169,7 +173,7 @@ sound_sent plan commands left unsent client marks records utc deadline near task
       each = subst (λ (n : ℕ). EachIs (marks ++ Some mark ∷ []) (client.waiting ++ p ∷ []) records (sent_by commands begun n)) (sym place_is) each;
     })
 
--- a command that isn't sent keeps `Sound`, with one less unsent
+-- a command that isn't sent keeps `Sound`, with one command less unsent
 pub sound_skipped : (plan : Plan) (commands : List Task) (left unsent : ℕ) (client : ById) (marks : List (Option Mark)) (records : List Record) (utc : ℕ) (end : End) (task : Task) (others : List Task)
     → commands_in marks ≡ 0 → 0 < unsent → drop (length commands - unsent) commands ≡ task ∷ others → Sound plan commands left unsent client marks records
     → Sound plan commands left (unsent - 1) client marks (records ++ record
@@ -210,18 +214,18 @@ sound_begun plan commands left unsent client marks records none settled some sou
 
 -- The end of what waits.
 
--- where nothing is lost, the station has begun and an act follows
+-- where nothing is lost, the station has begun (a), and the run isn't over (o)
 kept_for : (a o : Bool) → (not a || o) ≡ false → (a ≡ true) × (o ≡ false)
 kept_for true o e = (refl, e)
 kept_for false o e = cc
 
--- where what the phase says of a run that is done holds, and the run isn't over, no command waits
+-- where the counts are those of a run that is done, as `Placed` has them, and the run isn't over, no command waits
 still_finished : (p : Progress) (marks : List (Option Mark)) → is_over p ≡ false
     → (p.left ≡ 0) × (p.unsent ≡ 0) × ((is_over_in p.phase ≡ true) ⊎ (commands_in marks ≡ 0)) → (p.left ≡ 0) × (p.unsent ≡ 0) × (commands_in marks ≡ 0)
 still_finished p marks not_over (left, unsent, inl over) = absurd (clash (is_over p) (ap (λ b. b || (not (is_up p.phase) && nat_eq p.turns 0)) over) not_over)
 still_finished p marks not_over (left, unsent, inr none) = (left, unsent, none)
 
--- the weaker record gives what every run keeps, once what waits is lost where it is to be
+-- once all that waits is lost where `loses_all` says so, the weaker record gives what every run keeps
 fine_losing : (plan : Plan) (commands : List Task) (s : Model) (b : Bool) → loses_all s.progress ≡ b → Mid plan commands s → Invariant plan commands (losing b s)
 fine_losing plan commands s true is (sound, placed) =
     let p = s.progress in
@@ -241,6 +245,7 @@ fine_losing plan commands s true is (sound, placed) =
       finished = λ e. let it = placed.finished e in (it.0, it.1, ap commands_in nothing);
       each = x.each;
     } where
+      -- an empty list behind a list adds nothing
       append_none : {A : Type 0} (xs : List A) → xs ++ [] ≡ xs
       append_none [] = refl
       append_none (x ∷ xs) = ap (λ ys. x ∷ ys) (append_none xs)
@@ -261,6 +266,6 @@ fine_losing plan commands s false is (sound, placed) =
       each = sound.each;
     }
 
--- the weaker record gives what every run keeps behind the whole act
+-- the weaker record gives what every run keeps after the whole act
 pub fine_ended : (plan : Plan) (commands : List Task) (s : Model) → Mid plan commands s → Invariant plan commands (ended s)
 fine_ended plan commands s mid = fine_losing plan commands s (loses_all s.progress) refl mid

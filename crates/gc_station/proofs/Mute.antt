@@ -1,4 +1,7 @@
--- A connection is closed for a dead line only where no reply line came for so long.
+-- A connection is closed for a dead line only where no reply line came for long enough. A silence begins with an act that tells
+-- a moment, after which no reply line comes. An act is one call of the link, with what came of it. `alive` is the moment since
+-- which no reply line came, `now` the moment told last, `asked` whether a request went out after the last reply line; `before`
+-- and `behind` are the acts before and after the act `start`, with which a silence begins. Moments are in milliseconds.
 use Rattle.std.proofs.Common.{◌≡◌, ℕ, ◌-◌, ◌<◌, ◌≤◌, ◌⊎◌, inl, inr, ◌&&◌, ◌||◌, Bool, true, false, List, [], ◌∷◌, ◌++◌, length, drop, Option, None, Result, Ok, Err, if◌then◌else◌, nat_lt, nat_le, min, refl, sym, ap, ◌∙◌, subst, arith, append_assoc}
 use Rattle.std.specs.List.{AllByRecursion}
 use Rattle.std.proofs.Math.Nat.{min-eq_left, min-eq_right}
@@ -40,26 +43,30 @@ use Rattle.gc_station.proofs.Invariant.{Invariant}
 use Rattle.gc_station.proofs.Walk.{lines_along, asked_along, came_along}
 use Rattle.gc_station.specs.Scopes.{Scope}
 
--- The lines of a piece: none reads as a reply, or the line was alive at that moment.
+-- The lines of a piece: none reads as a reply, or the line was alive at the moment of the piece.
 
+-- lines that are heard leave the moment told last
 lines_moment : (s : Model) (lines : List (List ℕ)) → (lines_came s lines).progress.moment ≡ s.progress.moment
 lines_moment s lines = lines_along (λ (t : Model). t.progress.moment ≡ s.progress.moment) (λ t line e. e) s lines refl
 
--- none of these lines is a reply, and `alive` and `asked` are as in the model; or the line was alive at the moment told last, and no
--- request went out since
+-- for lines that the client hears, from the model to this progress: none of them is a reply, and `alive` and `asked` stay as in
+-- the model; or the line was alive at the moment told last, and no request went out since
 abbrev Alive : Model → List (List ℕ) → Progress → Type 0
 Alive s lines p = (AllByRecursion IsNoReply lines × (p.alive ≡ s.progress.alive) × (p.asked ≡ s.progress.asked)) ⊎ ((p.alive ≡ s.progress.moment.elapsed) × (p.asked ≡ false))
 
--- `Alive` holds behind lines that the client hears
+-- `Alive` holds after lines that the client hears
 lines_alive : (s : Model) (lines : List (List ℕ)) → Alive s lines (lines_came s lines).progress
 lines_alive s [] = inl (tt, refl, refl)
 lines_alive s (line ∷ others) = on (is_reply line) refl (lines_alive (line_came s line) others) where
+  -- where the line is a reply (`true`), the line was alive at this moment; else `alive` stays
   here : (b : Bool) → is_reply line ≡ b → (line_came s line).progress.alive ≡ (if b then s.progress.moment.elapsed else s.progress.alive)
   here b e = ap (λ (x : Bool). if x then s.progress.moment.elapsed else s.progress.alive) e
 
+  -- where the line is a reply (`true`), no request went out since; else `asked` stays
   asks : (b : Bool) → is_reply line ≡ b → (line_came s line).progress.asked ≡ (if b then false else s.progress.asked)
   asks b e = ap (λ (x : Bool). if x then false else s.progress.asked) e
 
+  -- `Alive` holds with one line more in front
   on : (b : Bool) → is_reply line ≡ b → Alive (line_came s line) others (lines_came (line_came s line) others).progress → Alive s (line ∷ others) (lines_came (line_came s line) others).progress
   on b e (inr now) = inr now
   on true e (inl none) = inr (none.1 ∙ here true e, none.2 ∙ asks true e)
@@ -68,6 +75,7 @@ lines_alive s (line ∷ others) = on (is_reply line) refl (lines_alive (line_cam
 -- a line that doesn't read as a reply has no id
 no_reply : (line : List ℕ) → is_reply line ≡ false → heard line ≡ None
 no_reply line e = by_reply (reply_at line) e where
+  -- the lemma above, by how the line reads
   by_reply : (r : Result ReplyFields LineFault) → is_ok r ≡ false → id_in r ≡ None
   by_reply (Ok fields) e = cc
   by_reply (Err fault) e = refl
@@ -77,29 +85,34 @@ left_same : (word : List ℕ) (id : Option ℕ) → id ≡ None → left_by word
 left_same [] id e = refl
 left_same (asked ∷ others) id e = ap (λ (i : Option ℕ). left_by (asked ∷ others) i) e
 
--- a line without an id doesn't change when a null procedure goes out again
+-- a line without an id leaves `again`, the moment at which the null procedure goes out again
 again_same : (word : List ℕ) (id : Option ℕ) (again : ℕ) → id ≡ None → (if is_answered word id then 0 else again) ≡ again
 again_same [] id again e = refl
 again_same (asked ∷ others) id again e = ap (λ (i : Option ℕ). if is_answered (asked ∷ others) i then 0 else again) e
 
--- as `Alive`, while the station begins: lines of which none is a reply leave what is left of the beginning, too
+-- as `Alive`, for lines that the beginning hears, from one progress to another: where none of them is a reply, the ids that are
+-- left (`word`) and the next null procedure's moment (`again`) stay, too
 abbrev AliveAsked : Progress → List (List ℕ) → Progress → Type 0
 AliveAsked p lines q =
     (AllByRecursion IsNoReply lines × (q.alive ≡ p.alive) × (q.asked ≡ p.asked) × (q.word ≡ p.word) × (q.again ≡ p.again)) ⊎ ((q.alive ≡ p.moment.elapsed) × (q.asked ≡ false))
 
--- `AliveAsked` holds behind lines that the beginning hears
+-- `AliveAsked` holds after lines that the beginning hears
 asked_alive : (p : Progress) (lines : List (List ℕ)) → AliveAsked p lines (lines_asked p lines)
 asked_alive p [] = inl (tt, refl, refl, refl, refl)
 asked_alive p (line ∷ others) = on (is_reply line) refl (asked_alive (line_asked p line) others) where
+  -- the progress after all lines
   q : Progress
   q = lines_asked (line_asked p line) others
 
+  -- where the line is a reply (`true`), the line was alive at this moment; else `alive` stays
   here : (b : Bool) → is_reply line ≡ b → (line_asked p line).alive ≡ (if b then p.moment.elapsed else p.alive)
   here b e = ap (λ (x : Bool). if x then p.moment.elapsed else p.alive) e
 
+  -- where the line is a reply (`true`), no request went out since; else `asked` stays
   asks : (b : Bool) → is_reply line ≡ b → (line_asked p line).asked ≡ (if b then false else p.asked)
   asks b e = ap (λ (x : Bool). if x then false else p.asked) e
 
+  -- `AliveAsked` holds with one line more in front
   on : (b : Bool) → is_reply line ≡ b → AliveAsked (line_asked p line) others q → AliveAsked p (line ∷ others) q
   on b e (inr now) = inr now
   on true e (inl none) = inr (none.1 ∙ here true e, none.2 ∙ asks true e)
@@ -107,27 +120,31 @@ asked_alive p (line ∷ others) = on (is_reply line) refl (asked_alive (line_ask
       let silent = no_reply line e in
       inl ((e, none.0), none.1 ∙ here false e, none.2 ∙ asks false e, none.3 ∙ left_same p.word (heard line) silent, none.4 ∙ again_same p.word (heard line) p.again silent)
 
--- whether a reply line is waited for on the connection: the station has begun, or a null procedure went out on it, or a request behind
--- the last reply line
+-- whether a reply line is waited for on the connection: the station has begun (no id of `word` is left), or a null procedure went
+-- out on it (`again`), or a request after the last reply line (`asked`)
 abbrev is_sought : List ℕ → ℕ → Bool → Bool
 is_sought word again asked = is_none_left word || (nat_lt 0 again || asked)
 
+-- once the station has begun, a reply line is waited for
 sought_begun : (word : List ℕ) (again : ℕ) (asked : Bool) → is_none_left word ≡ true → is_sought word again asked ≡ true
 sought_begun word again asked e = ap (λ b. b || (nat_lt 0 again || asked)) e
 
+-- where a null procedure of the beginning went out on this connection, a reply line is waited for
 sought_again : (word : List ℕ) (again : ℕ) (asked : Bool) → nat_lt 0 again ≡ true → is_sought word again asked ≡ true
 sought_again word again asked e = ap (λ b. is_none_left word || (b || asked)) e ∙ or_true (is_none_left word)
 
+-- where a request went out after the last reply line, a reply line is waited for
 sought_asked : (word : List ℕ) (again : ℕ) (asked : Bool) → asked ≡ true → is_sought word again asked ≡ true
 sought_asked word again asked e = ap (λ b. is_none_left word || (nat_lt 0 again || b)) e ∙ ap (λ b. is_none_left word || b) (or_true (nat_lt 0 again)) ∙ or_true (is_none_left word)
 
--- which requests went out behind the moment since when no reply line came: none, where no request is waited for; else one at once, or
--- the clock went back then
+-- which requests went out in the acts `behind` (last), after a silence began at the moment `from`. If none is waited for
+-- (`false`), none did; else the first of these acts sent one, or the clock went back to `from` after the acts `before` (the
+-- third argument)
 abbrev Asks : Bool → ℕ → List Act → List Act → Type 0
 Asks false from before behind = AllByRecursion IsListening behind
 Asks true from before behind = ((text : List ℕ) × (others : List Act) × (behind ≡ Put text ∷ others)) ⊎ WentBack from before
 
--- where a request went out at once, `Asks` lasts over whatever follows
+-- where a request went out at once, or the clock went back, `Asks` lasts over any act
 asks_still : (from : ℕ) (before behind : List Act) (act : Act) → Asks true from before behind → Asks true from before (behind ++ act ∷ [])
 asks_still from before behind act (inl put) = inl (put.0, put.1 ++ act ∷ [], ap (λ xs. xs ++ act ∷ []) put.2)
 asks_still from before behind act (inr back) = inr back
@@ -144,22 +161,24 @@ asks_any false from before behind asks = inl asks
 asks_any true from before behind asks = inr asks
 
 module _ (plan : Plan) (commands : List Task) (scope : Scope) where
-  -- behind an act that told a moment no reply line came on the same connection; and `now` is the moment told last
+  -- a silence began with `start`, which tells the moment `alive`: after it no act brings a reply line or closes the connection,
+  -- requests went out as `Asks` says, and `now` is the moment told last. The arguments are `asked`, `alive`, `now`, `before`,
+  -- `start` and `behind`
   abbrev Mutes : Bool → ℕ → ℕ → List Act → Act → List Act → Type 0
   Mutes asked alive now before start behind =
       TellsMoment alive start × AllByRecursion StaysConnected behind × IsMute plan commands (stood plan commands scope (before ++ start ∷ [])) behind
       × Asks asked alive before behind × (latest alive behind ≡ now) × (alive ≤ now)
 
-  -- there is an act among these of which `Mutes` holds
+  -- one of these acts begins a silence (`Mutes`). The arguments are `asked`, `alive`, `now` and the acts
   abbrev IsMuted : Bool → ℕ → ℕ → List Act → Type 0
   IsMuted asked alive now acts = Since (Mutes asked alive now) acts
 
-  -- acts that bring no reply, and one more that brings none, are mute together
+  -- if acts bring no reply line, and one more brings none, all of them bring none
   mute_more : (s : Model) (xs : List Act) (act : Act) → IsMute plan commands s xs → BringsNoReply (after_all plan commands s xs).rest act → IsMute plan commands s (xs ++ act ∷ [])
   mute_more s [] act mute here = (here, tt)
   mute_more s (x ∷ xs) act mute here = (mute.0, mute_more (after plan commands s x) xs act mute.1 here)
 
-  -- a silence begins with an act that tells a moment, if `Asks` holds there
+  -- a silence begins with an act that tells a moment, if `Asks` holds with nothing after it
   muted_from : (asked : Bool) (now : ℕ) (acts : List Act) (act : Act) → TellsMoment now act → Asks asked now acts [] → IsMuted asked now now (acts ++ act ∷ [])
   muted_from asked now acts act tells asks = let least : now ≤ now = omega arith in since_now (Mutes asked now now) acts act (tells, tt, tt, asks, refl, least)
 
@@ -167,7 +186,7 @@ module _ (plan : Plan) (commands : List Task) (scope : Scope) where
   muted_now : (now : ℕ) (acts : List Act) (act : Act) → TellsMoment now act → IsMuted false now now (acts ++ act ∷ [])
   muted_now now acts act tells = muted_from false now acts act tells tt
 
-  -- a silence goes on behind an act that brings no reply
+  -- a silence goes on after an act that brings no reply
   muted_on : (asked : Bool) (alive now : ℕ) (acts : List Act) (act : Act) → StaysConnected act → BringsNoReply (stood plan commands scope acts).rest act
       → ((before behind : List Act) → Asks asked alive before behind → Asks asked alive before (behind ++ act ∷ [])) → alive ≤ latest now (act ∷ []) → IsMuted asked alive now acts
       → IsMuted asked alive (latest now (act ∷ [])) (acts ++ act ∷ [])
@@ -184,7 +203,7 @@ module _ (plan : Plan) (commands : List Task) (scope : Scope) where
         least,
       )) q
 
-  -- a silence begins at the last moment, where a request goes out behind it
+  -- where a request goes out, a silence begins with the act before it, which told the last moment
   muted_asking : (now : ℕ) (acts : List Act) (out : List ℕ) → LastTells now acts → IsMuted true now now (acts ++ Put out ∷ [])
   muted_asking now acts out (front, last, action, tells) =
       let least : now ≤ now = omega arith in
@@ -196,7 +215,7 @@ module _ (plan : Plan) (commands : List Task) (scope : Scope) where
         holds = (tells, (tt, tt), (tt, tt), inl (out, [], refl), refl, least);
       }
 
-  -- where the clock goes back to a moment before a silence began, `Asks` holds of the silence that begins at that moment
+  -- where the clock goes back to a moment (m) before a silence began, `Asks` holds of the silence that begins at m
   went_back : (asked : Bool) (alive now m : ℕ) (acts : List Act) → m < alive → IsMuted asked alive now acts → Asks asked m acts []
   went_back false alive now m acts less q = tt
   went_back true alive now m acts less q =
@@ -213,7 +232,7 @@ module _ (plan : Plan) (commands : List Task) (scope : Scope) where
         later = later;
       })
 
-  -- a silence goes on behind an act that tells a moment, or begins anew there where the clock went back
+  -- a silence goes on after an act that tells a moment, or begins anew there where the clock went back
   muted_clock : (asked : Bool) (alive now : ℕ) (m : Moment) (acts : List Act) (act : Act) (b : Bool) → nat_le alive m.elapsed ≡ b → TellsMoment m.elapsed act
       → latest now (act ∷ []) ≡ m.elapsed → StaysConnected act → IsListening act
       → BringsNoReply (stood plan commands scope acts).rest act → IsMuted asked alive now acts → IsMuted asked (min alive m.elapsed) m.elapsed (acts ++ act ∷ [])
@@ -230,7 +249,8 @@ module _ (plan : Plan) (commands : List Task) (scope : Scope) where
 
   -- By the phase.
 
-  -- in the phase `Ready`, if a reply line is waited for, there was a silence since `alive`
+  -- in the phase `Ready`, if a reply line is waited for (`sought`), there has been a silence since `alive`. The arguments are
+  -- `sought`, `asked`, `alive`, `now`, the phase and the acts
   abbrev Mute : Bool → Bool → ℕ → ℕ → Phase → List Act → Type 0
   Mute sought asked alive now phase.Ready acts = sought ≡ true → IsMuted asked alive now acts
   Mute sought asked alive now _ acts = Unit {0}
@@ -255,18 +275,20 @@ module _ (plan : Plan) (commands : List Task) (scope : Scope) where
       λ so. muted_clock asked alive now m acts act (nat_le alive m.elapsed) refl tells is stays listens none (q (back refl so))
   mute_told sought sought' asked alive now m at acts act back tells is stays listens none q = tt
 
-  -- `Mute` lasts over a piece that is heard; with a reply line in it the line was alive at its moment
+  -- after a piece that is heard a silence goes on, if there is no reply line in it; else one begins at its moment
   heard_mute : (s : Model) (bytes : List ℕ) (m : Moment) (acts : List Act) (q : Progress) → (stood plan commands scope acts).rest ≡ s.rest → q.moment.elapsed ≡ m.elapsed
       → (AllByRecursion IsNoReply (lines_behind s.rest bytes) × (q.alive ≡ min s.progress.alive m.elapsed) × (q.asked ≡ s.progress.asked)
       × IsMuted s.progress.asked s.progress.alive s.progress.moment.elapsed acts)
       ⊎ ((q.alive ≡ m.elapsed) × (q.asked ≡ false))
       → IsMuted q.asked q.alive q.moment.elapsed (acts ++ Gave bytes m ∷ [])
   heard_mute s bytes m acts q rest now h = by_alive h where
+    -- the same silence, with `asked` and `alive` as q has them
     carried : (b : Bool) (a : ℕ) → q.asked ≡ b → q.alive ≡ a → IsMuted b a m.elapsed (acts ++ Gave bytes m ∷ []) → IsMuted q.asked q.alive q.moment.elapsed (acts ++ Gave bytes m ∷ [])
     carried b a eb ea x =
         subst (λ c. IsMuted c q.alive q.moment.elapsed (acts ++ Gave bytes m ∷ [])) (sym eb)
         (subst (λ c. IsMuted b c q.moment.elapsed (acts ++ Gave bytes m ∷ [])) (sym ea) (subst (λ c. IsMuted b a c (acts ++ Gave bytes m ∷ [])) (sym now) x))
 
+    -- the lemma above, by whether a reply line is in the piece
     by_alive : (AllByRecursion IsNoReply (lines_behind s.rest bytes) × (q.alive ≡ min s.progress.alive m.elapsed) × (q.asked ≡ s.progress.asked)
         × IsMuted s.progress.asked s.progress.alive s.progress.moment.elapsed acts)
         ⊎ ((q.alive ≡ m.elapsed) × (q.asked ≡ false)) → IsMuted q.asked q.alive q.moment.elapsed (acts ++ Gave bytes m ∷ [])
@@ -289,12 +311,15 @@ module _ (plan : Plan) (commands : List Task) (scope : Scope) where
       → IsMuted q.asked q.alive q.moment.elapsed (acts ++ Gave bytes m ∷ []))
   ready_mute s bytes m acts [] e rest h so = heard_mute s bytes m acts (lines_came mid lines).progress rest
       (ap (λ (x : Moment). x.elapsed) (lines_moment mid lines)) (by_lines (lines_alive mid lines)) where
+        -- the model before the lines: the moment was told, and the bytes behind the last line feed are kept
         mid : Model
         mid = with_rest (rest_behind s.rest bytes) (with_moment m (with_progress (told m) s))
 
+        -- the lines of the piece
         lines : List (List ℕ)
         lines = lines_behind s.rest bytes
 
+        -- none of these lines is a reply, and there was a silence before them; or one is, and the line was alive at their moment
         by_lines : Alive mid lines (lines_came mid lines).progress
             → (AllByRecursion IsNoReply lines × ((lines_came mid lines).progress.alive ≡ min s.progress.alive m.elapsed)
             × ((lines_came mid lines).progress.asked ≡ s.progress.asked) × IsMuted s.progress.asked s.progress.alive s.progress.moment.elapsed acts)
@@ -303,15 +328,19 @@ module _ (plan : Plan) (commands : List Task) (scope : Scope) where
         by_lines (inr now) = inr now
   ready_mute s bytes m acts (first ∷ others) e rest h so = heard_mute s bytes m acts q rest
       (ap (λ (x : Moment). x.elapsed) (came_moment true (first ∷ others) bytes mid).1) (by_lines (asked_alive mid.progress lines)) where
+        -- the model before the lines: the moment was told
         mid : Model
         mid = with_moment m (with_progress (told m) s)
 
+        -- the lines of the piece
         lines : List (List ℕ)
         lines = lines_behind s.rest bytes
 
+        -- the progress after the lines
         q : Progress
         q = lines_asked mid.progress lines
 
+        -- none of these lines is a reply, and there was a silence before them; or one is, and the line was alive at their moment
         by_lines : AliveAsked mid.progress lines q
             → (AllByRecursion IsNoReply lines × (q.alive ≡ min s.progress.alive m.elapsed) × (q.asked ≡ s.progress.asked)
             × IsMuted s.progress.asked s.progress.alive s.progress.moment.elapsed acts) ⊎ ((q.alive ≡ m.elapsed) × (q.asked ≡ false))
@@ -335,24 +364,25 @@ module _ (plan : Plan) (commands : List Task) (scope : Scope) where
       subst (λ (x : Phase). Mute (is_sought q.word q.again q.asked) q.asked q.alive q.moment.elapsed x (acts ++ Gave bytes m ∷ []))
       (sym ((came_moment (is_heard at) s.progress.word bytes (with_moment m (with_progress (told m) s))).0 ∙ is)) tt
 
-  -- behind a request a silence goes on, or begins with the moment told last
+  -- after a request the silence goes on, if a reply line was waited for already (`asked`); else a silence begins with the
+  -- moment told last
   muted_asks : (asked : Bool) (alive now : ℕ) (acts : List Act) (out : List ℕ) → LastTells now acts → (asked ≡ true → IsMuted true alive now acts)
       → IsMuted true (if asked then alive else now) now (acts ++ Put out ∷ [])
   muted_asks true alive now acts out tells q = let it = q refl in muted_on true alive now acts (Put out) tt tt (λ before behind asks. asks_still alive before behind (Put out) asks) it.holds.5 it
   muted_asks false alive now acts out tells q = muted_asking now acts out tells
 
-  -- where this action sends, begins anew or closes a dead line, the progress's moment is the one told last
+  -- where this action sends a request, the last of the acts told the progress's moment
   abbrev Tells : Progress → List Act → Action → Type 0
   Tells p acts actions.Ask = LastTells p.moment.elapsed acts
   Tells p acts actions.Send = LastTells p.moment.elapsed acts
   Tells p acts actions.Flush = LastTells p.moment.elapsed acts
   Tells p acts _ = Unit {0}
 
-  -- `MuteAt` in the phase that it is
+  -- what `MuteAt` says in this phase
   in_phase : (p : Progress) (at : Phase) (acts : List Act) → p.phase ≡ at → MuteAt p acts → Mute (is_sought p.word p.again p.asked) p.asked p.alive p.moment.elapsed at acts
   in_phase p at acts is q = subst (λ (x : Phase). Mute (is_sought p.word p.again p.asked) p.asked p.alive p.moment.elapsed x acts) is q
 
-  -- `MuteAt` lasts over an act that tells a moment
+  -- `MuteAt` lasts over an act that reads the clock
   told_mute : (sought : Bool) (p : Progress) (m : Moment) (acts : List Act)
       → (p.phase ≡ phase.Ready → sought ≡ true → is_sought p.word p.again p.asked ≡ true) → MuteAt p acts
       → Mute sought p.asked (min p.alive m.elapsed) m.elapsed p.phase (acts ++ Told m ∷ [])
@@ -372,7 +402,7 @@ module _ (plan : Plan) (commands : List Task) (scope : Scope) where
   cleared_mute true p acts e = tt
   cleared_mute false p acts e = λ so. absurd (clash (is_sought p.word 0 false) so (ap (λ b. b || false) e))
 
-  -- `Mute` lasts where the station begins anew: the time after which the line is dead goes on, or begins with the next request
+  -- `Mute` lasts where the station begins anew: the silence goes on, or begins with the next request
   mute_where : (asked on : Bool) (alive now : ℕ) (at : Phase) (acts : List Act) → Mute (is_sought the_word 0 asked) asked alive now at acts
       → Mute (is_sought the_word 0 (asked && on)) (asked && on) alive now at acts
   mute_where true true alive now at acts q = q
@@ -380,7 +410,7 @@ module _ (plan : Plan) (commands : List Task) (scope : Scope) where
   mute_where true false alive now at acts q = tt
   mute_where false on alive now at acts q = q
 
-  -- `MuteAt` lasts over an act of any action
+  -- what `MuteAt` says holds on after an act of any action that leaves a connection in use
   mute_line : (next : Action) (s : Model) (acts : List Act) → IsFor plan s.progress (waiting_of s) next → Tells s.progress acts next → (stood plan commands scope acts).rest ≡ s.rest
       → MuteAt s.progress acts → OnLine plan commands MuteAt next (with_progress turned s) acts
   mute_line actions.Open s acts needs tells rest q = λ m. tt
@@ -406,15 +436,17 @@ module _ (plan : Plan) (commands : List Task) (scope : Scope) where
 
   -- Whole runs.
 
+  -- `Tells` holds of an action that is next, as the moment was told before a request goes out
   tells_in : (p : Progress) (acts : List Act) (next : Action) → Wakes p next → (Awake p → LastTells p.moment.elapsed acts) → Tells p acts next
   tells_in p acts actions.Ask awake last = last awake
   tells_in p acts actions.Send awake last = last awake
   tells_in p acts actions.Flush awake last = last awake
   tells_in p acts next awake last = tt
 
-  -- `MuteAt` holds behind every run
+  -- `MuteAt` holds after every run
   mute_stood : (acts : List Act) → Runs plan commands (opening plan scope) acts → MuteAt (stood plan commands scope acts).progress acts
   mute_stood acts runs = always_far plan commands (opening plan scope) MuteAt step tt acts runs where
+    -- one act of a run keeps `MuteAt`
     step : (done : List Act) (act : Act) → Runs plan commands (opening plan scope) done
         → Performs commands (stood plan commands scope done) (action_at plan (stood plan commands scope done)) act
         → MuteAt (stood plan commands scope done).progress done
@@ -429,9 +461,11 @@ module _ (plan : Plan) (commands : List Task) (scope : Scope) where
   -- where a request waits, or a null procedure went out on this connection, a reply line is waited for
   sought_dead : (s : Model) → Invariant plan commands s → (nat_lt 0 (length s.client.waiting) || nat_lt 0 s.progress.again) ≡ true → is_sought s.progress.word s.progress.again s.progress.asked ≡ true
   sought_dead s fine e = by_again (nat_lt 0 s.progress.again) refl where
+    -- how far the station is
     p : Progress
     p = s.progress
 
+    -- where a request waits, by whether the station has begun: no request waits while it begins
     by_begun : (b : Bool) → has_begun p ≡ b → nat_lt 0 (length s.client.waiting) ≡ true → is_sought p.word p.again p.asked ≡ true
     by_begun true begun some = sought_begun p.word p.again p.asked begun
     by_begun false begins some =
@@ -439,11 +473,12 @@ module _ (plan : Plan) (commands : List Task) (scope : Scope) where
         let many = ltb-true 0 (length s.client.waiting) some in
         absurd (omega (arith, none, many))
 
+    -- the lemma above, by whether a null procedure of the beginning went out on this connection (`true`)
     by_again : (b : Bool) → nat_lt 0 p.again ≡ b → is_sought p.word p.again p.asked ≡ true
     by_again true again = sought_again p.word p.again p.asked again
     by_again false again = by_begun (has_begun p) refl (either_true (nat_lt 0 (length s.client.waiting)) (nat_lt 0 p.again) e again)
 
-  -- a connection is closed for a dead line only behind a silence that was long enough
+  -- a connection is closed for a dead line only after a silence that was long enough
   pub mute_close : (acts : List Act) → Runs plan commands (opening plan scope) acts
       → action_at plan (stood plan commands scope acts) ≡ actions.Close cause.Dead → IsMuteFor (patience_of plan) plan commands scope acts
   mute_close acts runs is = record {
@@ -458,18 +493,23 @@ module _ (plan : Plan) (commands : List Task) (scope : Scope) where
     asked = asks_any s.progress.asked s.progress.alive q.before q.behind q.holds.3;
     long = subst (λ n. patience_of plan ≤ n - s.progress.alive) (sym q.holds.4) (leb-true (patience_of plan) (s.progress.moment.elapsed - s.progress.alive) dead.1);
   } where
+    -- the model after the acts
     s : Model
     s = stood plan commands scope acts
 
+    -- a dead line is no failed call, so the phase hasn't decided the close before
     never : s.progress.phase ≡ phase.Closing cause.Dead → ⊥
     never = not_closing plan commands scope acts cause.Dead runs (λ act shows. shows)
 
+    -- the phase is `Ready`, and the moment was told
     awake : Awake s.progress
     awake = awake_here s.progress cause.Dead (subst (λ (next : Action). Wakes s.progress next) is (order_wakes plan s.progress (waiting_of s))) never
 
+    -- a reply line is waited for, and for long enough none came
     dead : ((nat_lt 0 (length s.client.waiting) || nat_lt 0 s.progress.again) ≡ true) × (nat_le (patience_of plan) (s.progress.moment.elapsed - s.progress.alive) ≡ true)
     dead = both_true (nat_lt 0 (length s.client.waiting) || nat_lt 0 s.progress.again)
         (nat_le (patience_of plan) (s.progress.moment.elapsed - s.progress.alive)) (end_here plan s cause.Dead is never).1
 
+    -- there is a silence since `alive`
     q : IsMuted s.progress.asked s.progress.alive s.progress.moment.elapsed acts
     q = in_phase s.progress phase.Ready acts awake.1 (mute_stood acts runs) (sought_dead s (fine_stood plan commands scope acts) dead.0)

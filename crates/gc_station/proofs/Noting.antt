@@ -1,4 +1,7 @@
--- A run on the way, with what was seen at each act: what the acts before it settled is in the book then, and lasts.
+-- A run on the way, with what was seen at each act (a `Turn`): what the acts before it settled is in the book then, and lasts.
+-- An act is one call of the link, with what came of it. At the start the link had told `told`, the book had taken `taken`, and
+-- `saw` were the turns seen; by now they are those with primes. `text` is how a record is written. `Noted` says what was done
+-- and seen so far.
 use Rattle.std.proofs.Common.{◌≡◌, ℕ, Bool, true, List, [], ◌∷◌, ◌++◌, Option, Some, Err, sym, ap, ◌∙◌, subst, append-nil, append_assoc}
 use Rattle.std.specs.Io.KnownBytes.{Keeps}
 use Rattle.std.proofs.KnownBytes.{Keeps-refl}
@@ -30,7 +33,7 @@ module _ (plan : Plan) (commands : List Task) (scope : Scope) (text : Record →
     pub all : saw' ≡ saw ++ turns
     pub kept : AreKept plan commands scope text told taken [] went.acts turns
 
-  -- `AreKept` lasts over one act more, if all that was done before the act was kept at it
+  -- `AreKept` lasts over one act more, if what all acts before that act settled was kept at its turn
   kept_more : (done acts : List Act) (turns : List Turn) (act : Act) (turn : Turn) → AreKept plan commands scope text told taken done acts turns
       → IsKept plan commands scope text told taken (done ++ acts) turn → AreKept plan commands scope text told taken done (acts ++ act ∷ []) (turns ++ turn ∷ [])
   kept_more done [] [] act turn are is = (subst (λ (xs : List Act). IsKept plan commands scope text told taken xs turn) (append-nil done) is, tt)
@@ -46,7 +49,7 @@ module _ (plan : Plan) (commands : List Task) (scope : Scope) (text : Record →
   pub noted_nothing : (station : Station) (saw : List Turn) → Refines station (opening plan scope) → Noted told taken station saw saw
   noted_nothing station saw stands = record { went = went_nothing plan commands scope text told taken station stands; turns = []; all = sym (append-nil saw); kept = tt }
 
-  -- `Noted` lasts where a book took nothing more, as far as that is known
+  -- `Noted` lasts where a book took nothing more, as `Keeps` says: if what it took was known, it is known still, and the same
   pub noted_kept : (told' : Option (List Act)) (taken' taken'' : Option (List ℕ)) (station : Station) (saw saw' : List Turn) → Keeps taken' taken''
       → Noted told' taken' station saw saw' → Noted told' taken'' station saw saw'
   noted_kept told' taken' taken'' station saw saw' keeps n =
@@ -58,14 +61,15 @@ module _ (plan : Plan) (commands : List Task) (scope : Scope) (text : Record →
   noted_same told' taken' taken'' station saw saw' same n =
       noted_kept told' taken' taken'' station saw saw' (subst (λ (t : Option (List ℕ)). Keeps taken' t) (sym same) (Keeps-refl taken')) n
 
-  -- what was seen now, of a book all of which lasts
+  -- what is seen now: what the link has told, what the book has taken, and whether that lasts
   abbrev now : Option (List Act) → Option (List ℕ) → Bool → Turn
   now told' taken' lasts = record { acts = told'; taken = taken'; lasts = lasts }
 
+  -- the turns seen so far, and one more behind them
   saw_more : (saw saw' saw'' turns : List Turn) (turn : Turn) → saw' ≡ saw ++ turns → saw'' ≡ saw' ++ turn ∷ [] → saw'' ≡ saw ++ (turns ++ turn ∷ [])
   saw_more saw saw' saw'' turns turn all one = one ∙ ap (λ (xs : List Turn). xs ++ turn ∷ []) all ∙ append_assoc saw turns (turn ∷ [])
 
-  -- `Noted` lasts over one act more, before which the link and the book were seen
+  -- `Noted` lasts over one act more, before which the link and the book were seen, and all records lasted
   pub noted_on : (told' told'' : Option (List Act)) (taken' taken'' : Option (List ℕ)) (lasts : Bool) (station new : Station) (action : Action) (saw saw' saw'' : List Turn)
       → (n : Noted told' taken' station saw saw')
       → action ≡ action_at plan (stood plan commands scope n.went.acts)
@@ -91,7 +95,7 @@ module _ (plan : Plan) (commands : List Task) (scope : Scope) (text : Record →
     kept = n.kept;
   }
 
-  -- a run whose records couldn't be made to last has kept up, but for the close of the connection behind it
+  -- a run whose records couldn't be made to last has kept up, but for the close of the connection after it
   pub noted_left : (told' told'' : Option (List Act)) (taken' : Option (List ℕ)) (station : Station) (saw saw' : List Turn)
       → Noted told' taken' station saw saw' → Tells told' told'' (Closed ∷ []) → KeepsUp plan commands scope text told told'' taken saw saw' (Closed ∷ [])
   noted_left told' told'' taken' station saw saw' n closed = record {
@@ -103,7 +107,7 @@ module _ (plan : Plan) (commands : List Task) (scope : Scope) (text : Record →
     kept = n.kept;
   }
 
-  -- a run whose book refused a record of its last act has kept up, but for the close of the connection behind it
+  -- a run whose book refused a record of its last act has kept up, but for the close of the connection after it
   pub noted_wrong : (told' told'' told''' : Option (List Act)) (taken' taken'' : Option (List ℕ)) (lasts : Bool) (station : Station) (action : Action) (saw saw' saw'' : List Turn)
       → (n : Noted told' taken' station saw saw')
       → action ≡ action_at plan (stood plan commands scope n.went.acts)
@@ -124,10 +128,12 @@ module _ (plan : Plan) (commands : List Task) (scope : Scope) (text : Record →
         kept = kept_more [] w.acts n.turns breaks.act (now told' taken' lasts) n.kept (record { tells = w.tells; took = w.took; lasts = true_ });
       }
 
+  -- `KeepsUp` of this run, with the acts `others` after it
   abbrev Up : Option (List Act) → List Turn → List Turn → List Act → Type 0
   Up told' saw saw' others = KeepsUp plan commands scope text told told' taken saw saw' others
 
-  -- where a run stopped for a cause, that isn't a fault of the book: so it has kept up to its end
+  -- a run that stopped for a cause has kept up to its end, and no close follows: a close follows only where the book failed
+  -- (`Output`), which is the fault of no cause
   pub faulty_keeps : (told' : Option (List Act)) (saw saw' : List Turn) (cause : Cause) (why : RunFault) → fault_of cause ≡ Some why
       → Up told' saw saw' [] → Up told' saw saw' (closing_at {X = Tally} (Err why))
   faulty_keeps told' saw saw' Done why e up = absurd (cc)

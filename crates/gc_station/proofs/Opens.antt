@@ -1,4 +1,6 @@
--- Each connection that ends was asked for, and so was each that couldn't be made.
+-- Each connection that ends was asked for, and so was each that couldn't be made. `Counted` says of one act: connections before
+-- it and asked for by it are as many as those that end at it, can't be made, or are there after it. An act is one call of the
+-- link, with what came of it.
 use Rattle.std.proofs.Common.{◌≡◌, ◌+◌, Bool, true, false, List, [], ◌∷◌, if◌then◌else◌, refl, sym, ap, ◌∙◌, arith}
 use Rattle.gc_texts.specs.declared.tasks.Task.{Task}
 use Rattle.gc_station.specs.declared.plan.Plan.{Plan}
@@ -19,7 +21,8 @@ use Rattle.gc_station.proofs.Silences.{quieted_up}
 use Rattle.gc_station.proofs.Walk.{walk}
 use Rattle.gc_station.proofs.Turns.{up_count, again_down, closed_down}
 
--- the connections that an act asks for, and the one before it, are as many as those that end or can't be made, and the one behind it
+-- an act balances connections: those that it asks for, and 1 if there is one before it (`before`), are as many as those that it
+-- ends or can't make, and 1 if there is one after it (`behind`)
 abbrev pub Counted : Bool → Act → Bool → Type 0
 Counted before act behind = opens_in (act ∷ []) + up_count before ≡ ends_in (act ∷ []) + up_count behind
 
@@ -27,17 +30,20 @@ Counted before act behind = opens_in (act ∷ []) + up_count before ≡ ends_in 
 abbrev Counts : Model → Act → Model → Type 0
 Counts s act t = Counted (is_up s.progress.phase) act (is_up t.progress.phase)
 
+-- a failure leaves a connection, or none, as it was
 fails : (up : Bool) (why : Cause) → is_up (if up then phase.Closing why else phase.Over why) ≡ up
 fails true why = refl
 fails false why = refl
 
+-- an act that asks for no connection and ends none is `Counted`, if there is one after it exactly where there was before
 calm : (before behind : Bool) → behind ≡ before → 0 + up_count before ≡ 0 + up_count behind
 calm before behind same = ap (λ b. 0 + up_count b) (sym same)
 
--- a failure leaves the connection, to be closed
+-- a failure keeps the count of `Counted`: it leaves the connection, which is to be closed
 failed : (s : Model) (why : Cause) → 0 + up_count (is_up s.progress.phase) ≡ 0 + up_count (is_up (with_progress (failing why) s).progress.phase)
 failed s why = let up = is_up s.progress.phase in calm up (is_up (if up then phase.Closing why else phase.Over why)) (fails up why)
 
+-- a close is `Counted`: there was a connection, and there is none after it
 close_counted : (before behind : Bool) → before ≡ true → behind ≡ false → Counted before Closed behind
 close_counted before behind up down = let a : up_count before ≡ 1 = ap up_count up in let b : up_count behind ≡ 0 = ap up_count down in omega (arith, a, b)
 
@@ -53,6 +59,7 @@ counted_moved plan commands actions.Clear s act o needs =
     let up : is_up at ≡ is_up s.progress.phase = cleared_up (has_begun s.progress) ∙ sym (ap is_up needs) in
     walk plan commands (Counts s) actions.Clear (with_progress turned s) act o
     (λ m. calm (is_up s.progress.phase) (is_up at) up, λ n. calm (is_up s.progress.phase) _ (fails (is_up at) (cause.Write (requests_out plan commands (turned s.progress)) n) ∙ up)) where
+      -- after a line feed that went out there is a connection
       cleared_up : (begun : Bool) → is_up (if begun then phase.Draining else phase.Ready) ≡ true
       cleared_up true = refl
       cleared_up false = refl

@@ -1,4 +1,7 @@
--- What each act is to the client, and what is written down at it.
+-- What each act is to the client (its part, `Parts`), and what is written down at it. An act is one call of the link, with what
+-- came of it. Steps of the client are to send, to hear a line, to be told a moment and to restart; a turn is a null procedure
+-- that is put, or a line heard, while the station begins. `Leads` says that the steps of a part take the client, the marks and
+-- the records of one model to those of another.
 use Rattle.std.proofs.Common.{◌≡◌, ℕ, zero, suc, ◌-◌, ◌<◌, Bool, true, false, List, [], ◌∷◌, length, map, drop, Option, Some, None, refl, sym, ap, ◌∙◌, ◌++◌, subst, arith, append-nil, if◌then◌else◌, length-drop}
 use Rattle.std.specs.Prelude.{slice_get}
 use Rattle.std.proofs.lemmas.List.{length-map}
@@ -29,7 +32,7 @@ use Rattle.gc_station.proofs.Hearing.{hears_paired}
 use Rattle.gc_station.proofs.Midway.{clash}
 use Rattle.gc_station.proofs.Walk.{is_sent, walk}
 
--- this part takes the client of one model, with its marks and records, to those of another
+-- the part p takes the client of one model, with its marks and records, to those of another
 abbrev pub Leads : List Task → Model → Part → Model → Type 0
 Leads commands s p t = Books s.reads commands s.client s.marks (sent_of s.records) p t.client t.marks (sent_of t.records)
 
@@ -38,7 +41,7 @@ abbrev pub Paired : Model → Type 0
 Paired s = length s.marks ≡ length s.client.waiting
 
 module _ (plan : Plan) (commands : List Task) where
-  -- a line that is heard is the step that hears it
+  -- a line that is heard leads on by the step that hears it
   heard_books : (s : Model) (line : List ℕ) → Paired s → Leads commands s (only (Hear line ∷ [])) (line_came s line)
   heard_books s line paired =
       let x = hears s.client line (heard line) in
@@ -46,7 +49,7 @@ module _ (plan : Plan) (commands : List Task) where
       subst (λ (rs : List Record). Books s.reads commands s.client s.marks (sent_of s.records) (only (Hear line ∷ [])) x.client (drop (length x.settlements) s.marks) rs) (sym written)
       (books_line s.reads commands s.client s.marks (sent_of s.records) s.progress.moment.utc line paired)
 
-  -- lines that are heard are the steps that hear them, in order
+  -- lines that are heard lead on by the steps that hear them, in order
   leads_lines : (s : Model) (lines : List (List ℕ)) → Paired s → Leads commands s (only (map Hear lines)) (lines_came s lines)
   leads_lines s [] paired = books_nothing s.reads commands s.client s.marks (sent_of s.records)
   leads_lines s (line ∷ others) paired =
@@ -56,17 +59,17 @@ module _ (plan : Plan) (commands : List Task) where
       (heard_books s line paired)
       (leads_lines t others (hears_paired s.marks s.client line (heard line) paired))
 
-  -- a piece is the steps that hear its lines, or none where it is dropped
+  -- a piece leads on by the steps that hear its lines; by none where it is dropped
   leads_came : (h : Bool) (word piece : List ℕ) (s : Model) → is_none_left word ≡ true → Paired s → Leads commands s (only (hearing h s.rest piece)) (came h word piece s)
   leads_came true (asked ∷ others) piece s begun paired = cc
   leads_came true [] piece s begun paired = leads_lines (with_rest (rest_behind s.rest piece) s) (lines_behind s.rest piece) paired
   leads_came false word piece s begun paired = books_nothing s.reads commands s.client s.marks (sent_of s.records)
 
-  -- a moment leaves as many marks as requests
+  -- where a moment gives requests up, each still has a mark
   paired_told : (s : Model) (m : ℕ) → Paired s → length s.marks ≡ length (map (expired m) s.client.waiting)
   paired_told s m paired = paired ∙ sym (length-map s.client.waiting (expired m))
 
-  -- a read that gave bytes is its part, once the station has begun
+  -- a read that gave bytes leads on by its part, once the station has begun
   leads_gave : (s : Model) (until : Until) (bytes : List ℕ) (m : Moment) → has_begun s.progress ≡ true → Paired s
       → Leads commands s (doing plan commands s (action.Read until) (Gave bytes m)) (after_read plan until (with_progress turned s) (Gave bytes m))
   leads_gave s until bytes m begun paired =
@@ -77,16 +80,17 @@ module _ (plan : Plan) (commands : List Task) where
       (books_moment s.reads commands s.client s.marks (sent_of s.records) m.elapsed)
       (leads_came (is_heard s.progress.phase) s.progress.word bytes x begun (paired_told s m.elapsed paired))
 
-  -- the command at a place is the first of those behind the ones before it
+  -- the first command behind the first n is the one at place n
   at_place : (n : ℕ) (xs : List Task) (command : Task) (others : List Task) → drop n xs ≡ command ∷ others → slice_get xs n ≡ Some command
   at_place zero [] command others e = cc
   at_place zero (x ∷ xs) command others e = same x command xs others e where
+    -- the first elements of equal lists are equal
     same : (x y : Task) (xs ys : List Task) → x ∷ xs ≡ y ∷ ys → Some x ≡ Some y
     same x y xs ys e = cc
   at_place (suc n) [] command others e = cc
   at_place (suc n) (x ∷ xs) command others e = at_place n xs command others e
 
-  -- the next command, where it goes out, is the part of its request
+  -- the next command, where it goes out, leads on by the part of its request
   leads_first : (s : Model) (left : List Task) → drop (place_next commands s.progress) commands ≡ left → 0 < length left → length s.client.waiting < 7
       → Leads commands s (asking_first s.progress.moment.elapsed (mark_next plan commands s.progress) left) (asks_first (mark_next plan commands s.progress) left (with_progress turned s))
   leads_first s [] at some room = absurd (omega (arith, some))
@@ -95,18 +99,20 @@ module _ (plan : Plan) (commands : List Task) where
       (Some (mark_next plan commands s.progress)) room
       (task, at_place (place_next commands s.progress) commands task others at, refl)
 
-  -- a null procedure behind commands is the part of its request
+  -- a null procedure after commands leads on by the part of its request
   leads_null : (s : Model) → length s.client.waiting < 7 → Leads commands s (asking 0 NullProc (later s.progress.moment.elapsed plan.deadline) None) (asks_null plan s)
   leads_null s room = books_send s.reads commands s.client s.marks (sent_of s.records) 0 NullProc (later s.progress.moment.elapsed plan.deadline) None room refl
 
-  -- the record of a command that isn't sent is none of those that went out
+  -- the record of a command that isn't sent isn't among those of commands that went out
   skips_first_unsent : (p : Progress) (m : Moment) (mark : Mark) (left : List Task) → sent_of (skips_first p m mark left) ≡ []
   skips_first_unsent p m mark [] = refl
   skips_first_unsent p m mark (task ∷ others) = by_case p.missed where
+    -- the lemma above, whether its cycle is missed (`true`) or it is skipped
     by_case : (b : Bool) → sent_of (record { sent = None; utc = skipped_at m p; cycle = mark.cycle; place = mark.place; command = task.command; end = if b then Missed else Skipped } ∷ []) ≡ []
     by_case true = refl
     by_case false = refl
 
+  -- the record of the next command, where that isn't sent, isn't among those of commands that went out
   skips_unsent : (s : Model) (m : Moment) → sent_of (skips plan commands s.progress (Told m)) ≡ []
   skips_unsent s m = skips_first_unsent s.progress m (mark_next plan commands s.progress) (drop (place_next commands s.progress) commands)
 
@@ -118,15 +124,15 @@ module _ (plan : Plan) (commands : List Task) where
   abbrev LeadsSo : Action → Model → Act → Model → Type 0
   LeadsSo o s act t = Leads commands s (doing plan commands s o act) t
 
-  -- where nothing happens, nothing changes
+  -- a model leads to itself by the part in which nothing happens
   none_booked : (s : Model) → Leads commands s nothing s
   none_booked s = books_nothing s.reads commands s.client s.marks (sent_of s.records)
 
-  -- a moment is the step that tells it
+  -- a moment leads on by the step that tells it
   moment_booked : (s : Model) (m : Moment) → Leads commands s (only (Expire m.elapsed ∷ [])) (with_moment m s)
   moment_booked s m = books_moment s.reads commands s.client s.marks (sent_of s.records) m.elapsed
 
-  -- an act of each action is its part, once the station has begun
+  -- an act of each action leads on by its part, once the station has begun
   leads_order : (s : Model) (o : Action) (act : Act) → Invariant plan commands s → IsFor plan s.progress (waiting_of s) o → Performs commands s o act → has_begun s.progress ≡ true
       → Leads commands s (doing plan commands s o act) (moved plan commands o (with_progress turned s) act)
   leads_order s action.Open act fine is obeys begun = walk plan commands (LeadsSo action.Open s) action.Open (with_progress turned s) act obeys (λ m. none_booked s, λ n. none_booked s)
@@ -155,7 +161,7 @@ module _ (plan : Plan) (commands : List Task) where
 
   -- While it begins no step is taken.
 
-  -- an act leaves the client new, and the marks and the records as they are
+  -- from the model s to t an act leaves the client new, and the marks and the records as they are
   abbrev Keeps : Model → Act → Model → Type 0
   Keeps s act t = (t.client ≡ fresh) × (t.marks ≡ s.marks) × (t.records ≡ s.records)
 
@@ -166,7 +172,7 @@ module _ (plan : Plan) (commands : List Task) where
   keeps_came true (asked ∷ others) piece s begins new = (new, refl, refl)
   keeps_came false word piece s begins new = (new, refl, refl)
 
-  -- a moment gives nothing up of a new client
+  -- a moment gives up nothing of a new client, in which no request waits
   new_told : (s : Model) (m : Moment) → s.client ≡ fresh → expires s.client m.elapsed ≡ fresh
   new_told s m new = ap (λ c. expires c m.elapsed) new
 
@@ -201,7 +207,7 @@ module _ (plan : Plan) (commands : List Task) where
   only_of s (action.Read until) act = refl
   only_of s o act = refl
 
-  -- turns lead to a model with the same client, marks and records
+  -- turns lead on to a model with the same client, marks and records
   same_led : (s : Model) (turns : List Turn) (t : Model) → s.client ≡ t.client → s.marks ≡ t.marks → s.records ≡ t.records → Leads commands s (only_turns turns) t
   same_led s turns t c ms rs =
       let books = Books s.reads commands s.client s.marks (sent_of s.records) (only_turns turns) in
@@ -209,7 +215,7 @@ module _ (plan : Plan) (commands : List Task) where
       (subst (λ (x : List (Option Mark)). books s.client x (sent_of t.records)) ms
       (subst (λ (x : List Record). books s.client s.marks (sent_of x)) rs (books_turns s.reads commands s.client s.marks (sent_of s.records) turns)))
 
-  -- an act of each action is its part, while the station begins
+  -- an act of each action leads on by its part, while the station begins
   leads_begins : (s : Model) (o : Action) (act : Act) → Invariant plan commands s → IsFor plan s.progress (waiting_of s) o → Performs commands s o act → has_begun s.progress ≡ false
       → Leads commands s (beginning s o act) (moved plan commands o (with_progress turned s) act)
   leads_begins s o act fine is obeys begins =
@@ -218,7 +224,7 @@ module _ (plan : Plan) (commands : List Task) where
       let k = keeps_action s o act is obeys begins new in
       subst (λ (p : Part). Leads commands s p t) (sym (only_of s o act)) (same_led s (beginning s o act).turns t (new ∙ sym k.0) (sym k.1) (sym k.2))
 
-  -- an act of each action is its part
+  -- an act of each action leads on by its part
   pub leads : (s : Model) (o : Action) (act : Act) → Invariant plan commands s → IsFor plan s.progress (waiting_of s) o → Performs commands s o act
       → Leads commands s (acting plan commands s o act) (moved plan commands o (with_progress turned s) act)
   leads s o act fine is obeys =

@@ -1,4 +1,6 @@
--- Tries and pauses by the failures in a row.
+-- How failures in a row take tries and lengthen the pause. A failure is spared where no connection is wanted: it takes no try.
+-- An act is one call of the link, with what came of it. `again` is the progress after a connection ended or couldn't be made,
+-- and `pause_behind plan n` the pause after n such failures in a row. Times are in milliseconds.
 use Rattle.std.proofs.Common.{◌≡◌, ◌⊎◌, inl, inr, ℕ, zero, suc, ◌+◌, ◌-◌, ◌*◌, ◌<◌, ◌≤◌, ◌||◌, Bool, true, false, List, if◌then◌else◌, nat_lt, min, max, refl, ap, ◌∙◌, arith}
 use Rattle.std.proofs.lemmas.Bool.{lt-ltb, le-ltb}
 use Rattle.gc_texts.specs.declared.tasks.Task.{Task}
@@ -18,13 +20,15 @@ use Rattle.gc_station.specs.declared.progress.Until.{Until}
 use Rattle.gc_station.specs.declared.progress.Waiting.{Waiting}
 use Rattle.gc_station.proofs.Walk.{moved_changed}
 
+-- where the test b holds, the first of two values is chosen
 takes_first : {A : Type 0} (b : Bool) (x y : A) → b ≡ true → (if b then x else y) ≡ x
 takes_first b x y e = ap (λ (c : Bool). if c then x else y) e
 
+-- where the test b doesn't hold, the second of two values is chosen
 takes_second : {A : Type 0} (b : Bool) (x y : A) → b ≡ false → (if b then x else y) ≡ y
 takes_second b x y e = ap (λ (c : Bool). if c then x else y) e
 
--- the pause behind a first failure is the quiet time, up to a minute and never below the quiet time
+-- twice a pause of 0, bounded to a minute and to at least the quiet time, is the pause after a first failure
 twice_none : (quiet : ℕ) → max (min (min (0 + 0) 18446744073709551615) 60000) quiet ≡ max (min quiet 60000) quiet
 twice_none quiet = omega arith
 
@@ -33,11 +37,11 @@ doubled_least : (n time : ℕ) → time ≤ doubled n time
 doubled_least zero time = omega arith
 doubled_least (suc n) time = let least = doubled_least n time in omega (arith, least)
 
--- twice a bounded pause, bounded again, is the bounded double
+-- twice a bounded pause, bounded again, is twice the unbounded one, bounded
 twice_more : (d quiet : ℕ) → quiet ≤ d → max (min (min (max (min d 60000) quiet + max (min d 60000) quiet) 18446744073709551615) 60000) quiet ≡ max (min (2 * d) 60000) quiet
 twice_more d quiet least = omega (arith, least)
 
--- twice the pause behind n failures, bounded, is the one behind n + 1
+-- twice the pause after n failures, bounded, is the one after n + 1
 twice : (plan : Plan) (n : ℕ) → max (min (later (pause_behind plan n) (pause_behind plan n)) 60000) plan.quiet ≡ pause_behind plan (suc n)
 twice plan zero = twice_none plan.quiet
 twice plan (suc n) = twice_more (doubled n plan.quiet) plan.quiet (doubled_least n plan.quiet)
@@ -52,7 +56,7 @@ failed plan commands n why p e is =
 takes : (plan : Plan) (commands : ℕ) (why : Cause) (p : Progress) → is_spared plan why p ≡ false → 0 < p.tries → (again plan commands why p).tries + 1 ≡ p.tries
 takes plan commands why p e some = let less = takes_second (is_spared plan why p) p.tries (p.tries - 1) e in omega (arith, less, some)
 
--- without a try left the run is over
+-- a failure that isn't spared, without a try left (`some`), ends the run: as done, where all is done, or for its cause
 over_by : (done spared some : Bool) (why : Cause) → spared ≡ false → some ≡ false
     → ((if done then phase.Over cause.Done else if spared || some then phase.Pausing else phase.Over why) ≡ phase.Over cause.Done)
     ⊎ ((if done then phase.Over cause.Done else if spared || some then phase.Pausing else phase.Over why) ≡ phase.Over why)
@@ -79,7 +83,7 @@ spared plan commands n why p e is = (
   takes_first (is_spared plan why p) p.tries (p.tries - 1) e,
 )
 
--- where there was no pause, the pause behind a spared close is the quiet time
+-- where there was no pause, the pause after a spared close is the quiet time
 spared_none : (quiet : ℕ) → max 0 quiet ≡ max (min quiet 60000) quiet
 spared_none quiet = omega arith
 
@@ -113,6 +117,8 @@ other plan commands (actions.Close why) s act leaves = absurd leaves
 other plan commands action s act leaves =
     let is = moved_changed plan commands action s act in (ap (λ (x : Model). x.progress.tries) is, ap (λ (x : Model). x.progress.pause) is)
 
+-- the law: a failure takes one try, and lengthens the pause; a spared close takes no try, and leaves the pause, or makes a
+-- pause of 0 that of one failure; and a read that settles a command gives all tries back, and makes the pause 0
 pub counted : TriesAndPausesAreCounted
 counted = record {
   start = λ plan turns. (refl, refl);

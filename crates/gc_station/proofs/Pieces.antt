@@ -1,4 +1,6 @@
--- The lines of a piece, and the records that are written of them.
+-- The lines of the piece that an act brings, heard one by one: the requests that wait were put among the acts before (`WaitsAt`
+-- of `Waiting`), and each record that is written is true (`IsTrue`). An act is one call of the link, with what came of it.
+-- `Hears` says both of the model after some of the lines.
 use Rattle.std.proofs.Common.{◌≡◌, inl, inr, ℕ, ◌<◌, ◌≤◌, Bool, true, false, List, [], ◌∷◌, ◌++◌, length, Option, Some, IfSome, refl, sym, ap, ◌∙◌, subst, arith, append_assoc, append-nil}
 use Rattle.std.specs.List.{AllByRecursion}
 use Rattle.gc_lines.specs.Frames.{rest_behind}
@@ -28,7 +30,8 @@ use Rattle.gc_station.proofs.Meets.{HasPlace, EndedBy, heard_ended, heard_left, 
 use Rattle.gc_station.proofs.Waiting.{Asked, StayedAt, WaitsAt, IsTrue, IsHonest, past_more, past_here, expired_waits, expired_window, behind_moment, moment_told}
 use Rattle.gc_station.specs.Scopes.{Scope}
 
--- the id at the place of an id is this id
+-- ids count from 0 to 7 and then from 0 again: the id at the place of the id `id`, among the `count` requests that wait before
+-- the id `next`, is `id` again
 pub id_back : (next count id : ℕ) → next < 8 → count ≤ 7 → id < 8 → id_at next count (place_behind next count id) ≡ id
 id_back next count id digit few below = omega arith
 
@@ -36,14 +39,14 @@ id_back next count id digit few below = omega arith
 pub id_digit : (line : List ℕ) (id : ℕ) → heard line ≡ Some id → id < 8
 id_digit line id e = let it = (heard_by_grammar line).only id e in subst (λ (o : Option ℕ). IfSome o (λ n. n < 8)) it.2 it.1.is_id
 
--- records that are grouped in two ways are the same records in order
+-- five lists of records and the record r, joined in two ways, give the same list
 pub regroup : (start news front : List Record) (r : Record) (back more : List Record) → ((start ++ news) ++ (front ++ r ∷ back)) ++ more ≡ start ++ ((news ++ front) ++ r ∷ (back ++ more))
 regroup start news front r back more =
     append_assoc (start ++ news) (front ++ r ∷ back) more ∙ ap (λ xs. (start ++ news) ++ xs) (append_assoc front (r ∷ back) more)
     ∙ append_assoc start news (front ++ r ∷ (back ++ more)) ∙ ap (λ xs. start ++ xs) (sym (append_assoc news front (r ∷ (back ++ more))))
 
--- some lines of a piece were heard: what every run keeps of the requests that wait, before the act that brings the piece, and the
--- records so far are true
+-- after some lines of the piece that an act brings, at the moment m, the model is x: the requests that wait were put among the
+-- acts before that act, and the records so far are true by the acts up to it
 pub record Hears (plan : Plan) (commands : List Task) (scope : Scope) (acts : List Act) (piece : List ℕ) (m : Moment) (x : Model) : Type 0 where
   pub window : IsWindow x.client
   pub waiting : Rows (WaitsAt plan commands scope acts (stood plan commands scope acts).client m.elapsed x.client.next (length x.client.waiting)) 0 0 x.client.waiting x.marks
@@ -51,14 +54,16 @@ pub record Hears (plan : Plan) (commands : List Task) (scope : Scope) (acts : Li
   pub news : List Record
   pub grew : x.records ≡ (stood plan commands scope acts).records ++ news
 
--- the request with this mark was put among these acts, and behind it the piece came at which its record was written
+-- `request`, the very request of the record r, was put after the acts `before`; and r was written at the act that brought the
+-- piece
 pub record WrittenDown (plan : Plan) (commands : List Task) (scope : Scope) (acts : List Act) (piece : List ℕ) (m : Moment) (before : List Act)
     (request : Act) (between : List Act) (r : Record) : Type 0 where
   pub order : acts ++ Gave piece m ∷ [] ≡ before ++ request ∷ (between ++ Gave piece m ∷ [])
   pub own : IsOwnRequest plan commands scope before request r
   pub written : IsWrittenAt plan commands scope (before ++ request ∷ between) (Gave piece m) r
 
--- a record of the piece, of the request with this mark, is `WrittenDown`
+-- a record that the piece wrote, of the request with this mark, is `WrittenDown`: that request was put before, and is the
+-- record's own
 written_down : (plan : Plan) (commands : List Task) (scope : Scope) (acts : List Act) (piece : List ℕ) (m : Moment) (number at id : ℕ) (p : Pending)
     (mark : Mark) (r : Record) (news earlier later more : List Record)
     → r.cycle ≡ mark.cycle → r.place ≡ mark.place → r.sent ≡ Some mark.sent → p.call ≡ r.command.call
@@ -91,7 +96,7 @@ id_heard c line at next w has is =
     let back = id_back c.next (length c.waiting) has.id w.digit w.few (id_digit line has.id has.has) in
     has.has ∙ ap Some (sym back ∙ ap (λ (k : ℕ). id_at c.next (length c.waiting) k) (sym has.is) ∙ is)
 
--- a line of the piece comes with the id of the request at its place
+-- a line of the piece has the id `next`, which is that of the request at the place `at`: so the piece brings that id (`Brings`)
 brings : (plan : Plan) (commands : List Task) (scope : Scope) (acts : List Act) (piece : List ℕ) (c : ById) (front others : List (List ℕ)) (line : List ℕ)
     (at next : ℕ) (before : List Act) (request : Act) (between : List Act)
     → front ++ line ∷ others ≡ lines_behind (stood plan commands scope acts).rest piece → acts ≡ before ++ request ∷ between → IsWindow c
@@ -105,18 +110,21 @@ brings plan commands scope acts piece c front others line at next before request
   has = id_heard c line at next w has is;
 }
 
--- the deadline of a request that isn't given up at this moment is later than it, and than each moment told since the request went out
+-- where a request isn't given up at the moment `now` (b), its deadline d is later than `now`, and than each moment that these
+-- acts tell
 in_time : (now d : ℕ) (b : Bool) (acts : List Act) → b ≡ false → StayedAt now b d acts → AllByRecursion (IsBefore d) acts × (now < d)
 in_time now d true acts is both = cc
 in_time now d false acts is both = both
 
--- a moment at or past the deadline of a request that is given up was told
+-- `acts` are those since a request with the deadline d was sent, and `act`, the next one, tells the moment `now`. If the request is given
+-- up by then (b is true), one of them, `act` included, tells a moment at or past d. (`StayedAt`: whether it is given up is what the moments
+-- told so far make it.)
 too_late : (now d : ℕ) (b : Bool) (acts : List Act) (act : Act) → b ≡ true → (d ≤ now → IsPast d act) → StayedAt now b d acts → TellsPast d (acts ++ act ∷ [])
 too_late now d true acts act is past (inl told) = past_more d acts (act ∷ []) told
 too_late now d true acts act is past (inr reached) = past_here d acts act (past reached)
 too_late now d false acts act is past both = cc
 
--- the record of an answer, of the request with this mark, is true
+-- the record of an answer, of the request with this mark, is as `IsAnsweredIn` says
 answered : (plan : Plan) (commands : List Task) (scope : Scope) (acts : List Act) (piece : List ℕ) (m : Moment) (c : ById) (front others : List (List ℕ))
     (line l : List ℕ) (number at : ℕ) (p : Pending) (mark : Mark) (r : Record)
     → front ++ line ∷ others ≡ lines_behind (stood plan commands scope acts).rest piece → IsWindow c
@@ -150,7 +158,7 @@ answered plan commands scope acts piece m c front others line l number at p mark
       written = ap (λ (xs : List Act). (stood plan commands scope xs).records) (sym (append_assoc s.before (s.request ∷ s.between) (Gave piece m ∷ []))) ∙ down.written.written;
     }
 
--- the record of a late reply, of the request with this mark, is true
+-- the record of a late reply, of the request with this mark, is as `IsLateIn` says
 late : (plan : Plan) (commands : List Task) (scope : Scope) (acts : List Act) (piece : List ℕ) (m : Moment) (c : ById) (front others : List (List ℕ))
     (line : List ℕ) (number at : ℕ) (p : Pending) (mark : Mark) (r : Record)
     → front ++ line ∷ others ≡ lines_behind (stood plan commands scope acts).rest piece → IsWindow c
@@ -173,7 +181,7 @@ late plan commands scope acts piece m c front others line number at p mark r spl
   written = down.written;
 }
 
--- the record of a request that is lost is true: the reply to one behind it came
+-- a request that is lost was overtaken: the piece brings the reply to a request that was put after it, and that waits
 overtaken : (plan : Plan) (commands : List Task) (scope : Scope) (acts : List Act) (piece : List ℕ) (m : Moment) (c : ById) (front others : List (List ℕ))
     (line : List ℕ) (number at there : ℕ) (p q : Pending) (mark mark' : Option Mark) (number' : ℕ)
     → front ++ line ∷ others ≡ lines_behind (stood plan commands scope acts).rest piece → IsWindow c
@@ -205,20 +213,20 @@ overtaken plan commands scope acts piece m c front others line number at there p
           (t.id ∙ ap (λ (xs : List Act). (stood plan commands scope xs).client.next) on);
     }
 
--- a record of a line is of a request that the line settles
+-- this record is of a request that the line settles (`EndedBy`)
 abbrev pub IsRecorded : Plan → List Task → Scope → List Act → ℕ → ById → List ℕ → Record → Type 0
 IsRecorded plan commands scope acts now c line r =
     (at : ℕ) × (mark : Mark) × (x : Settlement) × (r.cycle ≡ mark.cycle) × (r.place ≡ mark.place) × (r.sent ≡ Some mark.sent) × IsRecordOf r x
     × EndedBy (WaitsAt plan commands scope acts (stood plan commands scope acts).client now c.next (length c.waiting)) c (heard line) line at x (Some mark)
 
--- the records of a line are of requests that it settles
+-- each record of a line is of a request that the line settles
 pub line_written : (plan : Plan) (commands : List Task) (scope : Scope) (acts : List Act) (reads : Call → List ℕ → Reading) (now utc : ℕ) (c : ById) (marks : List (Option Mark)) (line : List ℕ)
     → Rows (WaitsAt plan commands scope acts (stood plan commands scope acts).client now c.next (length c.waiting)) 0 0 c.waiting marks
     → AllByRecursion (IsRecorded plan commands scope acts now c line) (records_of reads utc marks (hears c line (heard line)).settlements)
 line_written plan commands scope acts reads now utc c marks line waits =
     let W = WaitsAt plan commands scope acts (stood plan commands scope acts).client now c.next (length c.waiting) in
     records_all (EndedBy W c (heard line) line) (IsRecorded plan commands scope acts now c line) reads utc 0 (hears c line (heard line)).settlements marks
-    (λ i y mark ended. (i, mark, y, refl, refl, refl, record { reads = reads; near = mark.near; command = refl; ended = refl }, ended)) (heard_ended W c marks line (heard line) waits)
+    (λ i y mark ended. (i, mark, y, refl, refl, refl, record { reads = reads; expected = mark.expected; command = refl; ended = refl }, ended)) (heard_ended W c marks line (heard line) waits)
 
 -- the record of a request that a line settles is true
 line_true : (plan : Plan) (commands : List Task) (scope : Scope) (acts : List Act) (piece : List ℕ) (m : Moment) (c : ById) (front others : List (List ℕ))
@@ -283,7 +291,7 @@ hear_all plan commands scope acts piece m front (line ∷ others) x tail split e
       grew = ap (λ xs. xs ++ written) h.grew ∙ append_assoc (stood plan commands scope acts).records h.news written;
     })
 
--- behind the act that brought the piece, what every run keeps of the requests that wait holds
+-- once the lines of a piece were heard, `IsHonest` holds after the act that brought it
 pub behind_piece : (plan : Plan) (commands : List Task) (scope : Scope) (acts : List Act) (piece : List ℕ) (m : Moment) (x : Model)
     → Hears plan commands scope acts piece m x → IsHonest plan commands scope (acts ++ Gave piece m ∷ []) (acts ++ Gave piece m ∷ []) x
 behind_piece plan commands scope acts piece m x h = record {
@@ -295,7 +303,7 @@ behind_piece plan commands scope acts piece m x h = record {
 abbrev pub piece_before : Moment → Model → Model
 piece_before m s = with_moment m (with_progress (told m) (with_progress turned s))
 
--- an act that brings a piece keeps what every run keeps
+-- an act that brings a piece keeps `IsHonest`
 pub piece_honest : (plan : Plan) (commands : List Task) (scope : Scope) (acts : List Act) (piece : List ℕ) (m : Moment) (b : Bool) (word : List ℕ) (tail : List Record)
     → (stood plan commands scope (acts ++ Gave piece m ∷ [])).records ≡ (came b word piece (piece_before m (stood plan commands scope acts))).records ++ tail
     → IsWindow (stood plan commands scope acts).client

@@ -1,4 +1,7 @@
--- Before a request goes out its connection was cleared, and where it had begun by then it was quiet, too: what was done on it, by the phase.
+-- Before a request goes out its connection was cleared and, where the station had begun by then, quiet: what was done on a
+-- connection, by the phase (`Stage`). A connection is drained while what comes on it is dropped until it is quiet. An act is
+-- one call of the link, with what came of it. In facts of the form P before start behind, `start` is one of the acts, `before`
+-- the acts before it, and `behind` those after it.
 use Rattle.std.proofs.Common.{◌≡◌, ℕ, ◌-◌, ◌≤◌, ◌⊎◌, inl, inr, Bool, true, false, List, [], ◌∷◌, ◌++◌, drop, if◌then◌else◌, nat_le, min, refl, sym, ap, ◌∙◌, subst, arith}
 use Rattle.std.specs.List.{AllByRecursion}
 use Rattle.std.proofs.Math.Nat.{min-eq_left, min-eq_right}
@@ -37,41 +40,44 @@ use Rattle.gc_station.specs.Scopes.{Scope}
 abbrev pub IsOpened : List Act → Type 0
 IsOpened acts = (before : List Act) × (acts ≡ before ++ Opened ∷ [])
 
--- `act` cleared the connection that the acts before it made, and nothing went out since
+-- `start` cleared the connection that the acts `before` made, and nothing went out after it
 abbrev Clears : List Act → Act → List Act → Type 0
 Clears before start behind = IsOpened before × (start ≡ Put (10 ∷ [])) × AllByRecursion IsListening behind
 
--- the connection was cleared, and since this moment nothing came on it
+-- the connection was cleared, and since the moment `since`, which `start` tells, nothing came on it
 abbrev Drains : ℕ → List Act → Act → List Act → Type 0
 Drains since before start behind = Since Clears before × TellsMoment since start × AllByRecursion IsSilent behind
 
--- there is an act among these of which `Drains` holds
+-- the connection was cleared, and since the moment `since`, which one of these acts tells, nothing came on it
 abbrev pub IsDrained : ℕ → List Act → Type 0
 IsDrained since acts = Since (Drains since) acts
 
--- the connection was cleared, then it was quiet for `quiet` milliseconds, and then nobody closed it
+-- the connection was cleared, then it was quiet for `quiet` milliseconds, until `start`, and then nobody closed it
 abbrev pub Quiets : ℕ → List Act → Act → List Act → Type 0
 Quiets quiet before start behind = (from : ℕ) × (last : Moment) × IsDrained from before × (start ≡ Silent last) × (quiet ≤ last.elapsed - from) × AllByRecursion StaysConnected behind
 
--- there is an act among these of which `Quiets` holds
+-- among these acts the connection was cleared and then quiet for so many milliseconds, and nobody closed it since
 abbrev pub WasQuiet : ℕ → List Act → Type 0
 WasQuiet quiet acts = Since (Quiets quiet) acts
 
--- the connection was cleared; and once a moment was told behind that, nothing came since the last one
+-- the connection was cleared; and where the moment told last isn't out of date (`false`), nothing came since the moment `since`
 abbrev pub IsDraining : Bool → ℕ → List Act → Type 0
 IsDraining true since acts = Since Clears acts
 IsDraining false since acts = IsDrained since acts
 
+-- an act that tells a moment sends nothing, and keeps the connection
 tells_listening : (since : ℕ) (act : Act) → TellsMoment since act → IsListening act
 tells_listening since (Told m) e = tt
 tells_listening since (Gave bytes m) e = tt
 tells_listening since (Silent m) e = tt
 tells_listening since act e = e
 
+-- a read that gave nothing sends nothing, and keeps the connection
 silent_listening : (act : Act) → IsSilent act → IsListening act
 silent_listening (Silent m) e = tt
 silent_listening act e = absurd e
 
+-- an act that only listens keeps the connection
 listening_stays : (act : Act) → IsListening act → StaysConnected act
 listening_stays (Told m) e = tt
 listening_stays (Gave bytes m) e = tt
@@ -79,11 +85,11 @@ listening_stays (Silent m) e = tt
 listening_stays act e = absurd e
 
 module _ (plan : Plan) (commands : List Task) (scope : Scope) where
-  -- these acts end with a connection that was made once the station had begun, or before, as said
+  -- these acts end with a connection that was made when the station had begun (`true`), or while it began (`false`)
   abbrev pub IsOpenedSo : Bool → List Act → Type 0
   IsOpenedSo begun acts = (before : List Act) × (acts ≡ before ++ Opened ∷ []) × (has_begun (stood plan commands scope before).progress ≡ begun)
 
-  -- the connection was made and cleared before the station had begun, and then nobody closed it
+  -- the connection was made while the station began, and cleared by `start`, and then nobody closed it
   abbrev pub Begins : List Act → Act → List Act → Type 0
   Begins before start behind = IsOpenedSo false before × (start ≡ Put (10 ∷ [])) × AllByRecursion StaysConnected behind
 
@@ -91,7 +97,7 @@ module _ (plan : Plan) (commands : List Task) (scope : Scope) where
   abbrev pub WasCleared : List Act → Type 0
   WasCleared acts = WasQuiet plan.quiet acts ⊎ Since Begins acts
 
-  -- a quiet connection is cleared and quiet in the words of the promise
+  -- a connection that was quiet is as `IsClearedAndQuiet` says
   was_quiet : (acts : List Act) → WasQuiet plan.quiet acts → IsClearedAndQuiet plan commands scope acts
   was_quiet acts q =
       let d = q.holds.2 in
@@ -125,7 +131,7 @@ module _ (plan : Plan) (commands : List Task) (scope : Scope) where
         };
       }
 
-  -- a connection on which requests go out is cleared and quiet in the words of the promise
+  -- a connection on which requests go out is as `IsClearedAndQuiet` says
   was_cleared : (acts : List Act) → WasCleared acts → IsClearedAndQuiet plan commands scope acts
   was_cleared acts (inl q) = was_quiet acts q
   was_cleared acts (inr b) =
@@ -138,7 +144,9 @@ module _ (plan : Plan) (commands : List Task) (scope : Scope) where
         quiet = λ begun. absurd (clash (has_begun (stood plan commands scope o.0).progress) begun o.2);
       }
 
-  -- what was done on the connection, by the phase, and by whether the station has begun and the moment was told
+  -- what was done on the connection, by the phase: in `Clearing` it was just made, in `Draining` it is drained, and in `Ready`
+  -- it was cleared. The other arguments are whether the station has begun, whether the moment told last is out of date, the
+  -- moment since which nothing came, and the acts
   abbrev pub Stage : Bool → Bool → ℕ → Phase → List Act → Type 0
   Stage begun stale since phase.Clearing acts = (stale ≡ false) × IsOpenedSo begun acts
   Stage begun stale since phase.Draining acts = IsDraining stale since acts
@@ -172,7 +180,7 @@ quiet_now quiet since acts m long d = since_now (Quiets quiet) acts (Silent m) (
 
 -- What each act leaves.
 
--- the quiet time begins with the moment told behind the line feed
+-- the quiet time begins with the moment told after the line feed
 draining_told : (stale : Bool) (since : ℕ) (m : Moment) (acts : List Act) → stale ≡ true → IsDraining stale since acts → IsDrained m.elapsed (acts ++ Told m ∷ [])
 draining_told true since m acts old d = since_now (Drains m.elapsed) acts (Told m) (d, refl, tt)
 draining_told false since m acts old d = cc
@@ -214,7 +222,7 @@ module _ (plan : Plan) (commands : List Task) (scope : Scope) where
   stage_none begun stale since phase.Ready acts none = cc
   stage_none begun stale since at acts none = tt
 
-  -- a connection on which requests go out stays so, if the act keeps it
+  -- a connection on which requests may go out (`WasCleared`) stays so, if the act keeps it
   more : (acts : List Act) (act : Act) → StaysConnected act → WasCleared plan commands scope acts → WasCleared plan commands scope (acts ++ act ∷ [])
   more acts act on (inl q) =
       inl (since_on (Quiets plan.quiet) (Quiets plan.quiet) acts (act ∷ []) (λ before start behind order h. (h.0, h.1, h.2, h.3, h.4, all_append StaysConnected behind (act ∷ []) h.5 (on, tt))) q)
@@ -251,11 +259,11 @@ module _ (plan : Plan) (commands : List Task) (scope : Scope) where
   stage_cleared true since acts o = since_now Clears acts (Put (10 ∷ [])) ((o.0, o.1), refl, tt)
   stage_cleared false since acts o = inr (since_now (Begins plan commands scope) acts (Put (10 ∷ [])) (o, refl, tt))
 
-  -- what `Stage` says in the phase that a progress has
+  -- what `HereAt` says in this phase
   stage_in : (p : Progress) (at : Phase) (acts : List Act) → p.phase ≡ at → HereAt p acts → Here (has_begun p) p.stale p.since at acts
   stage_in p at acts is st = subst (λ (x : Phase). Here (has_begun p) p.stale p.since x acts) is st
 
-  -- `Stage` lasts over an act of any action
+  -- what `Stage` says holds on after an act of any action that leaves a connection in use
   stage_line : (next : Action) (s : Model) (acts : List Act) → has_begun (stood plan commands scope acts).progress ≡ has_begun s.progress
       → IsFor plan s.progress (waiting_of s) next → Timely s.progress next → HereAt s.progress acts → OnLine plan commands HereAt next (with_progress turned s) acts
   stage_line actions.ReadClock s acts there needs time st =
@@ -293,9 +301,10 @@ module _ (plan : Plan) (commands : List Task) (scope : Scope) where
 
   -- Whole runs.
 
-  -- `Stage` holds behind every run
+  -- `Stage` holds after every run
   stage_stood : (acts : List Act) → Runs plan commands (opening plan scope) acts → HereAt (stood plan commands scope acts).progress acts
   stage_stood acts runs = always_far plan commands (opening plan scope) HereAt step tt acts runs where
+    -- one act of a run keeps `HereAt`
     step : (done : List Act) (act : Act) → Runs plan commands (opening plan scope) done
         → Performs commands (stood plan commands scope done) (action_at plan (stood plan commands scope done)) act
         → HereAt (stood plan commands scope done).progress done
@@ -341,7 +350,7 @@ asks_there plan commands actions.Send s act o asks needs = needs.0
 asks_there plan commands actions.Flush s act o asks needs = needs.0
 asks_there plan commands next s act o asks needs = absurd (asks_not plan commands next s act o (λ is. cc, λ is. cc, λ is. cc) asks)
 
--- where a request goes out, its connection is cleared and quiet
+-- where a request goes out, its connection is as `IsClearedAndQuiet` says
 pub cleared_and_quiet : (plan : Plan) (commands : List Task) (scope : Scope) (earlier later : List Act) (act : Act)
     → Runs plan commands (opening plan scope) (earlier ++ act ∷ later) → IsRequest act → IsClearedAndQuiet plan commands scope earlier
 cleared_and_quiet plan commands scope earlier later act runs asks =

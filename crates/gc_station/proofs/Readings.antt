@@ -1,4 +1,4 @@
--- No act changes what replies say.
+-- No act changes what replies say. An act is one call of the link, with what came of it.
 use Rattle.std.proofs.Common.{◌≡◌, Bool, true, false, ℕ, List, [], ◌∷◌, Result, Ok, Err, refl, sym, ap, ◌∙◌, subst}
 use Rattle.gc_lines.specs.Replies.{ReplyFields}
 use Rattle.gc_lines.specs.Readers.{reply_at}
@@ -24,11 +24,11 @@ use Rattle.gc_station.specs.Model.{Model, opening, action_at, with_progress, lin
 pub lines_reads : (s : Model) (lines : List (List ℕ)) → (lines_came s lines).reads ≡ s.reads
 lines_reads s lines = lines_along (λ (t : Model). t.reads ≡ s.reads) (λ t line e. e) s lines refl
 
--- an act, before what is lost by it, doesn't change what replies say
+-- an act, before what waits is lost, doesn't change what replies say
 pub moved_reads : (plan : Plan) (commands : List Task) (action : Action) (s : Model) (act : Act) → (moved plan commands action s act).reads ≡ s.reads
 moved_reads plan commands action s act = ap (λ (x : Model). x.reads) (moved_changed plan commands action s act)
 
--- a loss doesn't change what replies say
+-- the loss of what waits doesn't change what replies say
 pub ended_reads : (b : Bool) (s : Model) → (losing b s).reads ≡ s.reads
 ended_reads true s = refl
 ended_reads false s = refl
@@ -39,15 +39,16 @@ after_reads plan commands s act =
     let t = moved plan commands (action_at plan s) (with_progress turned s) act in
     ended_reads (loses_all t.progress) t ∙ moved_reads plan commands (action_at plan s) (with_progress turned s) act
 
+-- acts don't change what replies say
 all_reads : (plan : Plan) (commands : List Task) (s : Model) (acts : List Act) → (after_all plan commands s acts).reads ≡ s.reads
 all_reads plan commands s [] = refl
 all_reads plan commands s (act ∷ acts) = all_reads plan commands (after plan commands s act) acts ∙ after_reads plan commands s act
 
--- behind any acts replies say what they say in the scope
+-- after any acts replies say what they say in the scope
 pub stood_reads : (plan : Plan) (commands : List Task) (scope : Scope) (acts : List Act) → (stood plan commands scope acts).reads ≡ scope.reads
 stood_reads plan commands scope acts = all_reads plan commands (opening plan scope) acts
 
--- readings of a function are readings of an equal one
+-- a function that equals one that gives readings gives them, too
 pub are_same : (a b : Call → List ℕ → Reading) → a ≡ b → AreReadings b → AreReadings a
 are_same a b e are = subst (λ (r : Call → List ℕ → Reading). AreReadings r) (sym e) are
 
@@ -62,6 +63,7 @@ said : Call → Result ReplyFields LineFault → Reading
 said call (Ok reply) = (each_reply call reply).0
 said call (Err fault) = Refused 0
 
+-- some function gives each line's reading for a call: it reads the line as a reply, and that for the call
 pub some_readings : SomeReadings
 unfolding said
 some_readings = (

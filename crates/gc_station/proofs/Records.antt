@@ -1,4 +1,7 @@
--- Records, written one after the other by the marks of requests.
+-- Records, written one after the other by the marks of requests. A mark says which command a waiting request is of, or `None`
+-- of a null procedure; settlements are of the oldest requests that wait, and have their marks, one for one. `WritesPart text
+-- before all old new`: a book that had taken `old` has taken the records `before` whole and broken off within the others of
+-- `all`; `new` is what it has taken then.
 use Rattle.std.proofs.Common.{◌≡◌, ℕ, zero, suc, ◌+◌, ◌<◌, Bool, true, false, List, [], ◌∷◌, ◌++◌, length, take, drop, map, get_or, Option, Some, None, is_some, if◌then◌else◌, refl, sym, ap, ◌∙◌, subst, arith, append_assoc, append-nil}
 use Rattle.std.specs.Prelude.{slice_get}
 use Rattle.std.proofs.lemmas.List.{length-map, length-take, map-append, map_more, take_more, take-append-drop}
@@ -31,12 +34,13 @@ commands_one None false e = refl
 commands_one (Some m) true e = refl
 commands_one (Some m) false e = cc
 
+-- at a place within a list of marks, the value that stands for a missing mark doesn't matter
 got_there : (marks : List (Option Mark)) (i : ℕ) (d : Option Mark) → i < length marks → get_or marks i d ≡ get_or marks i None
 got_there [] i d below = absurd (omega (arith, below))
 got_there (mark ∷ marks) zero d below = refl
 got_there (mark ∷ marks) (suc i) d below = let low : i < length marks = omega (arith, below) in got_there marks i d low
 
--- the mark that is looked at is the one at its place
+-- a mark that is the one at place i is a command's exactly where the one at place i is
 pub item_there : (marks : List (Option Mark)) (i : ℕ) (mark : Option Mark) → i < length marks → mark ≡ get_or marks i mark → is_some mark ≡ is_some (get_or marks i None)
 item_there marks i mark below is = ap is_some (is ∙ got_there marks i mark below)
 
@@ -54,13 +58,13 @@ pub records-none : (reads : Call → List ℕ → Reading) (utc : ℕ) (marks : 
 records-none reads utc [] = refl
 records-none reads utc (mark ∷ marks) = refl
 
--- the record of the oldest request goes by the first mark alone
+-- the record of one settlement, which is of the oldest request, is made by the first mark alone
 mark_here : (reads : Call → List ℕ → Reading) (utc : ℕ) (mark : Option Mark) (marks : List (Option Mark)) (x : Rule.Settlement)
     → records_of reads utc (mark ∷ marks) (x ∷ []) ≡ records_of reads utc (mark ∷ []) (x ∷ [])
 mark_here reads utc None marks x = records-none reads utc marks
 mark_here reads utc (Some mark) marks x = ap (λ rs. record_of reads utc mark x ∷ rs) (records-none reads utc marks)
 
--- the record of the oldest request goes by the first mark, where that is known by its place
+-- the record of one settlement is made by the first mark alone, where that mark is given by its place, 0
 pub mark_first : (reads : Call → List ℕ → Reading) (utc : ℕ) (marks : List (Option Mark)) (mark : Option Mark) (x : Rule.Settlement)
     → Some mark ≡ slice_get marks 0 → records_of reads utc marks (x ∷ []) ≡ records_of reads utc (mark ∷ []) (x ∷ [])
 mark_first reads utc [] mark x e = cc
@@ -76,7 +80,7 @@ records-append reads utc (mark ∷ marks) [] ys = refl
 records-append reads utc (None ∷ marks) (x ∷ xs) ys = records-append reads utc marks xs ys
 records-append reads utc (Some mark ∷ marks) (x ∷ xs) ys = ap (λ rs. record_of reads utc mark x ∷ rs) (records-append reads utc marks xs ys)
 
--- the records of the first i + 1 settlements are those of the first i, and that of the one at place i
+-- the records of the first i + 1 settlements are those of the first i, and that of s, the one at place i, by its mark
 pub front_more : (reads : Call → List ℕ → Reading) (utc : ℕ) (marks : List (Option Mark)) (ss : List Settlement) (i : ℕ) (s : Settlement) (mark : Option Mark) → i < length ss → s ≡ get_or ss i s
     → records_of reads utc (drop i marks) (settlement_seen s ∷ []) ≡ records_of reads utc (mark ∷ []) (settlement_seen s ∷ [])
     → records_of reads utc marks (map settlement_seen (take (i + 1) ss)) ≡ records_of reads utc marks (map settlement_seen (take i ss)) ++ records_of reads utc (mark ∷ []) (settlement_seen s ∷ [])
@@ -105,7 +109,7 @@ texts_more text before front next more is = ap (λ rs. texts_of text (before ++ 
 
 -- Records are added, and none goes.
 
--- these records are the first of those
+-- the records `old` are the first of the records `new`
 abbrev pub Grew : List Record → List Record → Type 0
 Grew old new = (more : List Record) × (new ≡ old ++ more)
 
@@ -117,7 +121,7 @@ grew_none rs = ([], sym (append-nil rs))
 pub grew_then : (a b c : List Record) → Grew a b → Grew b c → Grew a c
 grew_then a b c g h = (g.0 ++ h.0, h.1 ∙ ap (λ rs. rs ++ h.0) g.1 ∙ append_assoc a g.0 h.0)
 
--- a part of one record was written behind others that were written whole
+-- where a book took the records `before`, and then a part of the record r alone, it broke off within r (`WritesPart`)
 pub part_one : (text : Record → List ℕ) (before : List Record) (r : Record) (start old new : Option (List ℕ)) (part : ℕ)
     → Appends start old (texts_of text before) → part < length (text r) → Appends old new (take part (text r))
     → WritesPart text before (before ++ r ∷ []) start new
@@ -132,7 +136,7 @@ part_one text before r start old new part so not_all took = record {
       (Appends-append start old new (texts_of text before) (take part (text r)) so took);
 }
 
--- a part of some records is a part of these and more
+-- a write that broke off within the records `all` broke off within `all` and more
 pub part_more : (text : Record → List ℕ) (before all more : List Record) (old new : Option (List ℕ)) → WritesPart text before all old new → WritesPart text before (all ++ more) old new
 part_more text before all more old new w = record {
   earlier = w.earlier;
@@ -144,7 +148,7 @@ part_more text before all more old new w = record {
   took = w.took;
 }
 
--- a part that was written behind these records was also written behind fewer of them
+-- a write that took `before` and `front` whole, and then broke off, took `before` whole and broke off behind it
 pub part_since : (text : Record → List ℕ) (before front all : List Record) (old new : Option (List ℕ)) → WritesPart text (before ++ front) all old new → WritesPart text before all old new
 part_since text before front all old new w = record {
   earlier = front ++ w.earlier;
@@ -156,15 +160,17 @@ part_since text before front all old new w = record {
   took = subst (λ (rs : List Record). Appends old new (texts_of text rs ++ take w.part (text w.next))) (append_assoc before front w.earlier) w.took;
 }
 
--- a part that was written behind more records was written behind fewer
+-- `mid` is `before` and more records: a write that took `mid` whole, and then broke off, took `before` whole and broke off
+-- behind it
 pub part_grew : (text : Record → List ℕ) (before mid all : List Record) (old new : Option (List ℕ)) → Grew before mid → WritesPart text mid all old new → WritesPart text before all old new
 part_grew text before mid all old new g w = part_since text before g.0 all old new (subst (λ (rs : List Record). WritesPart text rs all old new) g.1 w)
 
--- a part of fewer records is a part of more
+-- `all` is `mid` and more records: a write that broke off within `mid` broke off within `all`
 pub part_grows : (text : Record → List ℕ) (before mid all : List Record) (old new : Option (List ℕ)) → Grew mid all → WritesPart text before mid old new → WritesPart text before all old new
 part_grows text before mid all old new g w = subst (λ (rs : List Record). WritesPart text before rs old new) (sym g.1) (part_more text before mid g.0 old new w)
 
--- a part of the next record is a part of all records
+-- `all` begins with `front` and then `more`: a write that took `before` and `front`, and broke off within `more`, broke off
+-- within `all`
 pub part_behind : (text : Record → List ℕ) (before front next more all later : List Record) (start new : Option (List ℕ)) → next ≡ front ++ more → all ≡ next ++ later
     → WritesPart text (before ++ front) ((before ++ front) ++ more) start new → WritesPart text before (before ++ all) start new
 part_behind text before front next more all later start new is whole w =
@@ -182,21 +188,22 @@ tallied-append t (x ∷ xs) ys = tallied-append (counted x.end t) xs ys
 pub tallied_more : (t u v : Tally) (front one next : List Record) → u ≡ tallied t front → v ≡ tallied u one → next ≡ front ++ one → v ≡ tallied t next
 tallied_more t u v front one next so more is = more ∙ ap (λ (x : Tally). tallied x one) so ∙ sym (tallied-append t front one) ∙ sym (ap (tallied t) is)
 
--- how the last of two lists of records ended is how the last of the second one did, or else of the first
-pub last-append : (reads : Call → List ℕ → Reading) (b : Bool) (xs ys : List Record) → last_well reads b (xs ++ ys) ≡ last_well reads (last_well reads b xs) ys
-last-append reads b [] ys = refl
-last-append reads b (x ∷ xs) ys = last-append reads (is_well reads x.command.call x.end) xs ys
+-- whether the last of two lists of records was answered well, is known from the second list or, where that is empty, from the
+-- first
+pub last-append : (b : Bool) (xs ys : List Record) → last_well b (xs ++ ys) ≡ last_well (last_well b xs) ys
+last-append b [] ys = refl
+last-append b (x ∷ xs) ys = last-append (is_well x.end) xs ys
 
--- how the last of some records and of others behind them ended is known from both
-pub last_more : (reads : Call → List ℕ → Reading) (a b c : Bool) (front one next : List Record) → b ≡ last_well reads a front → c ≡ last_well reads b one
-    → next ≡ front ++ one → c ≡ last_well reads a next
-last_more reads a b c front one next so more is = more ∙ ap (λ x. last_well reads x one) so ∙ sym (last-append reads a front one) ∙ sym (ap (last_well reads a) is)
+-- whether the last of the records `next` was answered well is known from those in front, and from those behind them (`one`)
+pub last_more : (a b c : Bool) (front one next : List Record) → b ≡ last_well a front → c ≡ last_well b one
+    → next ≡ front ++ one → c ≡ last_well a next
+last_more a b c front one next so more is = more ∙ ap (λ x. last_well x one) so ∙ sym (last-append a front one) ∙ sym (ap (last_well a) is)
 
--- the record of a settlement with this ending
+-- the record of a settlement, with this ending in place of its own
 abbrev pub record_as : ℕ → Mark → Rule.Settlement → End → Record
 record_as utc mark settlement end = record { sent = Some mark.sent; utc = utc; cycle = mark.cycle; place = mark.place; command = command_of settlement; end = end }
 
 -- the record with the ending that a settlement gives is the record of the settlement
-pub record_same : (reads : Call → List ℕ → Reading) (utc : ℕ) (mark : Mark) (x : Rule.Settlement) (end : End) → end ≡ end_of reads mark.near x.call x.outcome
+pub record_same : (reads : Call → List ℕ → Reading) (utc : ℕ) (mark : Mark) (x : Rule.Settlement) (end : End) → end ≡ end_of reads mark.expected x.call x.outcome
     → record_as utc mark x end ≡ record_of reads utc mark x
 record_same reads utc mark x end is = ap (record_as utc mark x) is

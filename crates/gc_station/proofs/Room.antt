@@ -26,6 +26,7 @@ few plan w room = elim (leb_tells plan.width 0) as (λ _. (w.current ≡ 0) ⊎ 
   | inr some ↦ let least = some.1 in let here = room.0 in inr (omega (arith, least, here))
 ]
 
+-- the law: a request of the client goes out only where there is room
 pub have_room : RequestsHaveRoom
 have_room plan commands scope acts puts =
     let s = stood plan commands scope acts in

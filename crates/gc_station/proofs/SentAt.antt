@@ -1,4 +1,6 @@
--- Where a request of a command goes out, and that what is written down stays.
+-- Where a request of a command goes out, and that what is written down stays. An act is one call of the link, with what came of
+-- it. A part reaches from one beginning of the station to the next. A mark says which command a request is of, or `None` of a
+-- null procedure.
 use Rattle.std.proofs.Common.{◌≡◌, ◌⊎◌, inl, inr, ℕ, zero, suc, ◌+◌, Bool, true, false, List, [], ◌∷◌, ◌++◌, length, drop, Some, None, refl, sym, ◌∙◌, ap, subst, arith, append_assoc}
 use Rattle.std.specs.Prelude.{slice_get}
 use Rattle.std.proofs.lemmas.List.{length-append}
@@ -22,13 +24,15 @@ use Rattle.gc_station.proofs.Records.{Grew, grew_none}
 
 -- Lists.
 
+-- equal options have equal elements
 pub some_is : {A : Type 0} (a b : A) → Some a ≡ Some b → a ≡ b
 some_is a b e = cc
 
+-- no element isn't one
 pub none_is_not : {A : Type 0} (a : A) → None ≡ Some a → ⊥
 none_is_not a e = cc
 
--- what is at a place of two lists, one behind the other, is in the first or at a place of the second
+-- what is at a place of two lists in a row is in the first list, or at a place of the second
 pub get_split : {A : Type 0} (xs ys : List A) (n : ℕ) (x : A) → slice_get (xs ++ ys) n ≡ Some x → (slice_get xs n ≡ Some x) ⊎ ((k : ℕ) × (n ≡ length xs + k) × (slice_get ys k ≡ Some x))
 get_split [] ys n x e = inr (n, omega arith, e)
 get_split (y ∷ xs) ys zero x e = inl e
@@ -38,15 +42,17 @@ get_split (y ∷ xs) ys (suc n) x e =
       | inr r ↦ (let at : n ≡ length xs + r.0 = r.1 in inr (r.0, omega (arith, at), r.2))
     ]
 
--- an element at place i of the second list is at place i, behind the length of the first, of both
+-- what is at place i of the second list is, in both in a row, at place i behind the first list
 pub get_behind : {A : Type 0} (xs ys : List A) (i j : ℕ) (x : A) → j ≡ length xs + i → slice_get ys i ≡ Some x → slice_get (xs ++ ys) j ≡ Some x
 get_behind [] ys i j x e got = let same : i ≡ j = omega (arith, e) in subst (λ k. slice_get ys k ≡ Some x) same got
 get_behind (y ∷ xs) ys i zero x e got = absurd (omega (arith, e))
 get_behind (y ∷ xs) ys i (suc j) x e got = get_behind xs ys i j x (omega (arith, e)) got
 
+-- equal lists of acts have the same first act
 pub act_head : (x y : Act) (xs ys : List Act) → x ∷ xs ≡ y ∷ ys → x ≡ y
 act_head x y xs ys e = cc
 
+-- equal lists of acts have the same acts behind the first
 pub act_tail : (x y : Act) (xs ys : List Act) → x ∷ xs ≡ y ∷ ys → xs ≡ ys
 act_tail x y xs ys e = cc
 
@@ -67,18 +73,19 @@ fronts (x ∷ xs) ys (f ∷ fs) gs e =
 pub grew_both : (xs ys zs : List Record) → Grew xs ys → Grew ys zs → Grew xs zs
 grew_both xs ys zs g h = (g.0 ++ h.0, h.1 ∙ ap (λ l. l ++ h.0) g.1 ∙ append_assoc xs g.0 h.0)
 
--- the records before an act are the first of those behind it
+-- the records before an act are the first of those after it
 pub after_grew : (plan : Plan) (commands : List Task) (s : Model) (act : Act) → Grew s.records (after plan commands s act).records
 after_grew plan commands s act =
     let t = moved plan commands (action_at plan s) (with_progress turned s) act in
     grew_both s.records t.records (after plan commands s act).records (moved_grew plan commands (action_at plan s) (with_progress turned s) act) (losing_records (loses_all t.progress) t)
 
--- the records before acts are the first of those behind them
+-- the records before acts are the first of those after them
 pub all_grew : (plan : Plan) (commands : List Task) (s : Model) (acts : List Act) → Grew s.records (after_all plan commands s acts).records
 all_grew plan commands s [] = grew_none s.records
 all_grew plan commands s (act ∷ acts) =
     grew_both s.records (after plan commands s act).records (after_all plan commands s (act ∷ acts)).records (after_grew plan commands s act) (all_grew plan commands (after plan commands s act) acts)
 
+-- the law: the records after some acts stay, in front of those of the acts that follow
 pub records_stay : RecordsStay
 records_stay plan commands scope before rest =
     let g = all_grew plan commands (stood plan commands scope before) rest in
@@ -86,7 +93,7 @@ records_stay plan commands scope before rest =
 
 -- Where a request of a command goes out.
 
--- a mark in the part of the next command is that command's
+-- the part of the next command has no mark but that command's, in front
 pub put_mark : (plan : Plan) (commands : List Task) (s : Model) (left : List Task) (n : ℕ) (mark : Mark)
     → slice_get (asking_first s.progress.moment.elapsed (mark_next plan commands s.progress) left).marks n ≡ Some (Some mark)
     → (n ≡ 0) × (mark ≡ mark_next plan commands s.progress)
@@ -103,7 +110,7 @@ null_mark (suc n) mark e = none_is_not (Some mark) e
 abbrev pub IsSend : Plan → List Task → Model → Action → ℕ → Mark → Type 0
 IsSend plan commands s o n mark = (n ≡ 0) × (o ≡ Send) × (mark ≡ mark_next plan commands s.progress)
 
--- a mark in the part of bytes that are put is of a command that is sent
+-- a mark in the part of bytes that are put is of a command that the action sends
 pub putting_mark : (plan : Plan) (commands : List Task) (s : Model) (o : Action) (n : ℕ) (mark : Mark)
     → slice_get (putting plan commands s o).marks n ≡ Some (Some mark) → IsSend plan commands s o n mark
 putting_mark plan commands s Send n mark e = let h = put_mark plan commands s (drop (place_next commands s.progress) commands) n mark e in (h.0, refl, h.1)
@@ -133,7 +140,8 @@ acting_mark plan commands s o act n mark =
     either (λ (p : Part). slice_get p.marks n ≡ Some (Some mark) → IsSend plan commands s o n mark) (doing plan commands s o act) (beginning s o act) (has_begun s.progress)
     (λ begun e. doing_mark plan commands s o act n mark e) (λ begins e. absurd (beginning_mark s o act n mark e))
 
--- among these acts the command with this mark is sent, as request n of part i
+-- among these acts the command with this mark is sent, as request n of part i, both counted from 0: after the acts `before`, part
+-- i is the last one and has n requests so far
 pub record SentAt (plan : Plan) (commands : List Task) (s : Model) (acts : List Act) (i n : ℕ) (mark : Mark) : Type 0 where
   pub before : List Act
   pub act : Act
@@ -169,7 +177,7 @@ module _ (plan : Plan) (commands : List Task) where
       let h = acting_mark plan commands s (action_at plan s) act n mark e in
       record { before = []; act = act; rest = acts; order = refl; sends = h.1; is = h.2; first = nothing; of_parts = refl; last = refl; count = sym h.0 }
 
-  -- an act behind the first one, with which a part ends, sends the command: so the command is in a later part
+  -- an act after the first one, with which a part ends, sends the command: so the command is in a later part
   pub sent_cut : (s : Model) (act : Act) (acts : List Act) (i n : ℕ) (mark : Mark) → ends_part plan commands s act ≡ true
       → SentAt plan commands (after plan commands s act) acts i n mark → SentAt plan commands s (act ∷ acts) (suc i) n mark
   sent_cut s act acts i n mark is h =
@@ -188,7 +196,7 @@ module _ (plan : Plan) (commands : List Task) where
         count = h.count;
       }
 
-  -- an act behind the first one sends the command in the first part: so the command is behind the requests of the first act
+  -- an act after the first one sends the command in the first part: so the command is after the requests of the first act
   pub sent_on : (s : Model) (act : Act) (acts : List Act) (n k : ℕ) (mark : Mark) → ends_part plan commands s act ≡ false → n ≡ length (acting plan commands s (action_at plan s) act).marks + k
       → SentAt plan commands (after plan commands s act) acts 0 k mark → SentAt plan commands s (act ∷ acts) 0 n mark
   sent_on s act acts n k mark is at h =
@@ -209,7 +217,7 @@ module _ (plan : Plan) (commands : List Task) where
         count = omega (arith, size, count, at);
       }
 
-  -- an act behind the first one sends the command in a later part
+  -- an act after the first one sends the command in a later part
   pub sent_later : (s : Model) (act : Act) (acts : List Act) (i n : ℕ) (mark : Mark) → ends_part plan commands s act ≡ false
       → SentAt plan commands (after plan commands s act) acts (suc i) n mark → SentAt plan commands s (act ∷ acts) (suc i) n mark
   sent_later s act acts i n mark is h =
@@ -228,7 +236,7 @@ module _ (plan : Plan) (commands : List Task) where
         count = h.count;
       }
 
-  -- a request of a command was sent among acts, whether a part ends with the first of them or not
+  -- a request of a command, with its mark in the parts of acts, was sent among them, whether the first act ends a part (b) or not
   pub sent_by : (s : Model) (act : Act) (acts : List Act) (b : Bool) (ps : List Part) (i n : ℕ) (part : Part) (mark : Mark) → ends_part plan commands s act ≡ b
       → ((j k : ℕ) (p : Part) → slice_get ps j ≡ Some p → slice_get p.marks k ≡ Some (Some mark) → SentAt plan commands (after plan commands s act) acts j k mark)
       → slice_get (in_front (acting plan commands s (action_at plan s) act) b ps) i ≡ Some part → slice_get part.marks n ≡ Some (Some mark) → SentAt plan commands s (act ∷ acts) i n mark

@@ -1,4 +1,5 @@
--- Which act told the last moment; and a close that no act shows is decided where it is made.
+-- Which act told the last moment; and that a close is decided only when it is made, unless an act shows its cause. An act is
+-- one call of the link, with what came of it. `Fresh` says that the last act told the moment, unless the moment is out of date.
 use Rattle.std.proofs.Common.{◌≡◌, ℕ, ◌⊎◌, inl, inr, ◌&&◌, Bool, true, false, not, List, [], ◌∷◌, ◌++◌, if◌then◌else◌, refl, ap, subst}
 use Rattle.gc_texts.specs.declared.tasks.Task.{Task}
 use Rattle.gc_station.specs.declared.plan.Plan.{Plan}
@@ -24,9 +25,9 @@ use Rattle.gc_station.proofs.Connected.{is_in_use, OnLine, on_line}
 use Rattle.gc_station.proofs.Facts.{Awake}
 use Rattle.gc_station.proofs.Walk.{asked_along, came_along}
 
--- The moment that was told last, behind one act more.
+-- The moment that was told last, after one act more.
 
--- the moment told last among acts and one more is the one that this tells or, if it tells none, the one that those told last
+-- with one act more, the moment told last is the act's or, if it tells none, the one told last before it
 pub latest_more : (now : ℕ) (acts : List Act) (act : Act) → latest now (acts ++ act ∷ []) ≡ latest (latest now acts) (act ∷ [])
 latest_more now [] act = refl
 latest_more now (Told m ∷ acts) act = latest_more m.elapsed acts act
@@ -34,10 +35,12 @@ latest_more now (Gave bytes m ∷ acts) act = latest_more m.elapsed acts act
 latest_more now (Silent m ∷ acts) act = latest_more m.elapsed acts act
 latest_more now (x ∷ acts) act = latest_more now acts act
 
+-- where a drain ends or goes on, there is a connection
 drained_up : (b : Bool) (p : Progress) → p.phase ≡ phase.Draining → is_up (if b then drained p else p).phase ≡ true
 drained_up true p is = refl
 drained_up false p is = ap is_up is
 
+-- where a pause ends or goes on, there is no connection
 paused_up : (b : Bool) (at : Phase) → at ≡ phase.Pausing → is_up (if b then phase.Down else at) ≡ false
 paused_up true at is = refl
 paused_up false at is = ap is_up is
@@ -54,7 +57,8 @@ quieted_up plan at p is = ap is_up is
 abbrev pub LastTells : ℕ → List Act → Type 0
 LastTells now acts = (front : List Act) × (last : Act) × (acts ≡ front ++ last ∷ []) × TellsMoment now last
 
--- in a drain, and where requests may go out: if the moment was told, the last act told it
+-- while a connection is drained, and where requests may go out: the last act told the moment `now`, if the moment told last
+-- isn't out of date (the first argument, `stale`)
 abbrev Fresh : Bool → ℕ → Phase → List Act → Type 0
 Fresh stale now phase.Draining acts = stale ≡ false → LastTells now acts
 Fresh stale now phase.Ready acts = stale ≡ false → LastTells now acts
@@ -70,7 +74,7 @@ fresh_none stale now phase.Draining acts none = cc
 fresh_none stale now phase.Ready acts none = cc
 fresh_none stale now at acts none = tt
 
--- `Fresh` holds behind an act that tells the moment
+-- `Fresh` holds after an act that tells the moment
 fresh_told : (stale : Bool) (now : ℕ) (at : Phase) (acts : List Act) (act : Act) → TellsMoment now act → Fresh stale now at (acts ++ act ∷ [])
 fresh_told stale now phase.Draining acts act tells = λ e. (acts, act, refl, tells)
 fresh_told stale now phase.Ready acts act tells = λ e. (acts, act, refl, tells)
@@ -103,9 +107,10 @@ module _ (plan : Plan) (commands : List Task) where
   fresh_line (actions.Stop why) s acts = tt
   fresh_line next s acts = λ m. fresh_told false m.elapsed s.progress.phase acts (Told m) refl
 
-  -- `Fresh` holds behind every run
+  -- `Fresh` holds after every run
   fresh_stood : (scope : Scope) (acts : List Act) → Runs plan commands (opening plan scope) acts → FreshAt (stood plan commands scope acts).progress acts
   fresh_stood scope acts runs = always_far plan commands (opening plan scope) FreshAt step tt acts runs where
+    -- one act of a run keeps `FreshAt`
     step : (done : List Act) (act : Act) → Runs plan commands (opening plan scope) done
         → Performs commands (stood plan commands scope done) (action_at plan (stood plan commands scope done)) act
         → FreshAt (stood plan commands scope done).progress done
@@ -123,14 +128,15 @@ module _ (plan : Plan) (commands : List Task) where
 
 -- A close that no act shows is decided where it is made.
 
--- where no act shows the cause of a close, the phase hasn't decided the close
+-- where no act can show the cause of a close, the phase hasn't decided that close
 pub not_closing : (plan : Plan) (commands : List Task) (scope : Scope) (acts : List Act) (why : Cause) → Runs plan commands (opening plan scope) acts
     → ((act : Act) → Shows why act → ⊥) → (stood plan commands scope acts).progress.phase ≡ phase.Closing why → ⊥
 not_closing plan commands scope acts why runs none is = let shown = closing_shown plan commands scope acts why runs is in none shown.1 shown.3
 
--- a close that the phase hasn't decided is decided by `IsAtItsEnd`
+-- a close that the phase hasn't decided is made because the run is at its end (`IsAtItsEnd`)
 pub end_here : (plan : Plan) (s : Model) (why : Cause) → action_at plan s ≡ actions.Close why → (s.progress.phase ≡ phase.Closing why → ⊥) → IsAtItsEnd plan s.progress (waiting_of s) why
 end_here plan s why is never = by_needs (needs_of plan s (actions.Close why) is).1 where
+  -- the lemma above, by the two conditions of a close
   by_needs : (s.progress.phase ≡ phase.Closing why) ⊎ IsAtItsEnd plan s.progress (waiting_of s) why → IsAtItsEnd plan s.progress (waiting_of s) why
   by_needs (inl closing) = absurd (never closing)
   by_needs (inr end) = end

@@ -1,4 +1,8 @@
--- A run stops for want of tries only where as many connections ended since a read settled a command.
+-- A run stops for want of tries only where enough connections ended, or couldn't be made, since a read settled a command.
+-- `up_count` is 1 where there is a connection, and 0 where there is none. An act is one call of the link, with what came of it.
+-- A piece is the bytes that one read gave. `Trying` says how many tries are left, by the connections that ended since the last
+-- read that settled a command. `Hears` says what a piece does to the tries: they are all given back where it settles a command,
+-- and stay where it doesn't; `Settling` says the same of a whole read, by the records.
 use Rattle.std.proofs.Common.{◌≡◌, ◌≢◌, ◌⊎◌, inl, inr, ℕ, suc, ◌+◌, ◌-◌, ◌<◌, ◌≤◌, Bool, true, false, not, List, [], ◌∷◌, ◌++◌, length, map, Option, Some, None, if◌then◌else◌, nat_lt, refl, sym, ap, ◌∙◌, subst, arith, append_assoc, append-nil}
 use Rattle.std.proofs.lemmas.Bool.{ltb-true, ltb-false}
 use Rattle.std.proofs.lemmas.List.{length-map, length-append, nil_from_length}
@@ -44,27 +48,27 @@ use Rattle.gc_station.specs.Scopes.{Scope}
 
 -- Each end of a connection takes a try at most, and only a read gives tries back.
 
--- what a piece leaves: as many commands had their turn; no beginning begins by it; and either fewer commands wait and all tries are
--- left, or not fewer and the tries stay
+-- what a piece does, from s to t: as many commands had their turn; the station doesn't begin anew by it; and either fewer
+-- commands wait, and all tries are left, or as many wait or more, and the tries stay
 record Hears (plan : Plan) (s t : Model) : Type 0 where
   left : t.progress.left ≡ s.progress.left
   unsent : t.progress.unsent ≡ s.progress.unsent
   begins : has_begun t.progress ≡ false → has_begun s.progress ≡ false
   tries : ((commands_in t.marks < commands_in s.marks) × (t.progress.tries ≡ plan.retries)) ⊎ ((commands_in s.marks ≤ commands_in t.marks) × (t.progress.tries ≡ s.progress.tries))
 
--- what an act does to the tries: a read that gave bytes is `Hears`; any other act takes at most one for each connection that ends by it
--- or couldn't be made
+-- what an act does to the tries, from s to t: a read that gave bytes does what `Hears` says; any other act takes at most one
+-- try for each connection that ends by it or couldn't be made
 abbrev Took : Plan → Model → Act → Model → Type 0
 Took plan s (Gave bytes m) t = Hears plan s t
 Took plan s act t = s.progress.tries ≤ t.progress.tries + ends_in (act ∷ [])
 
--- behind a read either fewer commands wait, and all tries are left, or not fewer, and the tries stay
+-- after a read either fewer commands wait, and all tries are left; or as many or more, and the tries stay
 given_back : (b : Bool) (after before retries new old : ℕ) → nat_lt after before ≡ b → new ≡ old
     → ((after < before) × ((if b then retries else new) ≡ retries)) ⊎ ((before ≤ after) × ((if b then retries else new) ≡ old))
 given_back true after before retries new old e same = inl (ltb-true after before e, refl)
 given_back false after before retries new old e same = inr (ltb-false after before e, same)
 
--- a read that gave bytes is `Hears`
+-- a read that gave bytes does to the tries what `Hears` says
 gave_took : (plan : Plan) (until : Until) (s : Model) (bytes : List ℕ) (m : Moment) → Hears plan s (piece_at plan until bytes m s)
 gave_took plan until s bytes m =
     let heard = is_heard s.progress.phase in
@@ -84,7 +88,7 @@ gave_took plan until s bytes m =
 silent_took : (plan : Plan) (at : Phase) (p : Progress) → (quieted plan at p).tries ≡ p.tries
 silent_took plan at p = quieted_along (λ (q : Progress). q.tries ≡ p.tries) plan at p refl refl refl
 
--- at most one try is taken
+-- at most one try is taken, whether it is spared (b) or not
 one_less : (b : Bool) (n : ℕ) → n ≤ (if b then n else n - 1) + 1
 one_less true n = omega arith
 one_less false n = omega arith
@@ -111,7 +115,7 @@ took_moved plan commands (actions.Close why) s act o = walk plan commands (Took 
 took_moved plan commands (actions.Stop why) s act o = absurd o
 took_moved plan commands next s act o = walk plan commands (Took plan (with_progress turned s)) next (with_progress turned s) act o (λ m. omega arith, λ n. omega arith)
 
--- the turn of an act takes no try
+-- the turn that an act takes takes no try
 untook : (plan : Plan) (s t : Model) (act : Act) → Took plan (with_progress turned s) act t → Took plan s act t
 untook plan s t (Gave bytes m) h = record { left = h.left; unsent = h.unsent; begins = h.begins; tries = h.tries }
 untook plan s t act h = h
@@ -136,7 +140,7 @@ counted_out plan commands s fine =
     let d = ap length fine.each in
     omega (arith, a, b, c, d)
 
--- where as many commands had their turn in two models, their records and the commands that wait are as many
+-- where as many commands had their turn in two models, the records and the commands that wait are as many in both
 same_out : (plan : Plan) (commands : List Task) (s t : Model) → Invariant plan commands s → Invariant plan commands t → t.progress.left ≡ s.progress.left → t.progress.unsent ≡ s.progress.unsent
     → length t.records + commands_in t.marks ≡ length s.records + commands_in s.marks
 same_out plan commands s t fine fine' left unsent =
@@ -145,7 +149,7 @@ same_out plan commands s t fine fine' left unsent =
     ∙ ap (λ n. length (sent_by commands (plan.cycles - s.progress.left) (length commands - n))) unsent
     ∙ sym (counted_out plan commands s fine)
 
--- records that grew and are no more are the same
+-- records that grew, and aren't more, are the same
 grew_none : (old new more : List Record) → new ≡ old ++ more → length new ≤ length old → new ≡ old
 grew_none old new more is few =
     let a = ap length is in
@@ -153,23 +157,27 @@ grew_none old new more is few =
     let none : length more ≡ 0 = omega (arith, a, b, few) in
     is ∙ ap (λ xs. old ++ xs) (nil_from_length more none) ∙ append-nil old
 
--- a read that gave bytes settled a command, and all tries are left; or it settled none, and gave no try back
+-- from s to t a read settled a command, which added a record, and all tries are left; or it settled none, and the tries stay
 abbrev Settling : Plan → Model → Model → Type 0
 Settling plan s t = ((t.records ≢ s.records) × (t.progress.tries ≡ plan.retries)) ⊎ ((t.records ≡ s.records) × (t.progress.tries ≡ s.progress.tries))
 
--- a read is `Settling`, whatever is lost behind it, by how many commands waited before, between and behind
+-- a read does what `Settling` says, whatever is lost at its end. `old` commands waited before it, and `mid` after its lines
+-- were heard, before anything was lost
 settling_by : (plan : Plan) (s t : Model) (mid old : ℕ) → Grew s.records t.records → length t.records + commands_in t.marks ≡ length s.records + old → (commands_in t.marks ≡ mid) ⊎ (old ≡ 0)
     → ((mid < old) × (t.progress.tries ≡ plan.retries)) ⊎ ((old ≤ mid) × (t.progress.tries ≡ s.progress.tries)) → Settling plan s t
 settling_by plan s t mid old grew same kept (inl fewer) = inl (λ e. by_kept kept (ap length e), fewer.1) where
+  -- the records became more, as fewer commands wait; or no command waited before, and none can be fewer
   by_kept : ((commands_in t.marks ≡ mid) ⊎ (old ≡ 0)) → length t.records ≡ length s.records → ⊥
   by_kept (inl stay) e = let few = fewer.0 in omega (arith, stay, e, few, same)
   by_kept (inr none) e = let few = fewer.0 in omega (arith, none, few)
 settling_by plan s t mid old grew same kept (inr more) = inr (grew_none s.records t.records grew.0 grew.1 (by_kept kept), more.1) where
+  -- the records didn't become more
   by_kept : ((commands_in t.marks ≡ mid) ⊎ (old ≡ 0)) → length t.records ≤ length s.records
   by_kept (inl stay) = let least = more.0 in omega (arith, stay, least, same)
   by_kept (inr none) = omega (arith, none, same)
 
--- behind an act, if the run isn't over: as many commands wait whether what waits is lost or not; or none waited before it
+-- after a read that doesn't end the run, a loss takes no command away: as many commands wait as before the loss, or none waited
+-- before the read
 kept_marks : (plan : Plan) (commands : List Task) (s t : Model) (b : Bool) → loses_all t.progress ≡ b → is_over t.progress ≡ false
     → (has_begun t.progress ≡ false → has_begun s.progress ≡ false) → Invariant plan commands s
     → (commands_in (losing b t).marks ≡ commands_in t.marks) ⊎ (commands_in s.marks ≡ 0)
@@ -178,11 +186,12 @@ kept_marks plan commands s t true e goes begins fine =
     let new = fine.begins (begins (negated (has_begun t.progress) (either_true (not (has_begun t.progress)) (is_over t.progress) e goes))) in
     let none : length s.marks ≡ 0 = fine.paired ∙ ap (λ (c : ById). length c.waiting) new in
     inr (ap commands_in (nil_from_length s.marks none)) where
+      -- if the negation of a test holds, the test doesn't
       negated : (b : Bool) → not b ≡ true → b ≡ false
       negated true e = cc
       negated false e = refl
 
--- a read that gave bytes is `Settling`
+-- a read that gave bytes does what `Settling` says
 gave_settles : (plan : Plan) (commands : List Task) (s t u : Model) → Invariant plan commands s → Invariant plan commands u → Hears plan s t → Grew s.records u.records → u.progress ≡ t.progress
     → (commands_in u.marks ≡ commands_in t.marks) ⊎ (commands_in s.marks ≡ 0) → Settling plan s u
 gave_settles plan commands s t u fine fine' h grew same kept =
@@ -193,29 +202,33 @@ gave_settles plan commands s t u fine fine' h grew same kept =
 
 -- So the tries are counted along a run.
 
--- the connections that ended among acts and one more are those among the acts, and that of the one, if it ends one
+-- the connections that ended, or couldn't be made, among acts and one more are those among the acts, and the one of the last act,
+-- if it has one
 ends_more : (xs : List Act) (act : Act) → ends_in (xs ++ act ∷ []) ≡ ends_in xs + ends_in (act ∷ [])
 ends_more [] act = omega arith
 ends_more (Closed ∷ xs) act = let e = ends_more xs act in omega (arith, e)
 ends_more (Unopened ∷ xs) act = let e = ends_more xs act in omega (arith, e)
 ends_more (x ∷ xs) act = ends_more xs act
 
--- the connections that were asked for among acts and one more are those among the acts, and that of the one, if it asks for one
+-- the connections that were asked for among acts and one more are those among the acts, and the one of the last act, if it asks
+-- for one
 opens_more : (xs : List Act) (act : Act) → opens_in (xs ++ act ∷ []) ≡ opens_in xs + opens_in (act ∷ [])
 opens_more [] act = omega arith
 opens_more (Opened ∷ xs) act = let e = opens_more xs act in omega (arith, e)
 opens_more (Unopened ∷ xs) act = let e = opens_more xs act in omega (arith, e)
 opens_more (x ∷ xs) act = opens_more xs act
 
--- where no read among acts settled a command, and one act more settles none, no read among all of them did
+-- where no read among acts settled a command, and one act more settles none, none among all of them did
 none_more : (plan : Plan) (commands : List Task) (s : Model) (xs : List Act) (act : Act) → NoneSettled plan commands s xs
     → SettlesNone (after_all plan commands s xs) act (after plan commands (after_all plan commands s xs) act)
     → NoneSettled plan commands s (xs ++ act ∷ [])
 none_more plan commands s [] act none here = (here, tt)
 none_more plan commands s (x ∷ xs) act none here = (none.0, none_more plan commands (after plan commands s x) xs act none.1 here)
 
--- how many tries are left: since the last read that settled a command, or from the start, each connection that ended or couldn't be
--- made has taken one at most
+-- how many tries are left after these acts: since the last read that settled a command (after `before`), or from the start,
+-- each connection that ended or couldn't be made has taken at most one. `held` is 1 if there was a connection at that read,
+-- else 0; `held` and the connections asked for since are as many as those that ended or couldn't be made since, and 1 more if
+-- there is a connection now (`up`)
 record Trying (plan : Plan) (commands : List Task) (scope : Scope) (tries : ℕ) (up : Bool) (acts : List Act) : Type 0 where
   before : List Act
   behind : List Act
@@ -254,7 +267,7 @@ trying_on plan commands scope tries tries' up up' acts act took counted settles 
       opens = level;
     }
 
--- `Trying` begins anew with a read that settled a command
+-- `Trying` begins anew with a read that settled a command, which gives all tries back
 trying_anew : (plan : Plan) (commands : List Task) (scope : Scope) (tries : ℕ) (up : Bool) (acts : List Act) (bytes : List ℕ) (m : Moment) → tries ≡ plan.retries
     → (stood plan commands scope (acts ++ Gave bytes m ∷ [])).records ≢ (stood plan commands scope acts).records → Trying plan commands scope tries up (acts ++ Gave bytes m ∷ [])
 trying_anew plan commands scope tries up acts bytes m all settled = record {
@@ -269,18 +282,21 @@ trying_anew plan commands scope tries up acts bytes m all settled = record {
   first = λ e. absurd (some acts e);
   opens = refl;
 } where
+  -- there is at most one connection
   one : (b : Bool) → up_count b ≤ 1
   one true = omega arith
   one false = omega arith
 
+  -- these acts aren't none
   some : (xs : List Act) → xs ++ Gave bytes m ∷ [] ≡ [] → ⊥
   some [] e = cc
   some (x ∷ xs) e = cc
 
--- if the run isn't over, `Trying` holds of the model's tries
+-- if the run isn't over, `Trying` holds of the model's tries and its connection
 abbrev Try : Plan → List Task → Scope → List Act → Model → Type 0
 Try plan commands scope acts s = is_over s.progress ≡ false → Trying plan commands scope s.progress.tries (is_up s.progress.phase) acts
 
+-- what doesn't hold is false
 goes_on : (b : Bool) → (b ≡ true → ⊥) → b ≡ false
 goes_on true never = absurd (never refl)
 goes_on false never = refl
@@ -293,16 +309,18 @@ after_grew plan commands s act =
     let b = losing_records (loses_all t.progress) t in
     (a.0 ++ b.0, b.1 ∙ ap (λ xs. xs ++ b.0) a.1 ∙ append_assoc s.records a.0 b.0)
 
--- `Try` lasts over one act more
+-- `Trying` lasts over one act, from the model s to u; t is the model before what waits is lost
 try_step : (plan : Plan) (commands : List Task) (scope : Scope) (acts : List Act) (act : Act) (s u : Model) (t : Model) → stood plan commands scope acts ≡ s
     → stood plan commands scope (acts ++ act ∷ []) ≡ u → u ≡ after plan commands s act
     → u.progress ≡ t.progress → Took plan s act t → Counted (is_up s.progress.phase) act (is_up t.progress.phase)
     → (((bytes : List ℕ) × (m : Moment) × (act ≡ Gave bytes m)) → Hears plan s t → Settling plan s u)
     → Trying plan commands scope s.progress.tries (is_up s.progress.phase) acts → Trying plan commands scope u.progress.tries (is_up u.progress.phase) (acts ++ act ∷ [])
 try_step plan commands scope acts (Gave bytes m) s u t before behind does same took counted settling trying = by_settling (settling (bytes, m, refl) took) where
+  -- the loss of what waits changes nothing of the connection
   up_same : Counted (is_up s.progress.phase) (Gave bytes m) (is_up u.progress.phase)
   up_same = subst (λ (p : Progress). Counted (is_up s.progress.phase) (Gave bytes m) (is_up p.phase)) (sym same) counted
 
+  -- the lemma above, by whether the read settled a command
   by_settling : Settling plan s u → Trying plan commands scope u.progress.tries (is_up u.progress.phase) (acts ++ Gave bytes m ∷ [])
   by_settling (inl some) = trying_anew plan commands scope u.progress.tries (is_up u.progress.phase) acts bytes m some.1
       (λ e. some.0 (sym (ap (λ (x : Model). x.records) behind) ∙ e ∙ ap (λ (x : Model). x.records) before))
@@ -316,7 +334,7 @@ try_step plan commands scope acts act s u t before behind does same took counted
     (subst (λ (p : Progress). s.progress.tries ≤ p.tries + ends_in (act ∷ [])) (sym same) took)
     (subst (λ (p : Progress). Counted (is_up s.progress.phase) act (is_up p.phase)) (sym same) counted) tt trying
 
--- the model behind acts and one more is the one behind that act, from the model behind the acts on
+-- the model after one act more is the one after that act
 behind_one : (plan : Plan) (commands : List Task) (scope : Scope) (done : List Act) (act : Act)
     → stood plan commands scope (done ++ act ∷ []) ≡ after plan commands (stood plan commands scope done) act
 behind_one plan commands scope done act = after_all-append plan commands (opening plan scope) done (act ∷ [])
@@ -340,7 +358,7 @@ try_after plan commands scope done act o trying not_over =
     (kept_marks plan commands s t (loses_all t.progress) refl not_over_mid h.begins fine))
     (trying goes)
 
--- `Try` holds behind every run
+-- `Try` holds after every run
 try_stood : (plan : Plan) (commands : List Task) (scope : Scope) (acts : List Act) → Runs plan commands (opening plan scope) acts → Try plan commands scope acts (stood plan commands scope acts)
 try_stood plan commands scope acts runs =
     always plan commands (opening plan scope) (Try plan commands scope) (λ done act runs' o. try_after plan commands scope done act o)
@@ -367,11 +385,11 @@ ending_shows cause.Clock act o shows = subst IsEnding shows o
 ending_shows (cause.Write requests bytes) act o shows = subst IsEnding shows.1 o
 ending_shows why act o shows = shows
 
--- a cause that takes tries isn't being done
+-- a cause for which a run stops only without a try left (`IsTried`) isn't `Done`
 not_done : (p : Progress) (n : ℕ) (why : Cause) → IsTried why → EndsDone p n why → ⊥
 not_done p n why tried done = subst IsTried done.0 tried
 
--- where a run ends for a cause of `IsTried`, no try is left
+-- where a run ends for a cause that is one of `IsTried`, no try is left
 no_try : (plan : Plan) (p : Progress) (n : ℕ) (other why : Cause) → IsTried why → EndsBehind plan p n other why → p.tries ≡ 0
 no_try plan p n cause.Done why tried ends = absurd (not_done p n why tried ends)
 no_try plan p n cause.Clock why tried ends = absurd (subst IsTried ends tried)
@@ -391,7 +409,8 @@ one_end Closed o = refl
 one_end Unopened o = refl
 one_end act o = absurd o
 
--- `Trying` with no try left, and one end more, is what the law says
+-- where no try is left (`Trying`), and the last act ends one more connection, all tries are used up as the law says
+-- (`AllTried`)
 all_tried : (plan : Plan) (commands : List Task) (scope : Scope) (acts : List Act) (last : Act) → IsEnding last → Counted (is_up (stood plan commands scope acts).progress.phase) last false
     → Trying plan commands scope 0 (is_up (stood plan commands scope acts).progress.phase) acts → AllTried plan commands scope (acts ++ last ∷ [])
 all_tried plan commands scope acts last ending counted t =
@@ -416,44 +435,57 @@ all_tried plan commands scope acts last ending counted t =
       first = λ e. let start : t.held ≡ 0 = t.first e in let all : plan.retries < opens_in (t.behind ++ last ∷ []) = omega (arith, over, even, start) in all;
     }
 
--- a run that stops for a cause of `IsTried`, at an act that ends a connection, has used up its tries
+-- where a run stops for a cause that is one of `IsTried`, which needs all tries used up, at an act that ends a connection, all
+-- tries were used up
 pub stop_tried : (plan : Plan) (commands : List Task) (scope : Scope) (acts : List Act) (last : Act) (why : Cause) → Runs plan commands (opening plan scope) (acts ++ last ∷ [])
     → action_at plan (stood plan commands scope (acts ++ last ∷ [])) ≡ actions.Stop why → IsTried why → IsEnding last → AllTried plan commands scope (acts ++ last ∷ [])
 stop_tried plan commands scope acts last why runs stop tried ending = by_decided decided where
+  -- the model before the last act
   s : Model
   s = stood plan commands scope acts
 
+  -- the model after the last act, before what waits is lost
   t : Model
   t = moved plan commands (action_at plan s) (with_progress turned s) last
 
+  -- the acts before the last one are a run, and the last one performs the action that was next
   split : Runs plan commands (opening plan scope) acts × Performs commands s (action_at plan s) last
   split = runs_split plan commands (opening plan scope) acts [] last runs
 
+  -- the run is over, and not for its turns
   over : (stood plan commands scope (acts ++ last ∷ [])).progress.phase ≡ phase.Over why
   over = by_needs (needs_of plan (stood plan commands scope (acts ++ last ∷ [])) (actions.Stop why) stop).1 where
+    -- the phase says that the run is over, or all turns are used up, for which no such run stops
     by_needs : ((stood plan commands scope (acts ++ last ∷ [])).progress.phase ≡ phase.Over why) ⊎ ((why ≡ cause.Turns) × ((stood plan commands scope (acts ++ last ∷ [])).progress.turns ≡ 0))
         → (stood plan commands scope (acts ++ last ∷ [])).progress.phase ≡ phase.Over why
     by_needs (inl is) = is
     by_needs (inr turns) = absurd (subst IsTried turns.0 tried)
 
+  -- the phase after the last act says that the run is over
   there : (after plan commands s last).progress.phase ≡ phase.Over why
   there = sym (ap (λ (x : Model). x.progress.phase) (behind_one plan commands scope acts last)) ∙ over
 
+  -- the last act decided the end
   decided : Decided plan s (after plan commands s last).progress.phase why last
   decided = after_decided plan commands s last why split.1 (done_sent plan commands scope acts) (ap end_of there)
 
+  -- after the last act there is no connection
   down : is_up t.progress.phase ≡ false
   down = sym (ap (λ (p : Progress). is_up p.phase) (ended_progress t)) ∙ ap is_up there
 
+  -- before the last act the run wasn't over
   goes : is_over s.progress ≡ false
   goes = goes_on (is_over s.progress) (λ gone. over_stays plan commands s last gone split.1)
 
+  -- the connection that the last act ends, or couldn't make, is counted
   counted : Counted (is_up s.progress.phase) last false
   counted = subst (λ (b : Bool). Counted (is_up s.progress.phase) last b) down (counted_moved plan commands (action_at plan s) s last split.1 (action_for plan s.progress (waiting_of s)))
 
+  -- where no try was left before the last act, all tries are used up
   used : s.progress.tries ≡ 0 → AllTried plan commands scope (acts ++ last ∷ [])
   used none = all_tried plan commands scope acts last ending counted (subst (λ n. Trying plan commands scope n (is_up s.progress.phase) acts) none (try_stood plan commands scope acts split.0 goes))
 
+  -- the last act ended a connection or could make none, so no try was left
   by_decided : Decided plan s (after plan commands s last).progress.phase why last → AllTried plan commands scope (acts ++ last ∷ [])
   by_decided (inl failed) = absurd (ending_shows why last ending failed.1)
   by_decided (inr (down, inl (other, closes, next, ends))) = used (no_try plan s.progress (commands_in s.marks) other why tried ends)

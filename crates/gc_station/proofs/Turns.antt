@@ -1,4 +1,5 @@
--- Each act takes a turn, so a run ends.
+-- Each act takes a turn or, once none is left, closes the connection: so a run ends. An act is one call of the link, with what
+-- came of it.
 use Rattle.std.proofs.Common.{◌≡◌, ℕ, zero, suc, ◌+◌, ◌*◌, ◌-◌, ◌<◌, ◌≤◌, ◌&&◌, ◌||◌, Bool, true, false, not, List, if◌then◌else◌, nat_lt, nat_eq, refl, sym, ap, ◌∙◌, subst, arith}
 use Rattle.gc_texts.specs.declared.tasks.Task.{Task}
 use Rattle.gc_station.specs.declared.plan.Plan.{Plan}
@@ -18,7 +19,7 @@ use Rattle.gc_station.specs.Stations.{stepped}
 use Rattle.gc_station.proofs.Counts.{turns_kept, ended_progress}
 use Rattle.gc_station.proofs.Walk.{closed_along}
 
--- one for a connection that is to be closed, and none without one
+-- 1 where there is a connection, and 0 where there is none
 abbrev pub up_count : Bool → ℕ
 up_count true = 1
 up_count false = 0
@@ -27,21 +28,22 @@ up_count false = 0
 abbrev pub left_to_do : Progress → ℕ
 left_to_do p = 2 * p.turns + up_count (is_up p.phase)
 
+-- there is at most one connection
 up_least : (b : Bool) → up_count b ≤ 1
 up_least true = omega arith
 up_least false = omega arith
 
--- in the phase behind a connection that is gone there is no connection
+-- in the phase after a connection that ended or couldn't be made, there is none
 phase_down : (done some : Bool) (why : Cause) → is_up (if done then phase.Over cause.Done else if some then phase.Pausing else phase.Over why) ≡ false
 phase_down true some why = refl
 phase_down false true why = refl
 phase_down false false why = refl
 
--- in the progress behind a connection that is gone, or couldn't be made, there is no connection
+-- in the progress after a connection that ended or couldn't be made, there is none
 pub again_down : (plan : Plan) (commands : ℕ) (why : Cause) (p : Progress) → is_up (again plan commands why p).phase ≡ false
 again_down plan commands why p = phase_down (is_finished commands p) (is_spared plan why p || nat_lt 0 p.tries) why
 
--- behind a close there is no connection
+-- after a close there is no connection
 pub closed_down : (plan : Plan) (w : Waiting) (why : Cause) (p : Progress) → is_up (closed plan w why p).phase ≡ false
 closed_down plan w why p = closed_along (λ (q : Progress). is_up q.phase ≡ false) plan w why p refl (again_down plan w.commands why p)
 
@@ -51,7 +53,7 @@ up_closes : (plan : Plan) (commands : List Task) (s t : Model) (up : Bool) (act 
 up_closes plan commands s t true act obeys = (refl, refl)
 up_closes plan commands s t false act obeys = absurd obeys
 
--- once all turns are used up, an act closes the connection, where the end isn't decided yet
+-- once all turns are used up (z), an act closes the connection, where the end isn't decided yet
 on_closes : (plan : Plan) (commands : List Task) (s t : Model) (p : Progress) (z : Bool) (act : Act) (other : Action) → z ≡ true
     → Performs commands t (if z then action_up (is_up p.phase) else other) act
     → (is_up p.phase ≡ true) × (is_up (moved plan commands (if z then action_up (is_up p.phase) else other) s act).progress.phase ≡ false)
@@ -65,8 +67,8 @@ phase_closes plan commands s t p (phase.Closing cause) w act none is obeys = (re
 phase_closes plan commands s t p (phase.Over cause) w act none is obeys = absurd obeys
 phase_closes plan commands s t p phase w act none is obeys = let c = on_closes plan commands s t p (nat_eq p.turns 0) act _ none obeys in (ap is_up (sym is) ∙ c.0, c.1)
 
--- less is left to be done with one turn fewer (t', of t) or, where no turn is left, without the connection that there was (u: there was one,
--- u': there is one)
+-- less is left to be done with one turn fewer (t', of t) or, where no turn was left, without the connection that there was (u
+-- before, u' after)
 less : (t t' : ℕ) (u u' : Bool) → t' ≡ t - 1 → (nat_eq t 0 ≡ true → (u ≡ true) × (u' ≡ false)) → 2 * t' + up_count u' < 2 * t + up_count u
 less zero t' u u' e closes =
     let c = closes refl in
@@ -99,15 +101,18 @@ module _ (plan : Plan) (commands : List Task) where
   -- no act is performed where the run is over
   pub over_stays : (s : Model) (act : Act) → is_over s.progress ≡ true → Performs commands s (action_at plan s) act → ⊥
   over_stays s act over obeys = by_phase s.progress.phase refl over where
+    -- without a connection and a turn, the next action is to stop
     none_left : (up zero_left : Bool) → is_up s.progress.phase ≡ up → nat_eq s.progress.turns 0 ≡ zero_left → (not up && zero_left) ≡ true
         → action_on plan s.progress (waiting_of s) ≡ actions.Stop cause.Turns
     none_left true z e f both = cc
     none_left false false e f both = cc
     none_left false true e f both = rw (f, e) refl
 
+    -- without a connection and a turn no act is made, where the phase hasn't decided the end
     stops : action_at plan s ≡ action_on plan s.progress (waiting_of s) → (not (is_up s.progress.phase) && nat_eq s.progress.turns 0) ≡ true → ⊥
     stops e both = subst (λ (o : Action). Performs commands s o act) (e ∙ none_left (is_up s.progress.phase) (nat_eq s.progress.turns 0) refl refl both) obeys
 
+    -- no act is made where the run is over, in each phase
     by_phase : (at : Phase) → s.progress.phase ≡ at → (is_over_in s.progress.phase || (not (is_up s.progress.phase) && nat_eq s.progress.turns 0)) ≡ true → ⊥
     by_phase (phase.Closing why) is o = let never : false ≡ true = sym (ap (λ at. is_over_in at || (not (is_up at) && nat_eq s.progress.turns 0)) is) ∙ o in cc
     by_phase (phase.Over why) is o = over_stops s act obeys why is

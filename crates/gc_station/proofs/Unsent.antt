@@ -1,4 +1,6 @@
--- What isn't sent is missed or skipped for its cause.
+-- Each record of a missed or a skipped command is of one that was missed or skipped for its cause, where cycles have due
+-- moments and the clock doesn't go back. An act is one call of the link, with what came of it. A piece is the bytes that one
+-- read gave.
 use Rattle.std.proofs.Common.{◌≡◌, ◌⊎◌, inl, inr, ℕ, ◌<◌, Bool, true, false, List, [], ◌∷◌, ◌++◌, drop, Option, Some, None, if◌then◌else◌, refl, sym, ap, ◌∙◌, subst, arith, append_assoc}
 use Rattle.std.specs.List.{AllByRecursion}
 use Rattle.gc_lines.specs.Frames.{rest_behind}
@@ -33,13 +35,14 @@ use Rattle.gc_station.proofs.Ticking.{le_of, picks, picks_other, clash, rises_fr
 use Rattle.gc_station.proofs.Cycles.{Begun, late_more, kept_stood, last_began}
 
 module _ (plan : Plan) (commands : List Task) (scope : Scope) (some : 0 < plan.every) where
-  -- the record's command was missed or skipped for its cause, by these acts, if the record says so
+  -- the record is justified by these acts: if it says that its command was missed or skipped, that was for its cause
   abbrev Truly : List Act → Record → Type 0
   Truly acts r = IsTrulyUnsent plan commands scope acts r
 
-  -- a record that is `Truly` so by these acts is, whatever acts come behind
+  -- a record that is justified by these acts is justified by these and more
   truly_more : (acts more : List Act) (r : Record) → Truly acts r → Truly (acts ++ more) r
   truly_more acts more r h = (missed_more, skipped_more) where
+    -- the record of a missed command is justified by these acts and more
     missed_more : r.end ≡ Missed → IsMissedIn plan commands scope (acts ++ more) r
     missed_more e =
         let x = h.0 e in
@@ -55,6 +58,7 @@ module _ (plan : Plan) (commands : List Task) (scope : Scope) (some : 0 < plan.e
           due = x.due;
         }
 
+    -- the record of a skipped command is justified by these acts and more
     skipped_more : r.end ≡ Skipped → IsSkippedIn plan commands scope (acts ++ more) r
     skipped_more e =
         let x = h.1 e in
@@ -75,7 +79,7 @@ module _ (plan : Plan) (commands : List Task) (scope : Scope) (some : 0 < plan.e
           utc = x.utc;
         }
 
-  -- a record of a command that went out says nothing of being missed or skipped
+  -- the record of a command that went out says nothing of being missed or skipped, so it is justified (`Truly`)
   sent_truly : (acts : List Act) (r : Record) → went_out r.end ≡ true → Truly acts r
   sent_truly acts r out = (λ e. absurd (clash (went_out r.end) out (ap went_out e)), λ e. absurd (clash (went_out r.end) out (ap went_out e)))
 
@@ -85,7 +89,7 @@ module _ (plan : Plan) (commands : List Task) (scope : Scope) (some : 0 < plan.e
   settled_truly acts reads utc [] settlements = tt
   settled_truly acts reads utc (mark ∷ marks) [] = tt
   settled_truly acts reads utc (None ∷ marks) (x ∷ others) = settled_truly acts reads utc marks others
-  settled_truly acts reads utc (Some mark ∷ marks) (x ∷ others) = (sent_truly acts _ (ended_sent reads mark.near x.call x.outcome), settled_truly acts reads utc marks others)
+  settled_truly acts reads utc (Some mark ∷ marks) (x ∷ others) = (sent_truly acts _ (ended_sent reads mark.expected x.call x.outcome), settled_truly acts reads utc marks others)
 
   -- lines add records that say nothing of being missed or skipped
   lines_truly : (acts : List Act) (s : Model) (lines : List (List ℕ)) → AllByRecursion (Truly acts) s.records → AllByRecursion (Truly acts) (lines_came s lines).records
@@ -99,7 +103,7 @@ module _ (plan : Plan) (commands : List Task) (scope : Scope) (some : 0 < plan.e
   came_truly acts true [] piece s h = lines_truly acts (with_rest (rest_behind s.rest piece) s) (lines_behind s.rest piece) h
   came_truly acts false word piece s h = h
 
-  -- a loss adds records that say nothing of being missed or skipped
+  -- the loss of what waits adds records that say nothing of being missed or skipped
   losing_truly : (acts : List Act) (b : Bool) (s : Model) → AllByRecursion (Truly acts) s.records → AllByRecursion (Truly acts) (losing b s).records
   losing_truly acts true s h = all_append (Truly acts) s.records _ h (settled_truly acts s.reads s.progress.moment.utc s.marks (restarts s.client).settlements)
   losing_truly acts false s h = h
@@ -137,9 +141,11 @@ module _ (plan : Plan) (commands : List Task) (scope : Scope) (some : 0 < plan.e
       → r.sent ≡ None → r.utc ≡ skipped_at m (stood plan commands scope acts).progress
       → (stood plan commands scope acts).progress.missed ≡ false → IsSkippedIn plan commands scope (acts ++ Told m ∷ []) r
   skip_skipped acts m r begun is cycle place sent utc free = by_begun begun where
+    -- the model before the act
     s : Model
     s = stood plan commands scope acts
 
+    -- a cycle has begun, as a command is unsent
     by_begun : (Begun plan commands scope some) acts (stood plan commands scope acts).progress → IsSkippedIn plan commands scope (acts ++ Told m ∷ []) r
     by_begun (inl none) = let here = (needs_of plan s actions.Skip is).2 in let nothing = none.1 in absurd (omega (arith, nothing, here))
     by_begun (inr c) =
@@ -163,7 +169,7 @@ module _ (plan : Plan) (commands : List Task) (scope : Scope) (some : 0 < plan.e
           utc = utc ∙ picks_other (stood plan commands scope acts).progress.missed (stood plan commands scope acts).progress.due m.utc free;
         }
 
-  -- the record of a command that is passed over is true
+  -- the record of a command that is passed over is justified
   skips_truly : (acts : List Act) (m : Moment) (left : List Task) → (Begun plan commands scope some) acts (stood plan commands scope acts).progress
       → action_at plan (stood plan commands scope acts) ≡ actions.Skip
       → AllByRecursion (Truly (acts ++ Told m ∷ [])) (skips_first (turned (stood plan commands scope acts).progress) m
@@ -175,7 +181,7 @@ module _ (plan : Plan) (commands : List Task) (scope : Scope) (some : 0 < plan.e
       let ends = unsent_end p.missed in
       ((λ e. skip_missed acts m p _ begun here refl refl refl (ends.0 e), λ e. skip_skipped acts m _ begun is refl refl refl refl (ends.1 e)), tt)
 
-  -- what an act writes down, before what is lost by it, is true
+  -- the records after an act, before what waits is lost, are justified
   moved_truly : (acts : List Act) (next : Action) (act : Act) → (Begun plan commands scope some) acts (stood plan commands scope acts).progress → action_at plan (stood plan commands scope acts) ≡ next
       → AllByRecursion (Truly (acts ++ act ∷ [])) (stood plan commands scope acts).records
       → AllByRecursion (Truly (acts ++ act ∷ [])) (moved plan commands next (with_progress turned (stood plan commands scope acts)) act).records
@@ -191,7 +197,7 @@ module _ (plan : Plan) (commands : List Task) (scope : Scope) (some : 0 < plan.e
       let t = with_progress turned (stood plan commands scope acts) in
       subst (λ (x : Model). AllByRecursion (Truly (acts ++ act ∷ [])) x.records) (sym (moved_changed plan commands next t act)) all
 
-  -- where the clock doesn't go back in these acts, each record behind them is true
+  -- where the clock doesn't go back in these acts, each record after them is justified
   abbrev Written : List Act → Type 0
   Written acts = Rises 0 acts → AllByRecursion (Truly acts) (stood plan commands scope acts).records
 
@@ -207,9 +213,10 @@ module _ (plan : Plan) (commands : List Task) (scope : Scope) (some : 0 < plan.e
       subst (λ (x : Model). AllByRecursion (Truly (done ++ act ∷ [])) x.records) (sym (after_all-append plan commands (opening plan scope) done (act ∷ [])))
       (losing_truly (done ++ act ∷ []) (loses_all t.progress) t (moved_truly done (action_at plan s) act begun refl old))
 
-  -- `Written` holds behind every run
+  -- `Written` holds after every run
   written_stood : (acts : List Act) → Runs plan commands (opening plan scope) acts → Written acts
   written_stood acts runs = always plan commands (opening plan scope) (λ (xs : List Act) (t : Model). Written xs) written_step (λ rises. tt) acts runs
 
+-- the law: each record of a missed or a skipped command is justified
 pub unsent_for_a_cause : UnsentForACause
 unsent_for_a_cause plan commands scope acts some runs rises = written_stood plan commands scope some acts runs rises

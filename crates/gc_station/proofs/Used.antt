@@ -1,4 +1,5 @@
--- A connection is closed, and a run stops, for its turns only behind as many acts.
+-- A connection is closed, and a run stops, because its turns are used up only after as many acts as it had turns. An act is one
+-- call of the link, with what came of it.
 use Rattle.std.proofs.Common.{◌≡◌, ℕ, ◌-◌, ◌≤◌, ◌⊎◌, inl, inr, List, [], ◌∷◌, ◌++◌, length, refl, sym, ap, ◌∙◌, subst, arith}
 use Rattle.std.proofs.lemmas.List.{length-append}
 use Rattle.gc_texts.specs.declared.tasks.Task.{Task}
@@ -31,7 +32,7 @@ used_up : (plan : Plan) (commands : List Task) (scope : Scope) (acts : List Act)
 used_up plan commands scope acts none = let left : (stood plan commands scope acts).progress.turns ≡ scope.turns - length acts =
     turns_behind plan commands (opening plan scope) acts in omega (arith, none, left)
 
--- a connection is closed for its turns only behind as many acts
+-- a connection is closed for its turns only after as many acts as the run had turns
 close_used : (plan : Plan) (commands : List Task) (scope : Scope) (acts : List Act) → Runs plan commands (opening plan scope) acts
     → action_at plan (stood plan commands scope acts) ≡ actions.Close cause.Turns → scope.turns ≤ length acts
 close_used plan commands scope acts runs is =
@@ -45,10 +46,11 @@ turns_only plan p n cause.Turns ends = refl
 turns_only plan p n other (inl done) = let is = done.0 in cc
 turns_only plan p n other (inr used) = sym used.0
 
--- a run stops for its turns only behind as many acts
+-- a run stops for its turns only after as many acts as it had turns
 stop_used : (plan : Plan) (commands : List Task) (scope : Scope) (acts : List Act) → Runs plan commands (opening plan scope) acts
     → action_at plan (stood plan commands scope acts) ≡ actions.Stop cause.Turns → scope.turns ≤ length acts
 stop_used plan commands scope acts runs is = by_shown (stopped_for plan commands scope acts cause.Turns runs is).shown where
+  -- where the last act closed a connection for the turns, as many acts were made before it
   before : (earlier : List Act) (last : Act) → acts ≡ earlier ++ last ∷ [] → action_at plan (stood plan commands scope earlier) ≡ actions.Close cause.Turns → scope.turns ≤ length acts
   before earlier last action closes =
       let front = (runs_split plan commands (opening plan scope) earlier [] last (subst (λ (xs : List Act). Runs plan commands (opening plan scope) xs) action runs)).0 in
@@ -57,6 +59,7 @@ stop_used plan commands scope acts runs is = by_shown (stopped_for plan commands
       let more = length-append earlier (last ∷ []) in
       omega (arith, fewer, long, more)
 
+  -- the last act ended the run: it closed a connection for the turns, as no failed call and no failed attempt ends a run for them
   by_end : (earlier : List Act) (last : Act) → acts ≡ earlier ++ last ∷ [] → Ends plan (stood plan commands scope earlier) cause.Turns last → scope.turns ≤ length acts
   by_end earlier last action (inl failed) = absurd failed.1
   by_end earlier last action (inr (inl (other, closed, next, ends))) =
@@ -66,13 +69,14 @@ stop_used plan commands scope acts runs is = by_shown (stopped_for plan commands
       let s = stood plan commands scope earlier in
       let both = turns_only plan s.progress (waiting_of s).commands cause.Open ends in cc
 
+  -- the run stops because no turn is left, or because of what the last act shows
   by_shown : ((cause.Turns ≡ cause.Turns) × ((stood plan commands scope acts).progress.turns ≡ 0))
       ⊎ ((earlier : List Act) × (last : Act) × (acts ≡ earlier ++ last ∷ []) × Ends plan (stood plan commands scope earlier) cause.Turns last)
       → scope.turns ≤ length acts
   by_shown (inl none) = used_up plan commands scope acts none.1
   by_shown (inr (earlier, last, action, ends)) = by_end earlier last action ends
 
--- a connection is closed, or a run stops, for its turns only behind as many acts
+-- the law: a connection is closed, or a run stops, for its turns only after as many acts as the run had turns
 pub turns_used : (plan : Plan) (commands : List Task) (scope : Scope) (acts : List Act) → Runs plan commands (opening plan scope) acts
     → (action_at plan (stood plan commands scope acts) ≡ actions.Close cause.Turns) ⊎ (action_at plan (stood plan commands scope acts) ≡ actions.Stop cause.Turns) → scope.turns ≤ length acts
 turns_used plan commands scope acts runs (inl is) = close_used plan commands scope acts runs is

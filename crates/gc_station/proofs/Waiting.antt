@@ -1,4 +1,6 @@
--- The requests that wait: each was put among the acts, in order; since then its deadline wasn't told, or it is given up and it was.
+-- The requests that wait: each was put among the acts, in order; and since then no moment at or past its deadline was told, or
+-- one was and the request is given up. What every run keeps of this, and of the truth of its records, is `Honest`. An act is
+-- one call of the link, with what came of it.
 use Rattle.std.proofs.Common.{◌≡◌, ◌⊎◌, inl, inr, ℕ, ◌+◌, ◌<◌, ◌≤◌, ◌||◌, Bool, true, false, List, [], ◌∷◌, ◌++◌, length, map, Option, Some, nat_le, refl, sym, ap, ◌∙◌, subst, arith, append_assoc, length-append}
 use Rattle.std.specs.List.{AllByRecursion}
 use Rattle.std.proofs.lemmas.Bool.Decides.{nat_tests}
@@ -22,14 +24,15 @@ use Rattle.gc_station.specs.Model.{Model, action_at, cycles_begun, place_next, r
 use Rattle.gc_station.proofs.Lists.{all_append, all_on, Rows, rows_same, rows_map}
 use Rattle.gc_station.specs.Scopes.{Scope}
 
--- behind these acts, the command with this mark goes out
+-- after these acts, the command with this mark goes out
 pub record Marked (plan : Plan) (commands : List Task) (scope : Scope) (acts : List Act) (mark : Mark) : Type 0 where
   pub sends : action_at plan (stood plan commands scope acts) ≡ actions.Send
   pub cycle : mark.cycle ≡ cycles_begun plan (stood plan commands scope acts).progress
   pub place : mark.place ≡ place_next commands (stood plan commands scope acts).progress
   pub sent : mark.sent ≡ (stood plan commands scope acts).progress.moment.utc
 
--- the request with this place and id was put among these acts, as number `number`; and `Stays` holds of the acts behind it
+-- the request p that waits at the place `at`, with this id and mark, was put among these acts; `number` acts came before it, and
+-- `Stays` holds of the acts after it, by whether p is given up and its deadline
 pub record Asked (plan : Plan) (commands : List Task) (scope : Scope) (acts : List Act) (Stays : Bool → ℕ → List Act → Type 0) (number at with_id : ℕ) (p : Pending) (mark : Option Mark) : Type 0 where
   pub before : List Act
   pub request : Act
@@ -43,32 +46,35 @@ pub record Asked (plan : Plan) (commands : List Task) (scope : Scope) (acts : Li
   pub deadline : (m : Mark) → mark ≡ Some m → p.deadline ≡ deadline_behind plan commands scope before
   pub stays : Stays p.given_up p.deadline between
 
--- no moment at or past the deadline was told in these acts; or one was, and the request is given up
+-- of a request that is given up (`true`), a moment at or past its deadline was told in these acts; of one that isn't, none was
 abbrev pub Stayed : Bool → ℕ → List Act → Type 0
 Stayed true deadline acts = TellsPast deadline acts
 Stayed false deadline acts = AllByRecursion (IsBefore deadline) acts
 
--- what `Stayed` says of a request that is given up or not at this moment, which isn't among the acts yet
+-- as `Stayed`, where besides the acts the moment `now` was told, which isn't among them yet
 abbrev pub StayedAt : ℕ → Bool → ℕ → List Act → Type 0
 StayedAt now true deadline acts = TellsPast deadline acts ⊎ (deadline ≤ now)
 StayedAt now false deadline acts = AllByRecursion (IsBefore deadline) acts × (now < deadline)
 
--- a request that waits at this place, with the id of the place, was put among these acts, and `Stayed` since
+-- a request that waits at the place `at` was put among these acts, with the id of that place, and `Stayed` holds of it since. The
+-- client's next id is `next`, and `count` requests wait
 abbrev pub Waits : Plan → List Task → Scope → List Act → (next count : ℕ) → (number at : ℕ) → Pending → Option Mark → Type 0
 Waits plan commands scope acts next count number at p mark = Asked plan commands scope acts Stayed number at (id_at next count at) p mark
 
--- what `Waits` says at this moment, which isn't among the acts yet, of a client that came of `first` by it
+-- as `Waits`, at the moment `now`, which isn't among the acts yet; and a request with that id waited at the client as it was
+-- after the acts
 abbrev pub WaitsAt : Plan → List Task → Scope → List Act → ById → ℕ → (next count : ℕ) → (number at : ℕ) → Pending → Option Mark → Type 0
 WaitsAt plan commands scope acts client now next count number at p mark =
     Asked plan commands scope acts (StayedAt now) number at (id_at next count at) p mark × Ids.Waits client (id_at next count at)
 
--- a record is true: if it is an answer, late or lost, the law on that says how
+-- a record is true: if it is of a reply in time, late or lost, it came about as the law on such records says
 pub record IsTrue (plan : Plan) (commands : List Task) (scope : Scope) (acts : List Act) (r : Record) : Type 0 where
   pub answered : IsTrueRecord plan commands scope acts r
   pub late : IsTrulyLate plan commands scope acts r
   pub lost : IsTrulyLost plan commands scope acts r
 
--- what every run keeps: the requests that wait were put among the acts, in order, and the records are true by all acts
+-- what every run keeps: the requests that wait at the client c, with these marks, were put among the acts, in order (`Waits`);
+-- and the records are true by `all` acts
 pub record Honest (plan : Plan) (commands : List Task) (scope : Scope) (acts all : List Act) (c : ById) (marks : List (Option Mark)) (records : List Record) : Type 0 where
   pub waiting : Rows (Waits plan commands scope acts c.next (length c.waiting)) 0 0 c.waiting marks
   pub written : AllByRecursion (IsTrue plan commands scope all) records
@@ -77,7 +83,8 @@ pub record Honest (plan : Plan) (commands : List Task) (scope : Scope) (acts all
 abbrev pub IsHonest : Plan → List Task → Scope → List Act → List Act → Model → Type 0
 IsHonest plan commands scope acts all s = Honest plan commands scope acts all s.client s.marks s.records
 
--- a request that was put among acts was put among these and one more
+-- a request that was put among acts was put among them and one more. S is what holds of the acts since, and gives T of those
+-- and the one more
 pub asked_more : (plan : Plan) (commands : List Task) (scope : Scope) (acts : List Act) (act : Act) (S T : Bool → ℕ → List Act → Type 0) (number at id : ℕ) (p : Pending) (mark : Option Mark)
     → ((b : Bool) (d : ℕ) (xs : List Act) → S b d xs → T b d (xs ++ act ∷ []))
     → Asked plan commands scope acts S number at id p mark → Asked plan commands scope (acts ++ act ∷ []) T number at id p mark
@@ -95,7 +102,8 @@ asked_more plan commands scope acts act S T number at id p mark step s = record 
   stays = step p.given_up p.deadline s.between s.stays;
 }
 
--- a request that was `Asked` at one place is so at another place, with an equal id
+-- a request that was `Asked` at the place `at` with an id was so at any place at' with an equal id, if `at` is above 0 wherever
+-- at' is (0 is the place of the oldest)
 pub asked_as : (plan : Plan) (commands : List Task) (scope : Scope) (acts : List Act) (S : Bool → ℕ → List Act → Type 0) (number at at' id id' : ℕ)
     (p : Pending) (mark : Option Mark) → (0 < at' → 0 < at) → id' ≡ id
     → Asked plan commands scope acts S number at id p mark → Asked plan commands scope acts S number at' id' p mark
@@ -121,24 +129,27 @@ asked_among plan commands scope acts S number at id p mark s =
     let many = s.many in
     omega (arith, whole, many)
 
--- a moment that was told among acts was told among more
+-- a moment at or past d that was told among acts was told among them and more
 pub past_more : (d : ℕ) (xs ys : List Act) → TellsPast d xs → TellsPast d (xs ++ ys)
 past_more d xs ys t = record { earlier = t.earlier; telling = t.telling; later = t.later ++ ys; at = ap (λ zs. zs ++ ys) t.at ∙ append_assoc t.earlier (t.telling ∷ t.later) ys; past = t.past }
 
--- a moment that the last act tells was told
+-- a moment at or past d that the last act tells was told
 pub past_here : (d : ℕ) (xs : List Act) (act : Act) → IsPast d act → TellsPast d (xs ++ act ∷ [])
 past_here d xs act on = record { earlier = xs; telling = act; later = []; at = refl; past = on }
 
--- a record that is true by the acts so far is true by one more: a lost one isn't the last act's then, because no act follows that
+-- a record that is true by the acts so far is true by one act more: one that is lost because the run stopped would be the last
+-- act's, after which no act is made
 true_more : (plan : Plan) (commands : List Task) (scope : Scope) (acts : List Act) (act : Act) (r : Record)
     → Performs commands (stood plan commands scope acts) (action_at plan (stood plan commands scope acts)) act
     → IsTrue plan commands scope acts r → IsTrue plan commands scope (acts ++ act ∷ []) r
 true_more plan commands scope acts act r obeys is = record { answered = answered_more; late = late_more; lost = lost_more } where
+  -- with one act more at their end, the acts are cut at the same places
   longer : (before : List Act) (request : Act) (between : List Act) (then : Act) (behind : List Act) → acts ≡ before ++ request ∷ (between ++ then ∷ behind)
       → acts ++ act ∷ [] ≡ before ++ request ∷ (between ++ then ∷ (behind ++ act ∷ []))
   longer before request between then behind order = ap (λ xs. xs ++ act ∷ []) order ∙ append_assoc before (request ∷ (between ++ then ∷ behind)) (act ∷ [])
       ∙ ap (λ xs. before ++ request ∷ xs) (append_assoc between (then ∷ behind) (act ∷ []))
 
+  -- a record of a reply in time is true by one act more
   answered_more : IsTrueRecord plan commands scope (acts ++ act ∷ []) r
   answered_more line e =
       let a = is.answered line e in
@@ -166,6 +177,7 @@ true_more plan commands scope acts act r obeys is = record { answered = answered
         written = a.written;
       }
 
+  -- a late record is true by one act more
   late_more : IsTrulyLate plan commands scope (acts ++ act ∷ []) r
   late_more e =
       let a = is.late e in
@@ -183,6 +195,7 @@ true_more plan commands scope acts act r obeys is = record { answered = answered
         written = a.written;
       }
 
+  -- no act is made after one at which the run stopped
   not_last : (before : List Act) (request : Act) (between : List Act) (then : Act) (behind : List Act) → acts ≡ before ++ request ∷ (between ++ then ∷ behind)
       → IsLast plan commands scope (before ++ request ∷ between) then behind → ⊥
   not_last before request between then behind action last =
@@ -191,6 +204,7 @@ true_more plan commands scope acts act r obeys is = record { answered = answered
       let stopped : action_at plan (stood plan commands scope acts) ≡ actions.Stop last.why = ap (λ xs. action_at plan (stood plan commands scope xs)) whole ∙ last.stops in
       subst (λ (o : Action). Performs commands (stood plan commands scope acts) o act) stopped obeys
 
+  -- a lost record is true by one act more
   lost_more : IsTrulyLost plan commands scope (acts ++ act ∷ []) r
   lost_more e =
       let a = is.lost e in
@@ -205,6 +219,8 @@ true_more plan commands scope acts act r obeys is = record { answered = answered
         written = a.written;
         shown = on a a.shown;
       } where
+        -- why a request is lost holds with one act more: a later request's reply came, or the station began anew; it isn't that
+        -- the run stopped
         on : (a : IsLostIn plan commands scope acts r) → IsOvertaken plan commands scope a.before a.request a.between a.act
             ⊎ (BeginsAnew plan commands scope (a.before ++ a.request ∷ a.between) a.act ⊎ IsLast plan commands scope (a.before ++ a.request ∷ a.between) a.act a.behind)
             → IsOvertaken plan commands scope a.before a.request a.between a.act
@@ -238,11 +254,13 @@ still plan commands scope acts act c marks rs on h = record {
 stays_at : (now : ℕ) (b : Bool) (d : ℕ) (xs : List Act) → Stayed b d xs → StayedAt now (b || nat_le d now) d xs
 stays_at now true d xs told = inl told
 stays_at now false d xs all = by_test (nat_le d now) refl where
+  -- the lemma above, by whether the deadline has come (`true`)
   by_test : (t : Bool) → nat_le d now ≡ t → StayedAt now t d xs
   by_test true e = let past : d ≤ now = grind (arith, nat_tests, e) in inr past
   by_test false e = let low : now < d = grind (arith, nat_tests, e) in (all, low)
 
--- a request that was put among acts is one that was put, at a moment that gives it up or not
+-- a request that was put among acts, with `Stayed` since, was put with `StayedAt` since once the moment `now` has given it up
+-- or not
 pub at_moment : (plan : Plan) (commands : List Task) (scope : Scope) (acts : List Act) (now number at id : ℕ) (p : Pending) (mark : Option Mark)
     → Asked plan commands scope acts Stayed number at id p mark
     → Asked plan commands scope acts (StayedAt now) number at id (expired now p) mark
@@ -260,11 +278,11 @@ at_moment plan commands scope acts now number at id p mark s = record {
   stays = stays_at now p.given_up p.deadline s.between s.stays;
 }
 
--- the client that gave requests up at a moment
+-- the client once the requests whose deadline has come at this moment are given up
 abbrev pub at_expired : ById → ℕ → ById
 at_expired c now = record { next = c.next; waiting = map (expired now) c.waiting }
 
--- behind a moment the same requests wait, given up or not
+-- once the moment `now` has given up the requests whose deadline has come, the same requests wait, as `WaitsAt` says
 pub expired_waits : (plan : Plan) (commands : List Task) (scope : Scope) (acts : List Act) (now : ℕ) (c : ById) (marks : List (Option Mark))
     → Rows (Waits plan commands scope acts c.next (length c.waiting)) 0 0 c.waiting marks
     → Rows (WaitsAt plan commands scope acts c now c.next (length (map (expired now) c.waiting))) 0 0 (map (expired now) c.waiting) marks
@@ -273,18 +291,18 @@ expired_waits plan commands scope acts now c marks all =
     (rows_map (Waits plan commands scope acts c.next (length c.waiting)) (WaitsAt plan commands scope acts c now c.next (length c.waiting)) (expired now) 0 0 c.waiting marks
     (λ n j p mark low w. let below : j < length c.waiting = omega (arith, low) in (at_moment plan commands scope acts now n j _ p mark w, (j, below, refl))) all)
 
--- behind a moment the client's window is still one
+-- after a moment the client's window is still one
 pub expired_window : (c : ById) (now : ℕ) → IsWindow c → IsWindow (at_expired c now)
 expired_window c now w = record { digit = w.digit; few = let n : length (map (expired now) c.waiting) ≡ length c.waiting = length-map c.waiting (expired now) in omega (arith, n, w.few) }
 
--- behind an act that tells the moment, `StayedAt` is `Stayed`
+-- once the act that tells the moment `now` is among the acts, `StayedAt` becomes `Stayed`
 stays_behind : (act : Act) (now : ℕ) → ((d : ℕ) → now < d → IsBefore d act) → ((d : ℕ) → d ≤ now → IsPast d act) → (b : Bool) (d : ℕ) (xs : List Act)
     → StayedAt now b d xs → Stayed b d (xs ++ act ∷ [])
 stays_behind act now on past true d xs (inl told) = past_more d xs (act ∷ []) told
 stays_behind act now on past true d xs (inr reached) = past_here d xs act (past d reached)
 stays_behind act now on past false d xs both = all_append (IsBefore d) xs (act ∷ []) both.0 (on d both.1, tt)
 
--- the requests that wait at a moment wait behind the act that tells it
+-- the requests that wait as `WaitsAt` says wait as `Waits` says after the act that tells the moment
 pub behind_moment : (plan : Plan) (commands : List Task) (scope : Scope) (acts : List Act) (act : Act) (client : ById) (now next count : ℕ) (ps : List Pending) (marks : List (Option Mark))
     → ((d : ℕ) → now < d → IsBefore d act) → ((d : ℕ) → d ≤ now → IsPast d act)
     → Rows (WaitsAt plan commands scope acts client now next count) 0 0 ps marks → Rows (Waits plan commands scope (acts ++ act ∷ []) next count) 0 0 ps marks
@@ -292,7 +310,7 @@ behind_moment plan commands scope acts act client now next count ps marks on pas
     rows_same (WaitsAt plan commands scope acts client now next count) (Waits plan commands scope (acts ++ act ∷ []) next count) 0 0 ps marks
     (λ n j p mark w. asked_more plan commands scope acts act (StayedAt now) Stayed n j _ p mark (stays_behind act now on past) w.0) all
 
--- an act that tells a moment keeps what every run keeps
+-- an act that tells a moment, and so gives requests up, keeps `Honest`
 pub moment_told : (plan : Plan) (commands : List Task) (scope : Scope) (acts : List Act) (act : Act) (now : ℕ) (c : ById) (marks : List (Option Mark))
     (rs : List Record) → ((d : ℕ) → now < d → IsBefore d act) → ((d : ℕ) → d ≤ now → IsPast d act)
     → Honest plan commands scope acts (acts ++ act ∷ []) c marks rs → Honest plan commands scope (acts ++ act ∷ []) (acts ++ act ∷ []) (at_expired c now) marks rs

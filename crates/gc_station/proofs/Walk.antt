@@ -1,5 +1,6 @@
--- One walk over the actions: which fields an act of each action changes, and what has to hold for a fact to hold behind it. A new action is a
--- row in each of these tables; a fact about all actions is an instance.
+-- One walk over the actions: which fields an act of each action changes (`changed`), and what has to hold for a fact to hold
+-- after it (`Behind`). A new action is a row in each of these tables; a fact about all actions is an instance. An act is one
+-- call of the link, with what came of it.
 use Rattle.std.proofs.Common.{◌≡◌, ℕ, Bool, true, false, List, [], ◌∷◌, drop, length, if◌then◌else◌, refl, sym, subst}
 use Rattle.gc_lines.specs.Frames.{rest_behind}
 use Rattle.gc_catalogue.specs.declared.call.Call.TheVariants.{NullProc}
@@ -34,7 +35,8 @@ pub asked_along : (P : Progress → Type 0) → ((q : Progress) (line : List ℕ
 asked_along P step p [] h = h
 asked_along P step p (line ∷ others) h = asked_along P step (line_asked p line) others (step p line h)
 
--- a fact of models that each line keeps is kept by a piece, if it is also where the piece is heard while the station begins, or dropped
+-- a fact of models that each line keeps is kept by a piece, if it is also where the piece is heard while the station begins, or
+-- dropped
 pub came_along : (P : Model → Type 0) → ((t : Model) (line : List ℕ) → P t → P (line_came t line)) → (heard : Bool) (word piece : List ℕ) (s : Model)
     → P (with_rest (rest_behind s.rest piece) s) → P (piece_asked piece s) → P s → P (came heard word piece s)
 came_along P step true [] piece s hears begins drops = lines_along P step (with_rest (rest_behind s.rest piece) s) (lines_behind s.rest piece) hears
@@ -45,6 +47,7 @@ came_along P step false word piece s hears begins drops = drops
 pub quieted_along : (P : Progress → Type 0) (plan : Plan) (at : Phase) (p : Progress) → P (pause_ended plan p) → P (drained p) → P p → P (quieted plan at p)
 quieted_along P plan Pausing p paused quiet same = paused
 quieted_along P plan Draining p paused quiet same = by_test (is_quiet plan p) where
+  -- the lemma above for a drain, whether it was long enough (`true`) or not
   by_test : (b : Bool) → P (if b then drained p else p)
   by_test true = quiet
   by_test false = same
@@ -63,27 +66,28 @@ closed_along P plan w why p ends on = on
 abbrev pub sending : Plan → List Task → Model → Model
 sending plan commands s = record s { progress = sent (is_chained_behind_next commands s.progress) s.progress; client = (asks_next plan commands s).client; marks = (asks_next plan commands s).marks }
 
+-- the model that sent the first of these commands, by its fields, is that after the send
 first_sent : (next_is_chained : Bool) (mark : Mark) (left : List Task) (s : Model)
     → record s { progress = sent next_is_chained s.progress; client = (asks_first mark left s).client; marks = (asks_first mark left s).marks }
     ≡ with_progress (sent next_is_chained) (asks_first mark left s)
 first_sent next_is_chained mark [] s = refl
 first_sent next_is_chained mark (task ∷ others) s = refl
 
--- the model that sent the next command, by its fields, is that behind the act that sends
+-- the model that sent the next command, by its fields (`sending`), is that after the act that sends
 pub is_sent : (plan : Plan) (commands : List Task) (s : Model) → sending plan commands s ≡ with_progress (sent (is_chained_behind_next commands s.progress)) (asks_next plan commands s)
 is_sent plan commands s = first_sent (is_chained_behind_next commands s.progress) (mark_next plan commands s.progress) (drop (place_next commands s.progress) commands) s
 
 -- Which fields change.
 
--- the progress with those fields of another that a moment changes
+-- the progress p with those fields of q that a moment changes
 abbrev told_of : Progress → Progress → Progress
 told_of p q = record p { phase = q.phase; moment = q.moment; since = q.since; alive = q.alive; began = q.began; stale = q.stale; early = q.early }
 
--- the progress with those fields of another that a request changes
+-- the progress p with those fields of q that a request changes
 abbrev asking_of : Progress → Progress → Progress
 asking_of p q = record p { phase = q.phase; alive = q.alive; asked = q.asked; stale = q.stale }
 
--- the second progress with those fields of the first that an act of this action changes
+-- the progress p with those fields of q that an act of this action changes
 abbrev progress_of : Action → Progress → Progress → Progress
 progress_of ReadClock p q = told_of p q
 progress_of Renew p q = record (told_of p q) { word = q.word; again = q.again; asked = q.asked; chain_unbroken = q.chain_unbroken }
@@ -98,7 +102,7 @@ progress_of (Read until) p q = record (told_of p q) { word = q.word; again = q.a
 progress_of (Close why) p q = record p { phase = q.phase; stale = q.stale; tries = q.tries; pause = q.pause; chain_unbroken = q.chain_unbroken }
 progress_of (Stop why) p q = p
 
--- the second model with those fields of the first that an act of this action changes
+-- the model s with those fields of t that an act of this action changes, but for the progress
 abbrev changed_by : Action → Model → Model → Model
 changed_by ReadClock s t = record s { client = t.client }
 changed_by Renew s t = record s { client = t.client }
@@ -113,18 +117,20 @@ changed_by (Read until) s t = record s { rest = t.rest; client = t.client; marks
 changed_by (Close why) s t = record s { rest = t.rest }
 changed_by (Stop why) s t = s
 
--- What an act of an action changes is as behind it, and all else as before it. No act but a turn changes the turns, and none what replies say.
+-- the model s with all that an act of this action changes as it is in t, and all else as it was. No act but its turn changes the
+-- turns, and none changes what replies say
 abbrev pub changed : Action → Model → Model → Model
 changed action s t = record (changed_by action s t) { progress = record (progress_of action s.progress t.progress) { turns = s.progress.turns }; reads = s.reads }
 
--- the second progress with those fields of the first that lines change which are heard while the station begins
+-- the progress p with those fields of q that lines change which are heard while the station begins
 abbrev asked_of : Progress → Progress → Progress
 asked_of p q = record p { word = q.word; again = q.again; alive = q.alive; asked = q.asked }
 
+-- lines that are heard while the station begins change what `asked_of` says
 lines_changed : (p : Progress) (lines : List (List ℕ)) → lines_asked p lines ≡ asked_of p (lines_asked p lines)
 lines_changed p lines = asked_along (λ (q : Progress). q ≡ asked_of p q) (λ q line e. subst (λ (r : Progress). line_asked r line ≡ asked_of p (line_asked r line)) (sym e) refl) p lines refl
 
--- the second model with those fields of the first that a read changes which gave bytes
+-- the model s with those fields of t that a piece changes
 abbrev piece_of : Model → Model → Model
 piece_of s t = record s { progress = asked_of s.progress t.progress; rest = t.rest; client = t.client; marks = t.marks; records = t.records }
 
@@ -137,6 +143,7 @@ gave_changed plan until s bytes m =
     let is = came_along (λ (t : Model). t ≡ piece_of mid t) (λ t line e. subst (λ (u : Model). line_came u line ≡ piece_of mid (line_came u line))
     (sym e) refl) heard s.progress.word bytes mid refl (begins mid (lines_behind s.rest bytes) (rest_behind s.rest bytes)) refl in
     subst (λ (u : Model). reckoned plan until n u ≡ changed (Read until) s (reckoned plan until n u)) (sym is) refl where
+      -- the lemma above for a piece that is heard while the station begins
       begins : (t : Model) (lines : List (List ℕ)) (rest : List ℕ) → record t { progress = lines_asked t.progress lines; rest = rest } ≡ piece_of t
           (record t { progress = lines_asked t.progress lines; rest = rest })
       begins t lines rest = subst (λ (q : Progress). record t { progress = q; rest = rest } ≡ piece_of t (record t { progress = q; rest = rest })) (sym (lines_changed t.progress lines)) refl
@@ -152,7 +159,7 @@ closed_changed : (plan : Plan) (why : Cause) (s : Model) → after_close plan wh
 closed_changed plan why s =
     closed_along (λ (q : Progress). record s { progress = q; rest = [] } ≡ changed (Close why) s (record s { progress = q; rest = [] })) plan (waiting_of s) why s.progress refl refl
 
--- what an act of an action leaves is as `changed` says
+-- an act of this action changes no other fields than `changed` says
 pub moved_changed : (plan : Plan) (commands : List Task) (action : Action) (s : Model) (act : Act) → moved plan commands action s act ≡ changed action s (moved plan commands action s act)
 moved_changed plan commands ReadClock s (Told m) = refl
 moved_changed plan commands ReadClock s act = refl
@@ -180,14 +187,15 @@ moved_changed plan commands (Read until) s act = refl
 moved_changed plan commands (Close why) s act = closed_changed plan why s
 moved_changed plan commands (Stop why) s act = refl
 
--- What has to hold for a fact to hold behind an act of an action: where it goes well, and where it doesn't. The former is given a moment and
--- the latter a number, also where no clock is read and no bytes are cut, so that one row serves many actions.
+-- What has to hold for a fact to hold after an act of an action: where it goes well, and where it doesn't. The former is given
+-- a moment and the latter a number, also where no clock is read and no bytes are cut, so that one row serves many actions.
 
--- the fact holds behind an act that puts these bytes, whole or in part, if it holds in both cases
+-- what has to hold for P to hold after an act that puts these bytes: P after a whole write, and P after one that is cut. The
+-- number is how many requests the bytes have
 abbrev pub Putting : (Act → Model → Type 0) → ℕ → List ℕ → Model → Type 0
 Putting P requests bytes t = ((m : Moment) → P (Put bytes) t) × ((n : ℕ) → P (Cut bytes n) (with_progress (failing (cause.Write requests n)) t))
 
--- the fact holds behind each act of this action that there may be
+-- what has to hold for P to hold after an act of this action: P in each case that there may be
 abbrev pub Behind : Plan → List Task → (Act → Model → Type 0) → Action → Model → Type 0
 Behind plan commands P ReadClock s =
     ((m : Moment) → P (Told m) (with_moment m (with_progress (λ p. reckoned_early plan (commands_in s.marks) (told m p)) s))) × ((n : ℕ) → P Untold (with_progress (failing cause.Clock) s))
@@ -209,13 +217,13 @@ Behind plan commands P (Read until) s =
 Behind plan commands P (Close why) s = P Closed (after_close plan why s)
 Behind plan commands P (Stop why) s = Unit {0}
 
--- from that to the fact behind an act that puts the bytes
+-- `Putting` gives P after an act that puts the bytes
 put_walk : (P : Act → Model → Type 0) (requests : ℕ) (bytes : List ℕ) (f : Model → Model) (s : Model) (act : Act) → Puts bytes act → Putting P requests bytes (f s) → P act (after_put requests f s act)
 put_walk P requests bytes f s (Put out) o h = subst (λ (xs : List ℕ). P (Put xs) (f s)) (sym o) (h.0 (record { elapsed = 0; utc = 0 }))
 put_walk P requests bytes f s (Cut out n) o h = subst (λ (xs : List ℕ). P (Cut xs n) (with_progress (failing (cause.Write requests n)) (f s))) (sym o.0) (h.1 n)
 put_walk P requests bytes f s act o h = absurd o
 
--- from that to the fact behind an act that performs the action
+-- `Behind` gives P after an act that performs the action
 pub walk : (plan : Plan) (commands : List Task) (P : Act → Model → Type 0) (action : Action) (s : Model) (act : Act) → Performs commands s action act
     → Behind plan commands P action s → P act (moved plan commands action s act)
 walk plan commands P ReadClock s (Told m) o h = h.0 m

@@ -1,4 +1,6 @@
--- What an act leaves of a beginning's word: what the lines that it brings leave, unless the station begins anew.
+-- What an act leaves of a station's word, the ids of its beginning that aren't answered: what the lines that the act brings
+-- leave, unless the station begins anew. An act is one call of the link, with what came of it. A piece is the bytes that one
+-- read gave.
 use Rattle.std.proofs.Common.{◌≡◌, ℕ, Bool, true, false, List, [], ◌∷◌, length, if◌then◌else◌, refl, sym, ap, ◌∙◌, subst, arith}
 use Rattle.std.proofs.lemmas.List.{nil_from_length}
 use Rattle.gc_lines.specs.Frames.{rest_behind}
@@ -20,7 +22,7 @@ use Rattle.gc_station.proofs.Invariant.{Invariant}
 use Rattle.gc_station.proofs.Midway.{clash}
 use Rattle.gc_station.proofs.Walk.{lines_along, quieted_along, closed_along, walk}
 
--- where all ids are answered, no line changes that
+-- where all ids are answered, lines leave none
 pub left_none : (lines : List (List ℕ)) → left_behind [] lines ≡ []
 left_none [] = refl
 left_none (line ∷ others) = left_none others
@@ -37,14 +39,14 @@ word_came true [] piece s e =
 word_came true (asked ∷ others) piece s e = word_asked s.progress (lines_behind s.rest piece) ∙ ap (λ (w : List ℕ). left_behind w (lines_behind s.rest piece)) e
 word_came false word piece s e = e
 
--- where a station begins behind a piece, it began before it
+-- where a station begins after a piece, it began before it
 pub begins_before : (h : Bool) (word piece : List ℕ) (s : Model) → s.progress.word ≡ word → has_begun (came h word piece s).progress ≡ false → is_none_left word ≡ false
 begins_before h [] piece s e f =
     let lines = if h then lines_behind s.rest piece else [] in absurd (clash (has_begun (came h [] piece s).progress) (ap is_none_left (word_came h [] piece s e ∙ left_none lines)) f)
 begins_before h (asked ∷ others) piece s e f = refl
 
 module _ (plan : Plan) (commands : List Task) where
-  -- an act leaves of the ids what its lines leave
+  -- from the model s to t an act leaves of the ids what its lines leave
   abbrev Leaves : Model → Act → Model → Type 0
   Leaves s act t = t.progress.word ≡ left_behind s.progress.word (heard_at s act)
 
@@ -70,6 +72,7 @@ module _ (plan : Plan) (commands : List Task) where
   begun_other : (s : Model) (o : Action) (act : Act) → Performs commands s o act → (o ≡ actions.Renew → ⊥) → has_begun s.progress ≡ true
       → has_begun (moved plan commands o (with_progress turned s) act).progress ≡ true
   begun_other s o act obeys other begun = by_word s.progress.word refl begun where
+    -- the lemma above, by the word: no id is left
     by_word : (word : List ℕ) → s.progress.word ≡ word → is_none_left word ≡ true → has_begun (moved plan commands o (with_progress turned s) act).progress ≡ true
     by_word [] e b = ap is_none_left (word_moved s o act obeys other ∙ ap (λ (w : List ℕ). left_behind w (heard_at s act)) e ∙ left_none (heard_at s act))
     by_word (asked ∷ others) e b = cc

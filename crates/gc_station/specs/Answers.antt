@@ -1,5 +1,5 @@
--- Where an answer comes from, in an operator's words, this project's own: its own request went out, and the line came behind it, with
--- its id, before a moment at or past its deadline was told.
+-- Where an answer comes from, in an operator's words, this project's own: its own request went out, and the line came after it,
+-- with its id, before a moment at or past its deadline was told. An act is one call of the link, with what came of it.
 use Rattle.std.specs.Prelude.{◌≡◌, ℕ, ◌<◌, List, [], ◌∷◌, ◌++◌, drop, Option, Some, None}
 use Rattle.std.specs.List.{AllByRecursion}
 use Rattle.gc_client.specs.Rule.{heard}
@@ -15,7 +15,7 @@ use Rattle.gc_station.specs.Runs.{stood}
 use Rattle.gc_station.specs.Model.{Puts, action_at, cycles_begun, place_next, request_text, lines_behind}
 use Rattle.gc_station.specs.Scopes.{Scope}
 
--- an act tells no moment at or past this one
+-- an act tells no moment at or past this deadline
 abbrev pub IsBefore : ℕ → Act → Type 0
 IsBefore deadline (Told m) = m.elapsed < deadline
 IsBefore deadline (Gave bytes m) = m.elapsed < deadline
@@ -27,15 +27,15 @@ abbrev pub first_deadline : List Task → ℕ
 first_deadline [] = 0
 first_deadline (task ∷ others) = task.deadline
 
--- the deadline of the next command, if its request goes out directly behind these acts
+-- the deadline of the next command, if its request goes out directly after these acts
 abbrev pub deadline_behind : Plan → List Task → Scope → List Act → ℕ
 deadline_behind plan commands scope acts =
     let p = (stood plan commands scope acts).progress in
     later p.moment.elapsed (first_deadline (drop (place_next commands p) commands))
 
--- among these acts the request of a record, of its cycle and place, was put behind the moment that the record has for it. From
--- then on no act told a moment at or past the request's deadline, up to and with a read whose piece brought this line, with the
--- request's id; and at that read the record was written down
+-- the acts are, in this order: `before`; `request`, which puts the request of the record r, of its cycle and place, where the moment
+-- told last is the one that the record has for it; `between`, in which no moment at or past the request's deadline is told; a read
+-- before that deadline, whose piece completes `line`, with the request's id; and `behind`. At that read r is written down
 pub record IsAnsweredIn (plan : Plan) (commands : List Task) (scope : Scope) (acts : List Act) (r : Record) (line : List ℕ) : Type 0 where
   pub before : List Act
   pub request : Act
@@ -63,7 +63,7 @@ pub record IsAnsweredIn (plan : Plan) (commands : List Task) (scope : Scope) (ac
 -- the line of the reply, for a command that a reply in time ended: as answered, unreadable or elsewhere. None for any other
 -- ending
 abbrev pub answer_of : End → Option (List ℕ)
-answer_of (Answered answer line) = Some line
+answer_of (Answered quality answer line) = Some line
 answer_of (Unreadable line fault) = Some line
 answer_of (Elsewhere line) = Some line
 answer_of Late = None
@@ -71,6 +71,6 @@ answer_of Lost = None
 answer_of Skipped = None
 answer_of Missed = None
 
--- if a record is of a reply in time, its line came so: by `IsAnsweredIn`
+-- if a record is of a reply in time (answered, unreadable or elsewhere), the reply's line came as `IsAnsweredIn` says
 abbrev pub IsTrueRecord : Plan → List Task → Scope → List Act → Record → Type 0
 IsTrueRecord plan commands scope acts r = (line : List ℕ) → answer_of r.end ≡ Some line → IsAnsweredIn plan commands scope acts r line

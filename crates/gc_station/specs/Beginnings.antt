@@ -1,5 +1,8 @@
--- Beginnings, this project's own: eight null procedures go out first, one after the other, each the same until a reply with its id came;
--- and then commands. A connection is cleared in any case, and drained where it isn't a beginning that goes on with it.
+-- Beginnings, this project's own. A station begins by eight null procedures, which go out one after the other: each is sent
+-- again until a reply with its id has come. Commands go out after that. Each new connection is cleared by a lone line feed;
+-- where the station had begun before it was made, the connection is drained, too, until it is quiet. The `word` of a station is
+-- the list of the ids of the null procedures that aren't answered yet, in order. An act is one call of the link, with what came
+-- of it.
 use Rattle.std.specs.Prelude.{◌≡◌, ℕ, true, false, List, [], ◌∷◌, ◌++◌, length, if◌then◌else◌}
 use Rattle.std.specs.List.{AllByRecursion, filter_map}
 use Rattle.gc_client.specs.Beginning.{IsSubsequence, the_word, left_by}
@@ -16,7 +19,8 @@ use Rattle.gc_station.specs.Runs.{stood}
 use Rattle.gc_station.specs.Scopes.{Scope}
 use Rattle.gc_station.specs.Model.{Model, Puts, Runs, after, is_heard, lines_behind, null_text, opening, action_at}
 
--- the lines that an act brings, where they are heard
+-- the lines that this act completes, where the station is at this model before it; none in a phase in which what comes is
+-- dropped
 abbrev pub heard_at : Model → Act → List (List ℕ)
 heard_at s (Gave piece m) = if is_heard s.progress.phase then lines_behind s.rest piece else []
 heard_at s act = []
@@ -26,21 +30,24 @@ abbrev pub heard_behind : Plan → List Task → Model → List Act → List (Li
 heard_behind plan commands s [] = []
 heard_behind plan commands s (act ∷ acts) = heard_at s act ++ heard_behind plan commands (after plan commands s act) acts
 
--- which of these ids of a beginning are left unanswered behind these lines
+-- which of these ids of null procedures are still unanswered after these lines
 abbrev pub left_behind : List ℕ → List (List ℕ) → List ℕ
 left_behind word [] = word
 left_behind word (line ∷ others) = left_behind (left_by word (heard line)) others
 
--- where a command goes out, or a null procedure behind commands that are all given up, replies came with the ids of all null procedures
--- that weren't answered behind earlier acts, in their order. At the start of a run, and where it begins anew, these are all eight
+-- where, after the acts `earlier` and then `between`, a command goes out, or the null procedure that follows commands which are
+-- all given up: the ids that weren't answered after `earlier` are, in order, among the ids of the lines that were heard in
+-- `between`. So where `earlier` ends at the start of a run, or where the station begins anew, all eight ids were heard in
+-- `between`
 abbrev pub NoneBeforeTheLastAnswer : Type 0
 NoneBeforeTheLastAnswer =
     (plan : Plan) (commands : List Task) (scope : Scope) (earlier between : List Act) → Runs plan commands (opening plan scope) (earlier ++ between)
     → IsAsking (action_at plan (stood plan commands scope (earlier ++ between)))
     → IsSubsequence (stood plan commands scope earlier).progress.word (filter_map heard (heard_behind plan commands (stood plan commands scope earlier) between))
 
--- an act while the station begins: nothing waits, and the client is new; what goes out is the null procedure of the first id that isn't
--- answered; and the next one takes its place exactly where a line came with that id, in whatever order of acts, also over closes
+-- an act while the station begins: no request waits, and the client is new; a request that goes out is the null procedure of
+-- the first id that isn't answered; and each line that the act brings, in order, answers the first id that is left if it has
+-- that id, and else answers none
 pub record IsOfBeginning (plan : Plan) (commands : List Task) (scope : Scope) (acts : List Act) (act : Act) : Type 0 where
   pub client : (stood plan commands scope acts).client ≡ fresh
   pub marks : (stood plan commands scope acts).marks ≡ []
@@ -67,8 +74,8 @@ pub record BeginsSo (plan : Plan) (commands : List Task) (scope : Scope) (acts :
   pub anew : has_begun (stood plan commands scope acts).progress ≡ true → has_begun (stood plan commands scope (acts ++ act ∷ [])).progress ≡ false
       → IsAnew plan commands scope acts act
 
--- behind these acts there is a connection that was cleared: as soon as it was made, a lone line feed went out whole. Where the station had
--- begun by then, it was quiet before anything else went out on it
+-- after these acts there is a connection that was cleared: as soon as it was made, a lone line feed went out whole. Where the
+-- station had begun by then, the connection was quiet before anything else went out on it
 pub record IsClearedAndQuiet (plan : Plan) (commands : List Task) (scope : Scope) (acts : List Act) : Type 0 where
   pub before : List Act
   pub behind : List Act

@@ -1,4 +1,5 @@
--- When a part of a run has begun, this project's own: the lines that it heard answer all of its beginning.
+-- When a part of a run has begun, this project's own: the lines that it heard answer all of its beginning. A part reaches from
+-- one beginning of the station to the next (`Parts`).
 use Rattle.std.specs.Prelude.{◌≡◌, ◌⊎◌, ℕ, List, [], ◌∷◌}
 use Rattle.gc_client.specs.Beginning.{the_word}
 use Rattle.gc_station.specs.Beginnings.{left_behind}

@@ -1,27 +1,30 @@
--- Chains, this project's own: a command of a chain goes out only once the one before it in its cycle was answered well, on the connection
--- on which that went out.
+-- Chains, this project's own: a command of a chain goes out only once the one before it in its cycle was answered well, on the
+-- connection on which that went out. An act is one call of the link, with what came of it.
 use Rattle.std.specs.Prelude.{◌≡◌, ℕ, ◌+◌, ◌<◌, true, List, [], ◌∷◌, ◌++◌, drop, Option}
 use Rattle.std.specs.List.{AllByRecursion}
 use Rattle.gc_catalogue.specs.declared.answer.Answer.{Answer}
 use Rattle.gc_texts.specs.Endings.{Answered}
+use Rattle.gc_texts.specs.Qualities.{is_good}
+use Rattle.gc_texts.specs.declared.quality.Quality.{Quality}
 use Rattle.gc_texts.specs.declared.tasks.Task.{Task}
 use Rattle.gc_station.specs.declared.plan.Plan.{Plan}
 use Rattle.gc_station.specs.declared.progress.Action.TheVariants.{Send}
 use Rattle.gc_links.specs.Acts.{Act}
 use Rattle.gc_station.specs.Answers.{IsAnsweredIn}
-use Rattle.gc_station.specs.Marks.{is_value}
+use Rattle.gc_station.specs.Qualities.{IsOfQuality, accepted_at}
 use Rattle.gc_station.specs.Quiet.{KeepsOpen}
 use Rattle.gc_station.specs.Records.{Record}
 use Rattle.gc_station.specs.Runs.{stood}
 use Rattle.gc_station.specs.Scopes.{Scope}
 use Rattle.gc_station.specs.Model.{Model, action_at, cycles_begun, place_next, is_chained}
 
--- the next command is of a chain, and neither the first of that nor of its cycle
+-- the next command isn't the first of its cycle, and goes out only once the one before it was answered well
 abbrev pub IsChained : List Task → Model → Type 0
 IsChained commands s = (0 < place_next commands s.progress) × (is_chained (drop (place_next commands s.progress) commands) ≡ true)
 
--- behind these acts the command before the next one, of the same cycle, went out, and no connection was closed since; its record is the
--- last one, and is an answer, which came in time with the id of that very request, with both codes 0 and values that read
+-- after these acts the command before the next one, of the same cycle, went out, and no connection was closed since. Its record
+-- is the last one. That is an answer which came in time, with the id of that very request, and of a good quality: with both
+-- codes 0 and values that read, or with a return code that is accepted of that command
 pub record IsLinked (plan : Plan) (commands : List Task) (scope : Scope) (acts : List Act) : Type 0 where
   pub before : List Act
   pub request : Act
@@ -37,7 +40,9 @@ pub record IsLinked (plan : Plan) (commands : List Task) (scope : Scope) (acts :
   pub own_cycle : answer.cycle ≡ cycles_begun plan (stood plan commands scope before).progress
   pub own_place : answer.place ≡ place_next commands (stood plan commands scope before).progress
   pub line : List ℕ
+  pub quality : Quality
   pub said : Option Answer
-  pub answered : answer.end ≡ Answered said line
-  pub well : is_value (scope.reads answer.command.call line) ≡ true
+  pub answered : answer.end ≡ Answered quality said line
+  pub well : is_good quality ≡ true
+  pub says : IsOfQuality scope.reads (accepted_at commands answer.place) answer.command.call quality said line
   pub in_time : IsAnsweredIn plan commands scope acts answer line

@@ -1,4 +1,4 @@
--- Why each act is made, and why a connection is closed: this project's own.
+-- Why each act is made, and why a connection is closed: this project's own. An act is one call of the link, with what came of it.
 use Rattle.std.specs.Prelude.{◌≡◌, ◌⊎◌, ℕ, false, List, [], ◌∷◌, ◌++◌}
 use Rattle.gc_client.specs.Rule.{fresh}
 use Rattle.gc_texts.specs.declared.tasks.Task.{Task}
@@ -17,7 +17,7 @@ use Rattle.gc_station.specs.Runs.{stood}
 use Rattle.gc_station.specs.Model.{Model, waiting_of, action_at, Performs}
 use Rattle.gc_station.specs.Scopes.{Scope}
 
--- where a null procedure of a beginning goes out nothing waits, and the client is new: the first command behind the beginning has id 0
+-- where a null procedure of a beginning goes out nothing waits, and the client is new: the first command after the beginning has id 0
 abbrev pub IsAlone : Action → Model → Type 0
 IsAlone Ask s = (s.client ≡ fresh) × (s.marks ≡ [])
 IsAlone _ s = Unit {0}
@@ -47,9 +47,10 @@ pub record ClosesForACause (plan : Plan) (commands : List Task) (scope : Scope) 
 abbrev pub EndsDone : Progress → ℕ → Cause → Type 0
 EndsDone p commands why = (why ≡ cause.Done) × (p.left ≡ 0) × (p.unsent ≡ 0) × (commands ≡ 0)
 
--- a run ends for the cause `why` where its connection is gone for this cause, and `commands` commands wait. For a clock that can't be read,
--- and for turns that are used up, it ends at once, for that cause. It is done where no command is left to be sent and none waits. Else it
--- ends for the cause of the connection's end: a connection anew would take a try, and none is left
+-- a connection was closed, or couldn't be made, for the first of these causes, while `commands` commands waited; and then the
+-- run ends for the cause `why`. After `Clock` (the clock can't be read) and `Turns` (all turns are used up), `why` is that same
+-- cause. After `Done` it is `Done`: no command is left to be sent, and none waits. After any other cause the run is done in the
+-- same way; or `why` is that other cause, a new connection would take a try, and no try is left
 abbrev pub EndsBehind : Plan → Progress → ℕ → Cause → Cause → Type 0
 EndsBehind plan p commands cause.Done why = EndsDone p commands why
 EndsBehind plan p commands cause.Clock why = why ≡ cause.Clock
@@ -57,7 +58,8 @@ EndsBehind plan p commands cause.Turns why = why ≡ cause.Turns
 EndsBehind plan p commands other why =
     EndsDone p commands why ⊎ ((why ≡ other) × (is_finished commands p ≡ false) × (is_spared plan other p ≡ false) × (p.tries ≡ 0))
 
--- the connection was closed for a cause, or none could be made, and no other is made
+-- the act, which performed the action `next`, closed the connection for some cause, or couldn't make one; and the run ends then
+-- for the cause `why`, as `EndsBehind` says
 abbrev pub EndsGone : Plan → Progress → Waiting → Action → Cause → Act → Type 0
 EndsGone plan p w next why act =
     ((other : Cause) × (act ≡ Closed) × (next ≡ Close other) × EndsBehind plan p w.commands other why)

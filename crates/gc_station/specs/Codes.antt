@@ -1,32 +1,54 @@
 -- Whether a command was answered well, in the codes of its reply's line: this project's own.
-use Rattle.std.specs.Prelude.{◌≡◌, ℕ, true, false, not, List, Option}
+use Rattle.std.specs.Prelude.{◌≡◌, ◌≢◌, ◌⊎◌, ℕ, true, false, not, List, None}
 use Rattle.gc_lines.specs.Replies.{ReplyFields, IsReply}
-use Rattle.gc_catalogue.specs.Answers.{IsAnswer}
+use Rattle.gc_catalogue.specs.Answers.{IsAnswer, IsUnreadable}
 use Rattle.gc_catalogue.specs.Readings.{IsReading}
 use Rattle.gc_catalogue.specs.declared.answer.Answer.{Answer}
 use Rattle.gc_catalogue.specs.declared.answer.Reading.{Reading}
-use Rattle.gc_catalogue.specs.declared.answer.Reading.TheVariants.{Value}
+use Rattle.gc_catalogue.specs.declared.answer.Reading.TheVariants as reading
 use Rattle.gc_catalogue.specs.declared.call.Call.{Call}
 use Rattle.gc_client.specs.Rule.{Answered, Late, Lost}
+use Rattle.gc_texts.specs.Codes.{are_accepted, no_codes}
 use Rattle.gc_texts.specs.Endings as end
 use Rattle.gc_texts.specs.Nears.{is_elsewhere}
-use Rattle.gc_texts.specs.declared.near.Near.{Near}
+use Rattle.gc_texts.specs.declared.near.Expected.{Expected}
+use Rattle.gc_texts.specs.declared.quality.Quality.TheVariants as quality
+use Rattle.gc_values.specs.declared.fault.ValueFault.{ValueFault}
 use Rattle.gc_station.specs.Marks.{end_of, is_well}
 use Rattle.gc_station.specs.Scopes.{AreReadings}
 
--- a command whose target stands at `near`, where the text says so, has a reply with these fields. It was answered well only if
--- the communication code and the return code are both 0. It wasn't if the reply says anything but an answer. If both codes are
--- 0 and the parameters are an answer of the call, it was answered well exactly if the answer wasn't measured elsewhere, and
--- else it ended as elsewhere. A command that is late, lost, skipped or missed never was answered well
-pub record WellIsBothCodesZero : Type 0 where
-  pub only : (reads : Call → List ℕ → Reading) (near : Option Near) (call : Call) (line : List ℕ) (r : ReplyFields) → AreReadings reads → IsReply line r
-      → is_well reads call (end_of reads near call (Answered line)) ≡ true → (r.rc_com ≡ 0) × (r.rc ≡ 0)
-  pub unread : (reads : Call → List ℕ → Reading) (near : Option Near) (call : Call) (line : List ℕ) (r : ReplyFields) (said : Reading) → AreReadings reads → IsReply line r
-      → IsReading call r said → ((answer : Answer) → said ≡ Value answer → ⊥) → is_well reads call (end_of reads near call (Answered line)) ≡ false
-  pub found : (reads : Call → List ℕ → Reading) (near : Option Near) (call : Call) (line : List ℕ) (r : ReplyFields) (answer : Answer) → AreReadings reads → IsReply line r
-      → r.rc_com ≡ 0 → r.rc ≡ 0 → IsAnswer call r.params answer → is_well reads call (end_of reads near call (Answered line)) ≡ not (is_elsewhere near answer)
-  pub away : (reads : Call → List ℕ → Reading) (near : Option Near) (call : Call) (line : List ℕ) (r : ReplyFields) (answer : Answer) → AreReadings reads → IsReply line r
-      → r.rc_com ≡ 0 → r.rc ≡ 0 → IsAnswer call r.params answer → is_elsewhere near answer ≡ true → end_of reads near call (Answered line) ≡ end.Elsewhere line
-  pub none : (reads : Call → List ℕ → Reading) (near : Option Near) (call : Call)
-      → (is_well reads call (end_of reads near call Late) ≡ false) × (is_well reads call (end_of reads near call Lost) ≡ false)
-      × (is_well reads call end.Skipped ≡ false) × (is_well reads call end.Missed ≡ false)
+-- `r` has the fields of a command's reply. `expected` says where the command's target stands, if the text says so, and which
+-- return codes are accepted of it.
+-- `only`, `without`: the command was answered well only if the communication code is 0, and the return code is 0 or an accepted
+-- one. Where no code is accepted, both codes have to be 0.
+-- `unread`: it wasn't answered well where the reply says neither an answer nor a refusal with an accepted code.
+-- `found`, `away`: both codes are 0, and the parameters are an answer of the call. Then the command was answered well, unless
+-- the answer was measured elsewhere than the target stands; then it ended as elsewhere.
+-- `warned`, `warned_away`: the same with an accepted return code other than 0.
+-- `warned_without`: with an accepted return code other than 0, and parameters that don't read, it is answered with a warning,
+-- and without values.
+-- `none`: a command that is late, lost, skipped or missed was never answered well
+pub record WellIsAnAcceptedCode : Type 0 where
+  pub only : (reads : Call → List ℕ → Reading) (expected : Expected) (call : Call) (line : List ℕ) (r : ReplyFields) → AreReadings reads → IsReply line r
+      → is_well (end_of reads expected call (Answered line)) ≡ true → (r.rc_com ≡ 0) × ((r.rc ≡ 0) ⊎ (are_accepted expected.accepted r.rc ≡ true))
+  pub without : (reads : Call → List ℕ → Reading) (expected : Expected) (call : Call) (line : List ℕ) (r : ReplyFields) → AreReadings reads → IsReply line r
+      → expected.accepted ≡ no_codes → is_well (end_of reads expected call (Answered line)) ≡ true → (r.rc_com ≡ 0) × (r.rc ≡ 0)
+  pub unread : (reads : Call → List ℕ → Reading) (expected : Expected) (call : Call) (line : List ℕ) (r : ReplyFields) (said : Reading) → AreReadings reads → IsReply line r
+      → IsReading call r said → ((answer : Answer) → said ≡ reading.Value answer → ⊥) → ((code : ℕ) → said ≡ reading.Refused code → are_accepted expected.accepted code ≡ false)
+      → is_well (end_of reads expected call (Answered line)) ≡ false
+  pub found : (reads : Call → List ℕ → Reading) (expected : Expected) (call : Call) (line : List ℕ) (r : ReplyFields) (answer : Answer) → AreReadings reads → IsReply line r
+      → r.rc_com ≡ 0 → r.rc ≡ 0 → IsAnswer call r.params answer → is_well (end_of reads expected call (Answered line)) ≡ not (is_elsewhere expected.near answer)
+  pub away : (reads : Call → List ℕ → Reading) (expected : Expected) (call : Call) (line : List ℕ) (r : ReplyFields) (answer : Answer) → AreReadings reads → IsReply line r
+      → r.rc_com ≡ 0 → r.rc ≡ 0 → IsAnswer call r.params answer → is_elsewhere expected.near answer ≡ true → end_of reads expected call (Answered line) ≡ end.Elsewhere line
+  pub warned : (reads : Call → List ℕ → Reading) (expected : Expected) (call : Call) (line : List ℕ) (r : ReplyFields) (answer : Answer) → AreReadings reads → IsReply line r
+      → r.rc_com ≡ 0 → r.rc ≢ 0 → are_accepted expected.accepted r.rc ≡ true → IsAnswer call r.params answer
+      → is_well (end_of reads expected call (Answered line)) ≡ not (is_elsewhere expected.near answer)
+  pub warned_away : (reads : Call → List ℕ → Reading) (expected : Expected) (call : Call) (line : List ℕ) (r : ReplyFields) (answer : Answer) → AreReadings reads → IsReply line r
+      → r.rc_com ≡ 0 → r.rc ≢ 0 → are_accepted expected.accepted r.rc ≡ true → IsAnswer call r.params answer → is_elsewhere expected.near answer ≡ true
+      → end_of reads expected call (Answered line) ≡ end.Elsewhere line
+  pub warned_without : (reads : Call → List ℕ → Reading) (expected : Expected) (call : Call) (line : List ℕ) (r : ReplyFields) (fault : ValueFault) → AreReadings reads → IsReply line r
+      → r.rc_com ≡ 0 → r.rc ≢ 0 → are_accepted expected.accepted r.rc ≡ true → IsUnreadable call r.params fault
+      → end_of reads expected call (Answered line) ≡ end.Answered quality.Warning None line
+  pub none : (reads : Call → List ℕ → Reading) (expected : Expected) (call : Call)
+      → (is_well (end_of reads expected call Late) ≡ false) × (is_well (end_of reads expected call Lost) ≡ false)
+      × (is_well end.Skipped ≡ false) × (is_well end.Missed ≡ false)

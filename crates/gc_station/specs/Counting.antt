@@ -11,7 +11,7 @@ how_many so (r ∷ others) = if so r.end then suc (how_many so others) else how_
 
 -- whether an ending is `Answered`
 abbrev pub is_answered : End → Bool
-is_answered (Answered answer line) = true
+is_answered (Answered quality answer line) = true
 is_answered _ = false
 
 -- whether an ending is `Unreadable`

@@ -1,5 +1,6 @@
--- When cycles begin, and which commands aren't sent, in the acts' own moments: this project's own. Cycles are due on a grid:
--- the first when it begins, and each other one `every` milliseconds behind the one before it.
+-- When cycles begin, and which commands aren't sent, in the acts' own moments: this project's own. Cycles are due on a grid: the
+-- first when it begins, and each other one `every` milliseconds after the one before it. An act is one call of the link, with what
+-- came of it.
 use Rattle.std.specs.Prelude.{◌≡◌, ℕ, zero, suc, ◌+◌, ◌-◌, ◌<◌, ◌≤◌, true, false, List, [], ◌∷◌, ◌++◌, drop, None}
 use Rattle.std.specs.List.{AllByRecursion}
 use Rattle.gc_texts.specs.Endings.{Skipped, Missed}
@@ -14,7 +15,8 @@ use Rattle.gc_station.specs.Model.{opening, action_at, waiting_of, cycles_begun,
 use Rattle.gc_station.specs.declared.plan.Plan.{Plan}
 use Rattle.gc_station.specs.declared.progress.Action.TheVariants.{Begin, Send, Skip}
 
--- the clock doesn't go back: each moment that these acts tell is at or past the one before it, and has 64 bits
+-- the clock doesn't go back: the first moment that these acts tell is at or past `now`, each later one at or past the one
+-- before it, and all have 64 bits
 abbrev pub Rises : ℕ → List Act → Type 0
 Rises now [] = Unit {0}
 Rises now (Told m ∷ acts) = (now ≤ m.elapsed) × (m.elapsed ≤ 18446744073709551615) × Rises m.elapsed acts
@@ -42,7 +44,8 @@ pub record BeginsLate (plan : Plan) (commands : List Task) (scope : Scope) (acts
   pub begins : BeginsAt plan commands scope acts n m
   pub grid : due_behind first.elapsed plan.every n + late ≡ m.elapsed
 
--- the cycle that began last among these acts: its number, the moment at which it began, and how long that was after its due moment
+-- the cycle that began last among these acts: how many began before it (`n`), the moment at which it began, and how many
+-- milliseconds after its due moment that was (`late`)
 pub record LastBegan (plan : Plan) (commands : List Task) (scope : Scope) (acts : List Act) : Type 0 where
   pub n : ℕ
   pub moment : Moment
@@ -50,7 +53,7 @@ pub record LastBegan (plan : Plan) (commands : List Task) (scope : Scope) (acts 
   pub begins : BeginsLate plan commands scope acts n moment late
   pub number : cycles_begun plan (stood plan commands scope acts).progress ≡ suc n
 
--- a cycle begins at or behind its due moment, where cycles have due moments and the clock doesn't go back
+-- a cycle begins at or after its due moment, where cycles have due moments and the clock doesn't go back
 abbrev pub CyclesBeginWhenDue : Type 0
 CyclesBeginWhenDue =
     (plan : Plan) (commands : List Task) (scope : Scope) (acts later : List Act) (m : Moment) → 0 < plan.every → Runs plan commands (opening plan scope) (acts ++ Told m ∷ later)

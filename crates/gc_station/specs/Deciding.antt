@@ -1,5 +1,8 @@
--- What a station does next, this project's own. It is a function of how far the station is, and of how many requests wait: in all,
--- of those that aren't given up, and of commands.
+-- What a station does next, this project's own. It is a function of how far the station is, and of how many requests wait: in
+-- all, of those that aren't given up, and of commands. The phases are: without a connection (`Down`), in the pause before the
+-- next attempt (`Pausing`), before the line feed that clears a connection (`Clearing`), until a connection is quiet
+-- (`Draining`), with a connection for requests (`Ready`), before a close (`Closing`), and at the end (`Over`). Of the progress,
+-- `left` counts the cycles that haven't begun, and `unsent` the commands of the cycle that were neither sent nor passed over.
 use Rattle.std.specs.Prelude.{ℕ, ◌+◌, ◌-◌, ◌&&◌, ◌||◌, Bool, true, false, not, if◌then◌else◌, nat_lt, nat_le, nat_eq, min, max, List, [], ◌∷◌}
 use Rattle.gc_client.specs.declared.window.TheConstants.{WINDOW}
 use Rattle.gc_station.specs.declared.plan.Plan.{Plan}
@@ -30,15 +33,15 @@ is_up phase.Ready = true
 is_up (phase.Closing cause) = true
 is_up (phase.Over cause) = false
 
--- whether at least `wait` milliseconds lie between `since` and the last moment that was told
+-- whether at least `wait` milliseconds lie between `since`, from when a pause or a quiet time counts, and the moment told last
 abbrev pub is_past : ℕ → Progress → Bool
 is_past wait p = nat_le wait (p.moment.elapsed - p.since)
 
--- whether at least the plan's quiet time lies between `since` and the last moment that was told
+-- whether at least the plan's quiet time lies between `since`, from when it counts, and the moment told last
 abbrev pub is_quiet : Plan → Progress → Bool
 is_quiet plan p = is_past plan.quiet p
 
--- whether none of these null procedures is left
+-- whether this list is empty: of the ids of the null procedures that aren't answered
 abbrev pub is_none_left : List ℕ → Bool
 is_none_left [] = true
 is_none_left (asked ∷ others) = false
@@ -52,7 +55,7 @@ abbrev pub patience_of : Plan → ℕ
 patience_of plan = later plan.deadline plan.deadline
 
 -- whether the line is dead: a request waits, or a null procedure of the beginning went out on this connection; and for
--- `patience_of` no reply line came, since the last one or since the first request behind it
+-- `patience_of` no reply line came, since the last one or since the first request after it
 abbrev pub is_dead : Plan → Progress → Waiting → Bool
 is_dead plan p w = (nat_lt 0 w.all || nat_lt 0 p.again) && nat_le (patience_of plan) (p.moment.elapsed - p.alive)
 
@@ -79,7 +82,7 @@ abbrev pub is_finished : ℕ → Progress → Bool
 is_finished commands p = nat_eq p.left 0 && nat_eq p.unsent 0 && nat_eq commands 0
 
 -- the next action while the station begins: the null procedure of the first id that isn't answered goes out, and again at its
--- deadline, but not between cycles, nor where no command is left to be sent behind the beginning
+-- deadline, but not between cycles, nor where no command is left to be sent after the beginning
 abbrev pub action_beginning : Plan → Progress → Waiting → Action
 action_beginning plan p w =
     if is_finished w.commands p then Close Done
@@ -120,7 +123,8 @@ action_sent plan p w =
     else if nat_eq w.current 0 then action_room plan p w Flush
     else action_waiting plan p w
 
--- the next action once the station has begun: to send the next command, if that needn't wait for the answer before it
+-- the next action once the station has begun: to send the next command, if there is one that needn't wait for the answer of the command
+-- before it, and there is room; else as `action_sent` or `action_room` says
 abbrev pub action_begun : Plan → Progress → Waiting → Action
 action_begun plan p w = if nat_lt 0 p.unsent && not p.next_is_chained then action_room plan p w Send else action_sent plan p w
 
@@ -129,7 +133,7 @@ action_begun plan p w = if nat_lt 0 p.unsent && not p.next_is_chained then actio
 abbrev pub action_ready : Plan → Progress → Waiting → Action
 action_ready plan p w = if has_begun p then action_begun plan p w else action_beginning plan p w
 
--- the next action in a phase, where turns are left and the moment was read behind all that was done
+-- the next action in a phase, where turns are left, and the moment told last isn't out of date
 abbrev pub action_told : Plan → Phase → Progress → Waiting → Action
 action_told plan phase.Down p w = Open
 action_told plan phase.Pausing p w = Read Limit
@@ -139,7 +143,7 @@ action_told plan phase.Ready p w = action_ready plan p w
 action_told plan (phase.Closing cause) p w = Close cause
 action_told plan (phase.Over cause) p w = Stop cause
 
--- the next action where all turns are used up, with a connection or without one
+-- the next action where all turns are used up: with a connection (`true`) to close it, else to stop
 abbrev pub action_up : Bool → Action
 action_up true = Close Turns
 action_up false = Stop Turns

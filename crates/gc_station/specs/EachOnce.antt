@@ -1,5 +1,5 @@
--- Each command once, this project's own: the records of a run, and behind them the commands that wait, are the commands that
--- had their turn, sent or not, cycle by cycle and in order, each once.
+-- Each command once, this project's own: the records of a run, and after them the commands that wait, are the commands that had
+-- their turn, sent or not, cycle by cycle and in order, each once. An act is one call of the link, with what came of it.
 use Rattle.std.specs.Prelude.{◌≡◌, ◌⊎◌, ◌<◌, ℕ, zero, suc, ◌+◌, List, [], ◌∷◌, ◌++◌, take, map, Option, Some, None}
 use Rattle.gc_client.specs.declared.pending.Pending.{Pending}
 use Rattle.gc_client.specs.OneForOne.{Asked, of_pending}
@@ -61,13 +61,13 @@ still_waiting (mark ∷ marks) [] = []
 still_waiting (None ∷ marks) (p ∷ others) = still_waiting marks others
 still_waiting (Some mark ∷ marks) (p ∷ others) = of_waiting mark p ∷ still_waiting marks others
 
--- the records, and behind them the commands that wait, are the commands that had their turn, sent or not
+-- the records, and after them the commands that wait, are the commands that had their turn, sent or not
 abbrev pub IsEachOnce : Plan → List Task → Model → Type 0
 IsEachOnce plan commands s =
     map of_record s.records ++ still_waiting s.marks s.client.waiting ≡ sent_by commands (cycles_begun plan s.progress) (place_next commands s.progress)
 
--- behind each run `IsEachOnce` is so. Where the run stopped, the records alone are the commands that had their turn, and where it is done
--- they are all commands of all cycles
+-- after these acts of a run `IsEachOnce` holds. If the run stopped there, the records alone are the commands that had their
+-- turn; and if it is done, they are all commands of all cycles
 pub record EachOnce (plan : Plan) (commands : List Task) (scope : Scope) (acts : List Act) : Type 0 where
   pub each : IsEachOnce plan commands (stood plan commands scope acts)
   pub settled : (cause : Cause) → action_at plan (stood plan commands scope acts) ≡ Stop cause

@@ -1,7 +1,7 @@
--- How a request ends that has no answer, in an operator's words, this project's own. Late: its own request went out, then a moment at or
--- past its deadline was told, and only then a line came with its id. Lost: its own request went out, and at the act that wrote it down as
--- lost a line came with the id of a request that was put behind it, or the station begins anew, because seven wait that are all given up, or
--- the run stopped.
+-- How a request ends that has no answer, in an operator's words, this project's own. Late: its own request went out, then a moment
+-- at or past its deadline was told, and only then a line came with its id. Lost: its own request went out, and at the act that
+-- wrote it down as lost a line came with the id of a request that was put after it, or the station begins anew, because seven wait
+-- that are all given up, or the run stopped. An act is one call of the link, with what came of it.
 use Rattle.std.specs.Prelude.{◌≡◌, ◌⊎◌, ℕ, ◌≤◌, List, [], ◌∷◌, ◌++◌, length, Some}
 use Rattle.gc_catalogue.specs.declared.call.Call.{Call}
 use Rattle.gc_client.specs.Ids.{Waits}
@@ -36,8 +36,8 @@ pub record TellsPast (deadline : ℕ) (acts : List Act) : Type 0 where
   pub at : acts ≡ earlier ++ telling ∷ later
   pub past : IsPast deadline telling
 
--- behind these acts, this act puts the very request of a record: of its cycle and place, behind the moment that the record has for it, and
--- for its call
+-- after these acts, this act puts the very request of record `r`: the station's next action is a send; the cycle and the place are the
+-- record's; the moment told last is the one that the record has as `sent`; and what is put is the request line of the record's call
 pub record IsOwnRequest (plan : Plan) (commands : List Task) (scope : Scope) (acts : List Act) (act : Act) (r : Record) : Type 0 where
   pub sends : action_at plan (stood plan commands scope acts) ≡ Send
   pub cycle : r.cycle ≡ cycles_begun plan (stood plan commands scope acts).progress
@@ -45,7 +45,7 @@ pub record IsOwnRequest (plan : Plan) (commands : List Task) (scope : Scope) (ac
   pub sent : r.sent ≡ Some (stood plan commands scope acts).progress.moment.utc
   pub put : Puts (request_text (stood plan commands scope acts).client r.command.call) act
 
--- behind these acts, this piece completes a line with this id
+-- after these acts, this piece completes a line with this id
 pub record Brings (plan : Plan) (commands : List Task) (scope : Scope) (acts : List Act) (piece : List ℕ) (id : ℕ) : Type 0 where
   pub front : List (List ℕ)
   pub line : List ℕ
@@ -53,7 +53,7 @@ pub record Brings (plan : Plan) (commands : List Task) (scope : Scope) (acts : L
   pub came : lines_behind (stood plan commands scope acts).rest piece ≡ front ++ line ∷ others
   pub has : heard line ≡ Some id
 
--- behind these acts, this act writes a record down
+-- after these acts, this act writes a record down
 pub record IsWrittenAt (plan : Plan) (commands : List Task) (scope : Scope) (acts : List Act) (act : Act) (r : Record) : Type 0 where
   pub earlier : List Record
   pub later : List Record
@@ -89,7 +89,7 @@ pub record IsOvertaken (plan : Plan) (commands : List Task) (scope : Scope) (bef
   pub reads : act ≡ Gave piece moment
   pub came : Brings plan commands scope (before ++ request ∷ between) piece (stood plan commands scope (before ++ request ∷ first)).client.next
 
--- behind these acts the station begins anew at this act: it reads the clock, and seven wait, which are all given up
+-- after these acts the station begins anew at this act: it reads the clock, and seven wait, which are all given up
 pub record BeginsAnew (plan : Plan) (commands : List Task) (scope : Scope) (acts : List Act) (act : Act) : Type 0 where
   pub renews : action_at plan (stood plan commands scope acts) ≡ Renew
   pub moment : Moment
@@ -97,14 +97,14 @@ pub record BeginsAnew (plan : Plan) (commands : List Task) (scope : Scope) (acts
   pub seven : length (stood plan commands scope acts).client.waiting ≡ WINDOW
   pub given_up : deadlines (stood plan commands scope acts).client.waiting ≡ []
 
--- behind these acts, this act is the last one: no act is behind it, and the run stops
+-- after these acts, this act is the last one: no act is after it, and the run stops
 pub record IsLast (plan : Plan) (commands : List Task) (scope : Scope) (acts : List Act) (act : Act) (behind : List Act) : Type 0 where
   pub none : behind ≡ []
   pub why : Cause
   pub stops : action_at plan (stood plan commands scope (acts ++ act ∷ [])) ≡ Stop why
 
--- among these acts the very request of a record was put, and behind it an act wrote the record down: it brought a line with the id of a
--- request that was put behind that one, or the station begins anew at it, or it is the last act
+-- among these acts the very request of a record was put, and after it an act wrote the record down: it brought a line with the id of a
+-- request that was put after that one, or the station begins anew at it, or it is the last act
 pub record IsLostIn (plan : Plan) (commands : List Task) (scope : Scope) (acts : List Act) (r : Record) : Type 0 where
   pub before : List Act
   pub request : Act
@@ -117,10 +117,11 @@ pub record IsLostIn (plan : Plan) (commands : List Task) (scope : Scope) (acts :
   pub shown : IsOvertaken plan commands scope before request between act
       ⊎ (BeginsAnew plan commands scope (before ++ request ∷ between) act ⊎ IsLast plan commands scope (before ++ request ∷ between) act behind)
 
--- if a record is late, its command was: by `IsLateIn`
+-- where a record says that its command is late, `IsLateIn` holds of it: the request went out, and its reply came too late
 abbrev pub IsTrulyLate : Plan → List Task → Scope → List Act → Record → Type 0
 IsTrulyLate plan commands scope acts r = r.end ≡ Late → IsLateIn plan commands scope acts r
 
--- if a record is lost, its command was: by `IsLostIn`
+-- where a record says that its command is lost, `IsLostIn` holds of it: the request went out, and no reply to it can be taken
+-- any more
 abbrev pub IsTrulyLost : Plan → List Task → Scope → List Act → Record → Type 0
 IsTrulyLost plan commands scope acts r = r.end ≡ Lost → IsLostIn plan commands scope acts r

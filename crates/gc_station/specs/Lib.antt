@@ -2,6 +2,7 @@ pub mod Causes
 pub mod Scopes
 pub mod Records
 pub mod Marks
+pub mod Zeros
 pub mod Lines
 pub mod Deciding
 pub mod Progressing
@@ -31,3 +32,4 @@ pub mod Room
 pub mod Cycles
 pub mod Pauses
 pub mod Nearness
+pub mod Qualities

@@ -1,12 +1,15 @@
--- Chains by the parts of a run, this project's own: the commands of a chain are requests of one part, each behind the answer of the one before it.
+-- Chains by the parts of a run, this project's own: the commands of a chain are requests of one part, each after the answer of the
+-- one before it. A part reaches from one beginning to the next (`Parts`). An act is one call of the link, with what came of it.
 use Rattle.std.specs.Prelude.{◌≡◌, ◌⊎◌, ℕ, suc, ◌<◌, ◌≤◌, true, List, ◌++◌, drop, length, Option, Some, slice_get}
 use Rattle.gc_catalogue.specs.declared.answer.Answer.{Answer}
 use Rattle.gc_links.specs.Acts.{Act}
 use Rattle.gc_texts.specs.Endings.{Answered}
-use Rattle.gc_texts.specs.declared.near.Near.{Near}
+use Rattle.gc_texts.specs.Qualities.{is_good}
+use Rattle.gc_texts.specs.declared.near.Expected.{Expected}
+use Rattle.gc_texts.specs.declared.quality.Quality.{Quality}
 use Rattle.gc_texts.specs.declared.tasks.Task.{Task}
-use Rattle.gc_station.specs.Marks.{is_value}
 use Rattle.gc_station.specs.Parts.{Part, mark_of, parts_of}
+use Rattle.gc_station.specs.Qualities.{IsOfQuality, accepted_at}
 use Rattle.gc_station.specs.Records.{Record}
 use Rattle.gc_station.specs.Runs.{stood}
 use Rattle.gc_station.specs.Scopes.{Scope}
@@ -14,7 +17,7 @@ use Rattle.gc_station.specs.Model.{Runs, is_chained, opening}
 use Rattle.gc_station.specs.declared.mark.Mark.{Mark}
 use Rattle.gc_station.specs.declared.plan.Plan.{Plan}
 
--- each command behind place a, up to place b, goes out only once the one before it was answered well
+-- each command after the one at place a, up to the one at place b, goes out only once the one before it was answered well
 abbrev pub AreChained : List Task → ℕ → ℕ → Type 0
 AreChained commands a b = (p : ℕ) → a < p → p ≤ b → is_chained (drop p commands) ≡ true
 
@@ -26,8 +29,8 @@ IsBefore i m j n = (i < j) ⊎ ((i ≡ j) × (m < n))
 abbrev pub parts : Plan → List Task → Scope → List Act → List Part
 parts plan commands scope acts = parts_of plan commands (opening plan scope) acts
 
--- the command at place a of this cycle has a record behind these acts, which is an answer, with both codes 0 and values that read; and this
--- part has its request
+-- after these acts, the command at place a of this cycle has a record, which is an answer of a good quality: with both codes 0
+-- and values that read, or with a return code that is accepted of that command. And `part` has the request of that command
 pub record IsAnsweredBack (plan : Plan) (commands : List Task) (scope : Scope) (acts : List Act) (part : Part) (cycle a : ℕ) : Type 0 where
   pub k : ℕ
   pub answer : Record
@@ -35,15 +38,17 @@ pub record IsAnsweredBack (plan : Plan) (commands : List Task) (scope : Scope) (
   pub own_cycle : answer.cycle ≡ cycle
   pub own_place : answer.place ≡ a
   pub line : List ℕ
+  pub quality : Quality
   pub said : Option Answer
-  pub answered : answer.end ≡ Answered said line
-  pub well : is_value (scope.reads answer.command.call line) ≡ true
+  pub answered : answer.end ≡ Answered quality said line
+  pub well : is_good quality ≡ true
+  pub says : IsOfQuality scope.reads (accepted_at commands a) answer.command.call quality said line
   pub m : ℕ
-  pub near : Option Near
-  pub mark : slice_get part.marks m ≡ Some (Some (mark_of near answer))
+  pub expected : Expected
+  pub mark : slice_get part.marks m ≡ Some (Some (mark_of expected answer))
 
--- the command of this cycle and place went out as request n of part i of a run: behind acts whose last part is the front of that one, with n
--- requests; and each command before it from which it is chained was answered by then, as a request of that very part
+-- the command of this cycle and place went out as request n of part i of a run, both counted from 0: after the acts `before`, part i is the
+-- last one and has n requests so far; and each earlier command of its chain was answered by then, as a request of that very part
 pub record IsSentBehind (plan : Plan) (commands : List Task) (scope : Scope) (acts : List Act) (i n cycle place : ℕ) : Type 0 where
   pub before : List Act
   pub rest : List Act
@@ -54,7 +59,7 @@ pub record IsSentBehind (plan : Plan) (commands : List Task) (scope : Scope) (ac
   pub count : length first.marks ≡ n
   pub chain : (a : ℕ) → a < place → AreChained commands a place → IsAnsweredBack plan commands scope before first cycle a
 
--- each command that goes out went out behind the answers of its chain, as a request of the same part of a run
+-- each command that goes out does so after the answers of all earlier commands of its chain, as a request of the same part of a run
 abbrev pub ChainsStay : Type 0
 ChainsStay =
     (plan : Plan) (commands : List Task) (scope : Scope) (acts : List Act) → Runs plan commands (opening plan scope) acts
@@ -68,7 +73,7 @@ MarksGoOn =
     → (i j m n : ℕ) (p q : Part) (a b : Mark) → slice_get (parts plan commands scope acts) i ≡ Some p → slice_get (parts plan commands scope acts) j ≡ Some q
     → slice_get p.marks m ≡ Some (Some a) → slice_get q.marks n ≡ Some (Some b) → IsBefore i m j n → IsBefore a.cycle a.place b.cycle b.place
 
--- the records behind some acts stay, in front of those of the acts that follow
+-- the records after some acts stay, in front of those of the acts that follow
 abbrev pub RecordsStay : Type 0
 RecordsStay =
     (plan : Plan) (commands : List Task) (scope : Scope) (before rest : List Act)

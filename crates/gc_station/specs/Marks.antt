@@ -7,9 +7,15 @@ use Rattle.gc_catalogue.specs.declared.answer.Reading.TheVariants as reading
 use Rattle.gc_catalogue.specs.declared.call.Call.{Call}
 use Rattle.gc_client.specs.Rule.{Settlement, Outcome, Answered, Late, Lost}
 use Rattle.gc_texts.specs.declared.commands.Command.{Command}
+use Rattle.gc_texts.specs.Codes.{are_accepted}
 use Rattle.gc_texts.specs.Endings.{End}
 use Rattle.gc_texts.specs.Nears.{is_elsewhere}
+use Rattle.gc_texts.specs.Qualities.{is_good}
+use Rattle.gc_texts.specs.Zeroed.{as_zero}
+use Rattle.gc_texts.specs.declared.near.Expected.{Expected}
 use Rattle.gc_texts.specs.declared.near.Near.{Near}
+use Rattle.gc_texts.specs.declared.quality.Quality.{Quality}
+use Rattle.gc_texts.specs.declared.quality.Quality.TheVariants as quality
 use Rattle.gc_texts.specs.Endings as end
 use Rattle.gc_station.specs.declared.mark.Mark.{Mark}
 use Rattle.gc_station.specs.Records.{Record}
@@ -20,25 +26,42 @@ commands_in [] = 0
 commands_in (None ∷ marks) = commands_in marks
 commands_in (Some mark ∷ marks) = suc (commands_in marks)
 
--- how a command ends whose reply is this answer, in this line: as elsewhere where the answer was measured elsewhere (`true`),
--- else as answered
-abbrev pub value_as : Bool → Answer → List ℕ → End
-value_as true answer line = end.Elsewhere line
-value_as false answer line = end.Answered (Some answer) line
+-- how a command ends whose reply, this line, has this answer: as elsewhere where the answer was measured elsewhere (`true`), else
+-- as answered, with this quality
+abbrev pub value_as : Quality → Bool → Answer → List ℕ → End
+value_as quality true answer line = end.Elsewhere line
+value_as quality false answer line = end.Answered quality (Some answer) line
 
--- how a command ends whose reply in time, this line, says this, and whose target stands at `near`, where the text says so: as
--- unreadable where the values don't read, as elsewhere where the answer was measured elsewhere, and else as answered, with the
--- answer where both codes are 0
-abbrev pub answer_as : Option Near → Reading → List ℕ → End
-answer_as near (reading.Unreadable fault) line = end.Unreadable line fault
-answer_as near (reading.Value answer) line = value_as (is_elsewhere near answer) answer line
-answer_as near _ line = end.Answered None line
+-- how a command ends whose reply, this line, has a return code that is accepted. The reading is the one that the reply would have if its
+-- return code were 0. Where that is an answer, the command ends with a warning and the answer, or as elsewhere if the answer was measured
+-- elsewhere than near this place; and else with a warning and no answer
+abbrev pub warned_as : Option Near → Reading → List ℕ → End
+warned_as near (reading.Value answer) line = value_as quality.Warning (is_elsewhere near answer) answer line
+warned_as near (reading.Refused code) line = end.Answered quality.Warning None line
+warned_as near (reading.ComFault code) line = end.Answered quality.Warning None line
+warned_as near (reading.Unreadable fault) line = end.Answered quality.Warning None line
 
--- how a command ended whose request had this outcome, where replies say what `reads` gives
-abbrev pub end_of : (Call → List ℕ → Reading) → Option Near → Call → Outcome → End
-end_of reads near call (Answered line) = answer_as near (reads call line) line
-end_of reads near call Late = end.Late
-end_of reads near call Lost = end.Lost
+-- how a command ends whose reply, this line, has a return code other than 0, which is accepted (`true`) or not, and would say `zeroed`
+-- with return code 0
+abbrev pub refused_as : Bool → Option Near → Reading → List ℕ → End
+refused_as true near zeroed line = warned_as near zeroed line
+refused_as false near zeroed line = end.Answered quality.Refused None line
+
+-- how a command ends whose reply came in time. The reply is this line, which says the first of these readings, and would say
+-- `zeroed` with return code 0. `expected` says where the target stands, if the text does, and which return codes are accepted.
+-- As unreadable: both codes are 0, and the values don't read. As elsewhere: the answer was measured elsewhere than its target
+-- stands. Else as answered: fine with both codes 0, with a warning where the return code is accepted, and else refused
+abbrev pub answer_as : Expected → Reading → Reading → List ℕ → End
+answer_as expected (reading.Unreadable fault) zeroed line = end.Unreadable line fault
+answer_as expected (reading.Value answer) zeroed line = value_as quality.Fine (is_elsewhere expected.near answer) answer line
+answer_as expected (reading.Refused code) zeroed line = refused_as (are_accepted expected.accepted code) expected.near zeroed line
+answer_as expected (reading.ComFault code) zeroed line = end.Answered quality.Refused None line
+
+-- how a command ended whose request had this outcome, where replies say what `reads` gives, and this is expected of the answer
+abbrev pub end_of : (Call → List ℕ → Reading) → Expected → Call → Outcome → End
+end_of reads expected call (Answered line) = answer_as expected (reads call line) (reads call (as_zero line)) line
+end_of reads expected call Late = end.Late
+end_of reads expected call Lost = end.Lost
 
 -- the command that was settled
 abbrev pub command_of : Settlement → Command
@@ -52,35 +75,29 @@ record_of reads utc mark settlement = record {
   cycle = mark.cycle;
   place = mark.place;
   command = command_of settlement;
-  end = end_of reads mark.near settlement.call settlement.outcome;
+  end = end_of reads mark.expected settlement.call settlement.outcome;
 }
 
--- the records of the requests that were settled at a moment, which are the oldest of those with these marks; a null procedure has no
--- record
+-- the records of these settlements, all made at the moment `utc`. The marks are those of all requests that waited, the oldest first: the
+-- first settlement is of the first mark, and so on, and marks without a settlement still wait. A null procedure has no mark, and no
+-- record. `reads` gives what a reply's line says of a call
 abbrev pub records_of : (Call → List ℕ → Reading) → ℕ → List (Option Mark) → List Settlement → List Record
 records_of reads utc [] settlements = []
 records_of reads utc (mark ∷ marks) [] = []
 records_of reads utc (None ∷ marks) (settlement ∷ others) = records_of reads utc marks others
 records_of reads utc (Some mark ∷ marks) (settlement ∷ others) = record_of reads utc mark settlement ∷ records_of reads utc marks others
 
--- whether what a reply says is an answer: both codes are 0, and its values read
-abbrev pub is_value : Reading → Bool
-is_value (reading.Value answer) = true
-is_value (reading.Refused code) = false
-is_value (reading.ComFault code) = false
-is_value (reading.Unreadable fault) = false
-
--- whether a command that ended so was answered well
-abbrev pub is_well : (Call → List ℕ → Reading) → Call → End → Bool
-is_well reads call (end.Answered answer line) = is_value (reads call line)
-is_well reads call (end.Unreadable line fault) = false
-is_well reads call (end.Elsewhere line) = false
-is_well reads call end.Late = false
-is_well reads call end.Lost = false
-is_well reads call end.Skipped = false
-is_well reads call end.Missed = false
+-- whether a command that ended so was answered well: fine, or with a warning
+abbrev pub is_well : End → Bool
+is_well (end.Answered quality answer line) = is_good quality
+is_well (end.Unreadable line fault) = false
+is_well (end.Elsewhere line) = false
+is_well end.Late = false
+is_well end.Lost = false
+is_well end.Skipped = false
+is_well end.Missed = false
 
 -- whether the last of these records is of a command that was answered well; where there are none, `well`
-abbrev pub last_well : (Call → List ℕ → Reading) → Bool → List Record → Bool
-last_well reads well [] = well
-last_well reads well (r ∷ others) = last_well reads (is_well reads r.command.call r.end) others
+abbrev pub last_well : Bool → List Record → Bool
+last_well well [] = well
+last_well well (r ∷ others) = last_well (is_well r.end) others

@@ -1,5 +1,5 @@
--- What a station is after the acts of its link, this project's own: the client's rule over what really happened, and how far
--- the station is. Each act is the one that the station was to make next.
+-- What a station is after the acts of its link, this project's own: the client's rule over what really happened, and how far the
+-- station is. Each act is the one that the station was to make next. An act is one call of the link, with what came of it.
 use Rattle.std.specs.Prelude.{◌≡◌, ℕ, ◌+◌, ◌-◌, ◌<◌, ◌||◌, Bool, true, false, List, [], ◌∷◌, ◌++◌, length, drop, Option, Some, None, if◌then◌else◌, nat_eq}
 use Rattle.std.specs.List.{filter_map}
 use Rattle.gc_lines.specs.Frames.{line_in, rest_behind}
@@ -11,7 +11,8 @@ use Rattle.gc_catalogue.specs.declared.call.Call.TheVariants.{NullProc}
 use Rattle.gc_catalogue.specs.Texts.{request_line}
 use Rattle.gc_client.specs.declared.window.TheConstants.{WINDOW}
 use Rattle.gc_client.specs.Rule.{ById, Settlement, Settled, Sending, fresh, sends, hears, heard, expires, restarts, deadlines}
-use Rattle.gc_texts.specs.declared.near.Near.{Near}
+use Rattle.gc_texts.specs.Codes.{no_codes}
+use Rattle.gc_texts.specs.declared.near.Expected.{Expected}
 use Rattle.gc_texts.specs.declared.tasks.Task.{Task}
 use Rattle.gc_links.specs.declared.link.Moment.{Moment}
 use Rattle.gc_station.specs.declared.plan.Plan.{Plan}
@@ -55,7 +56,7 @@ waiting_of s = record {
   all = length s.client.waiting;
   current = length (deadlines s.client.waiting);
   commands = commands_in s.marks;
-  well = last_well s.reads false s.records;
+  well = last_well false s.records;
 }
 
 -- the next action
@@ -70,15 +71,16 @@ place_next commands p = length commands - p.unsent
 abbrev pub cycles_begun : Plan → Progress → ℕ
 cycles_begun plan p = plan.cycles - p.left
 
--- where the target of the first of these commands stands, where the text says so
-abbrev pub near_first : List Task → Option Near
-near_first [] = None
-near_first (task ∷ others) = task.near
+-- what is expected of the answer of the first of these commands: where its target stands, if the text says so, and which return codes
+-- are accepted
+abbrev pub expected_first : List Task → Expected
+expected_first [] = record { near = None; accepted = no_codes }
+expected_first (task ∷ others) = record { near = task.near; accepted = task.accepted }
 
--- the mark of the next command: its cycle, its place, the moment told last, and where its target stands
+-- the mark of the next command: its cycle, its place, the moment told last, and what is expected of its answer
 abbrev pub mark_next : Plan → List Task → Progress → Mark
 mark_next plan commands p =
-    record { cycle = cycles_begun plan p; place = place_next commands p; sent = p.moment.utc; near = near_first (drop (place_next commands p) commands) }
+    record { cycle = cycles_begun plan p; place = place_next commands p; sent = p.moment.utc; expected = expected_first (drop (place_next commands p) commands) }
 
 -- how many commands of the cycle were sent or passed over: none before the first cycle
 abbrev pub requests_out : Plan → List Task → Progress → ℕ
@@ -88,8 +90,8 @@ requests_out plan commands p = if nat_eq p.left plan.cycles then 0 else place_ne
 abbrev pub request_text : ById → Call → List ℕ
 request_text client call = with_end (request_line (Some client.next) call)
 
--- the bytes of the null procedure that a beginning asks for, where these ids of its word aren't answered: it has the first of them. No bytes
--- where all are answered
+-- the bytes of the null procedure that goes out while the station begins, where these ids aren't answered: it has the first of them. No
+-- bytes where all are answered
 abbrev pub null_text : List ℕ → List ℕ
 null_text [] = []
 null_text (asked ∷ others) = with_end (request_line (Some asked) NullProc)
@@ -104,7 +106,7 @@ abbrev pub is_chained : List Task → Bool
 is_chained [] = false
 is_chained (task ∷ others) = task.chained
 
--- whether the command behind the next one goes out only once the next one was answered well. In a missed cycle, where none goes
+-- whether the command after the next one goes out only once the next one was answered well. In a missed cycle, where none goes
 -- out, this holds of each command
 abbrev pub is_chained_behind_next : List Task → Progress → Bool
 is_chained_behind_next commands p = p.missed || is_chained (drop (place_next commands p + 1) commands)
@@ -161,12 +163,13 @@ with_progress f s = record s { progress = f s.progress }
 abbrev pub with_moment : Moment → Model → Model
 with_moment m s = record s { client = expires s.client m.elapsed }
 
--- the client behind a send; where the send was refused (`None`), the client as it was
+-- the client after a send; where the send was refused (`None`), the client as it was
 abbrev pub client_sent : ById → Option (Sending ById) → ById
 client_sent client None = client
 client_sent client (Some x) = x.client
 
--- the model once a request was sent with this mark; it waits for `wait` milliseconds from the moment told last
+-- the model once a request for this target, with this call and this mark, was sent; it waits for `wait` milliseconds from the
+-- moment told last
 abbrev pub asks : ℕ → ℕ → Call → Option Mark → Model → Model
 asks wait target call mark s = record s {
   client = client_sent s.client (sends WINDOW s.client target call (later s.progress.moment.elapsed wait));
@@ -201,7 +204,7 @@ abbrev pub skips : Plan → List Task → Progress → Act → List Record
 skips plan commands p (Told m) = skips_first p m (mark_next plan commands p) (drop (place_next commands p) commands)
 skips plan commands p _ = []
 
--- the model with these records behind those that it has
+-- the model with these records after those that it has
 abbrev pub with_records : List Record → Model → Model
 with_records records s = record s { records = s.records ++ records }
 
@@ -212,20 +215,20 @@ with_settled settlements s = record s {
   marks = drop (length settlements) s.marks;
 }
 
--- the model behind what a client settled: with the records of these settlements, and the client as it then is
+-- the model after what a client settled: with the records of these settlements, and the client as it then is
 abbrev pub settles : Settled ById → Model → Model
 settles x s = with_client x.client (with_settled x.settlements s)
 
--- the model behind a line that came
+-- the model after a line that came
 abbrev pub line_came : Model → List ℕ → Model
 line_came s line = with_progress (noted (is_reply line)) (settles (hears s.client line (heard line)) s)
 
--- the model behind lines that came, in order
+-- the model after lines that came, in order
 abbrev pub lines_came : Model → List (List ℕ) → Model
 lines_came s [] = s
 lines_came s (line ∷ others) = lines_came (line_came s line) others
 
--- the lines that a piece completes behind the bytes since the last line feed
+-- the lines that a piece completes after the bytes since the last line feed
 abbrev pub lines_behind : List ℕ → List ℕ → List (List ℕ)
 lines_behind rest piece = filter_map line_in (frames_behind rest piece)
 
@@ -233,11 +236,11 @@ lines_behind rest piece = filter_map line_in (frames_behind rest piece)
 abbrev pub with_rest : List ℕ → Model → Model
 with_rest rest s = record s { rest = rest }
 
--- the model behind a piece whose lines are heard, in order
+-- the model after a piece whose lines are heard, in order
 abbrev pub piece_came : List ℕ → Model → Model
 piece_came piece s = lines_came (with_rest (rest_behind s.rest piece) s) (lines_behind s.rest piece)
 
--- the model behind a piece whose lines are heard while the station begins, in order
+-- the model after a piece whose lines are heard while the station begins, in order
 abbrev pub piece_asked : List ℕ → Model → Model
 piece_asked piece s = with_progress (λ p. lines_asked p (lines_behind s.rest piece)) (with_rest (rest_behind s.rest piece) s)
 
@@ -251,8 +254,9 @@ is_heard phase.Ready = true
 is_heard (phase.Closing cause) = false
 is_heard (phase.Over cause) = false
 
--- the model behind a piece that is heard, or is dropped; while a station begins, with these ids unanswered, what comes
--- behind the last answer in its piece is dropped
+-- the model after a piece, with the ids of the beginning that aren't answered. If the piece is heard (`true`), the client hears
+-- it where none of these ids is left, and else the beginning does; the client doesn't hear what follows the beginning's last
+-- answer in that piece. If it isn't heard (`false`), it is dropped
 abbrev pub came : Bool → List ℕ → List ℕ → Model → Model
 came true [] piece s = piece_came piece s
 came true (asked ∷ others) piece s = piece_asked piece s
@@ -263,13 +267,13 @@ came false word piece s = s
 abbrev pub reckoned : Plan → Until → ℕ → Model → Model
 reckoned plan until before s = with_progress (λ p. reckoned_early plan (commands_in s.marks) (gave plan until before (waiting_of s) p)) s
 
--- the model behind a piece that came by this moment: requests whose deadline has come are given up first, and then the piece
+-- the model after a piece that came by this moment: requests whose deadline has come are given up first, and then the piece
 -- is heard
 abbrev pub piece_at : Plan → Until → List ℕ → Moment → Model → Model
 piece_at plan until piece m s =
     reckoned plan until (commands_in s.marks) (came (is_heard s.progress.phase) s.progress.word piece (with_moment m (with_progress (told m) s)))
 
--- the model behind a read
+-- the model after a read
 abbrev pub after_read : Plan → Until → Model → Act → Model
 after_read plan until s (Gave bytes m) = piece_at plan until bytes m s
 after_read plan until s (Silent m) = with_moment m (with_progress (silent plan until m) s)
@@ -277,28 +281,28 @@ after_read plan until s Ended = with_progress (failing cause.End) s
 after_read plan until s Broke = with_progress (failing cause.Read) s
 after_read plan until s _ = with_progress (failing cause.Clock) s
 
--- the model behind an act that reads the clock: its progress is changed by `f` or, where the clock couldn't be read, fails for
+-- the model after an act that reads the clock: its progress is changed by `f` or, where the clock couldn't be read, fails for
 -- that
 abbrev pub after_clock : (Moment → Progress → Progress) → Model → Act → Model
 after_clock f s (Told m) = with_moment m (with_progress (f m) s)
 after_clock f s _ = with_progress (failing cause.Clock) s
 
--- the model behind a write, changed by `f`. Where the bytes were cut, the connection is to be closed besides, for a cause that names
+-- the model after a write, changed by `f`. Where the bytes were cut, the connection is to be closed besides, for a cause that names
 -- this number of requests
 abbrev pub after_put : ℕ → (Model → Model) → Model → Act → Model
 after_put requests f s (Cut bytes count) = with_progress (failing (cause.Write requests count)) (f s)
 after_put requests f s _ = f s
 
--- the model behind an attempt to connect
+-- the model after an attempt to connect
 abbrev pub after_open : Plan → Model → Act → Model
 after_open plan s Opened = with_progress opened s
 after_open plan s _ = with_progress (again plan (commands_in s.marks) cause.Open) s
 
--- the model behind a close: the bytes of a line are forgotten, and what waits goes on waiting
+-- the model after a close: the bytes of a line are forgotten, and what waits goes on waiting
 abbrev pub after_close : Plan → Cause → Model → Model
 after_close plan cause s = with_progress (closed plan (waiting_of s) cause) (with_rest [] s)
 
--- the model behind an act that performs this action, apart from the turn that is taken
+-- the model after an act that performs this action, apart from the turn that is taken
 abbrev pub moved : Plan → List Task → Action → Model → Act → Model
 moved plan commands ReadClock s act = after_clock (λ m p. reckoned_early plan (commands_in s.marks) (told m p)) s act
 moved plan commands Renew s act = after_clock (λ m p. reckoned_early plan 0 (renewed plan m p)) s act
@@ -323,11 +327,11 @@ losing false s = s
 abbrev pub ended : Model → Model
 ended s = losing (loses_all s.progress) s
 
--- the model behind an act: a turn is taken, then `moved` for the action that was next, then `ended`
+-- the model after an act: a turn is taken, then `moved` for the action that was next, then `ended`
 abbrev pub after : Plan → List Task → Model → Act → Model
 after plan commands s act = ended (moved plan commands (action_at plan s) (with_progress turned s) act)
 
--- the model behind acts, in order
+-- the model after acts, in order
 abbrev pub after_all : Plan → List Task → Model → List Act → Model
 after_all plan commands s [] = s
 after_all plan commands s (act ∷ acts) = after_all plan commands (after plan commands s act) acts

@@ -1,16 +1,21 @@
--- Where an answer was measured, this project's own: whatever the line, the instrument or a hand at it did, an answered command of a target
--- that stands somewhere was measured there, as far as its answer has a direction.
-use Rattle.std.specs.Prelude.{◌≡◌, ℕ, List, Some, slice_get}
+-- Where an answer was measured, this project's own: whatever the line, the instrument or a hand at it did, an answered command of a
+-- target that stands somewhere was measured there, as far as its answer has a direction. An act is one call of the link, with what
+-- came of it.
+use Rattle.std.specs.Prelude.{◌≡◌, ◌⊎◌, ℕ, true, List, Some, slice_get}
 use Rattle.std.specs.List.{AllByRecursion}
 use Rattle.gc_catalogue.specs.declared.answer.Answer.{Answer}
 use Rattle.gc_catalogue.specs.declared.answer.Reading.{Reading}
-use Rattle.gc_catalogue.specs.declared.answer.Reading.TheVariants.{Value}
+use Rattle.gc_catalogue.specs.declared.answer.Reading.TheVariants.{Value, Refused}
 use Rattle.gc_catalogue.specs.declared.call.Call.{Call}
 use Rattle.gc_values.specs.Directions.{IsNear}
 use Rattle.gc_values.specs.declared.direction.Direction.{Direction}
+use Rattle.gc_texts.specs.Codes.{are_accepted}
 use Rattle.gc_texts.specs.Endings.{Answered, Elsewhere}
 use Rattle.gc_texts.specs.Nears.{direction_of}
+use Rattle.gc_texts.specs.Zeroed.{as_zero}
+use Rattle.gc_texts.specs.declared.codes.Codes.{Codes}
 use Rattle.gc_texts.specs.declared.near.Near.{Near}
+use Rattle.gc_texts.specs.declared.quality.Quality.{Quality}
 use Rattle.gc_texts.specs.declared.tasks.Task.{Task}
 use Rattle.gc_links.specs.Acts.{Act}
 use Rattle.gc_station.specs.Records.{Record}
@@ -18,21 +23,29 @@ use Rattle.gc_station.specs.Runs.{stood}
 use Rattle.gc_station.specs.Scopes.{Scope}
 use Rattle.gc_station.specs.declared.plan.Plan.{Plan}
 
--- a record that is answered, of a command whose target stands somewhere, and that has a direction, is near it
+-- if a record is answered, its answer has a direction, and the text says where its command's target stands, then that direction
+-- is near that place, within its tolerance
 abbrev pub IsAtItsTarget : List Task → Record → Type 0
 IsAtItsTarget commands r =
-    (task : Task) (near : Near) (answer : Answer) (line : List ℕ) (d : Direction) → slice_get commands r.place ≡ Some task → task.near ≡ Some near
-    → r.end ≡ Answered (Some answer) line → direction_of answer ≡ Some d → IsNear d near.place near.tolerance
+    (task : Task) (near : Near) (quality : Quality) (answer : Answer) (line : List ℕ) (d : Direction) → slice_get commands r.place ≡ Some task → task.near ≡ Some near
+    → r.end ≡ Answered quality (Some answer) line → direction_of answer ≡ Some d → IsNear d near.place near.tolerance
 
--- a record that is elsewhere is of an answer, with both codes 0 and values that read, whose direction isn't near where its
--- target stands
+-- this line says this answer of the call: it has both codes 0; or it has an accepted return code, and says the answer once 0
+-- stands in place of that code
+abbrev pub HasAnswer : (Call → List ℕ → Reading) → Codes → Call → List ℕ → Answer → Type 0
+HasAnswer reads accepted call line answer =
+    (reads call line ≡ Value answer)
+    ⊎ ((code : ℕ) × (reads call line ≡ Refused code) × (are_accepted accepted code ≡ true) × (reads call (as_zero line) ≡ Value answer))
+
+-- if a record ended as elsewhere, its line says an answer (`HasAnswer`), the text says where the command's target stands, and
+-- the answer's direction isn't near that place
 abbrev pub IsTrulyElsewhere : (Call → List ℕ → Reading) → List Task → Record → Type 0
 IsTrulyElsewhere reads commands r =
     (task : Task) (line : List ℕ) → slice_get commands r.place ≡ Some task → r.end ≡ Elsewhere line
-    → (answer : Answer) × (near : Near) × (d : Direction) × (reads r.command.call line ≡ Value answer) × (task.near ≡ Some near) × (direction_of answer ≡ Some d)
+    → (answer : Answer) × (near : Near) × (d : Direction) × HasAnswer reads task.accepted r.command.call line answer × (task.near ≡ Some near) × (direction_of answer ≡ Some d)
     × (IsNear d near.place near.tolerance → ⊥)
 
--- each record behind any acts is `IsAtItsTarget`, and `IsTrulyElsewhere`
+-- after any acts, `IsAtItsTarget` and `IsTrulyElsewhere` hold of each record
 abbrev pub AnswersAreAtTheirTargets : Type 0
 AnswersAreAtTheirTargets =
     (plan : Plan) (commands : List Task) (scope : Scope) (acts : List Act)

@@ -51,12 +51,13 @@ cycle_of plan p = plan.cycles - p.left
 abbrev pub has_overrun : Plan → Progress → Bool
 has_overrun plan p = not p.early && not p.missed && is_due plan p && nat_lt 0 p.left && nat_lt 0 plan.every
 
--- the cycle that is to be reported as overrun: the one that began last, if it has overrun and is behind `told`, the last one that was
+-- the cycle that is to be reported as overrun: the one that began last, if it has overrun and is after `told`, the last one that was
 -- reported
 abbrev pub overrun : Plan → Progress → ℕ → Option ℕ
 overrun plan p told = if has_overrun plan p && nat_lt told (cycle_of plan p) then Some (cycle_of plan p) else None
 
--- the last cycle that is reported as overrun by then: this one, if one was to be reported, else `told`
+-- the number of the last cycle that was reported as overrun: the given cycle, if one is to be reported now, else `told` as
+-- before
 abbrev pub told_then : ℕ → Option ℕ → ℕ
 told_then told None = told
 told_then told (Some cycle) = cycle

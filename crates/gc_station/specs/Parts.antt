@@ -1,10 +1,11 @@
--- A run of a station as its client has it, this project's own: a part for each beginning, with what happens while the station begins, then
--- the client's steps, and which command each request is that goes out.
+-- A run of a station as its client has it, this project's own: a part for each beginning, with what happens while the station
+-- begins, then the client's steps, and which command each request is that goes out. An act is one call of the link, with what came
+-- of it.
 use Rattle.std.specs.Prelude.{◌≡◌, ℕ, ◌&&◌, Bool, true, false, if◌then◌else◌, List, [], ◌∷◌, ◌++◌, drop, map, Option, Some, None, slice_get, unwrap_or}
 use Rattle.gc_catalogue.specs.declared.call.Call.{Call}
 use Rattle.gc_catalogue.specs.declared.call.Call.TheVariants.{NullProc}
 use Rattle.gc_client.specs.OneForOne.{Asked, Step, Send, Hear, Expire}
-use Rattle.gc_texts.specs.declared.near.Near.{Near}
+use Rattle.gc_texts.specs.declared.near.Expected.{Expected}
 use Rattle.gc_texts.specs.declared.tasks.Task.{Task}
 use Rattle.gc_texts.specs.Endings.{End, Answered, Unreadable, Elsewhere, Late, Lost, Skipped, Missed}
 use Rattle.gc_station.specs.declared.plan.Plan.{Plan}
@@ -42,15 +43,17 @@ only steps = record { turns = []; steps = steps; marks = [] }
 abbrev pub nothing : Part
 nothing = only []
 
--- one part and another behind it, as one
+-- one part and another after it, as one
 abbrev pub joined : Part → Part → Part
 joined p q = record { turns = p.turns ++ q.turns; steps = p.steps ++ q.steps; marks = p.marks ++ q.marks }
 
--- the part of a request that goes out
+-- the part of a request that goes out: for this target, with this call, this deadline, and this mark (`None` for a null
+-- procedure)
 abbrev pub asking : ℕ → Call → ℕ → Option Mark → Part
 asking target call deadline mark = record { turns = []; steps = Send target call deadline ∷ []; marks = mark ∷ [] }
 
--- the part of the first of these commands, whose request goes out at this moment
+-- the part of the first of these commands, whose request goes out at the moment `now` with this mark; nothing where there is no
+-- command
 abbrev pub asking_first : ℕ → Mark → List Task → Part
 asking_first now mark [] = nothing
 asking_first now mark (task ∷ others) = asking task.command.target task.command.call (later now task.deadline) (Some mark)
@@ -63,7 +66,7 @@ putting plan commands s action.Send =
     asking_first s.progress.moment.elapsed (mark_next plan commands s.progress) (drop (place_next commands s.progress) commands)
 putting plan commands s _ = nothing
 
--- the client's steps for a piece behind these bytes since the last line feed: it hears the piece line by line; or, where the piece is
+-- the client's steps for a piece after these bytes since the last line feed: it hears the piece line by line; or, where the piece is
 -- dropped, nothing, as if the lines were lost on the way
 abbrev pub hearing : Bool → List ℕ → List ℕ → List Step
 hearing true rest piece = map Hear (lines_behind rest piece)
@@ -91,12 +94,13 @@ beginning s action act = nothing
 abbrev pub acting : Plan → List Task → Model → Action → Act → Part
 acting plan commands s action act = if has_begun s.progress then doing plan commands s action act else beginning s action act
 
--- whether a part ends with this act: behind it all requests that wait are lost, because the station begins anew or no act follows. An act of
+-- whether a part ends with this act: after it all requests that wait are lost, because the station begins anew or no act follows. An act of
 -- a beginning ends no part, because nothing waits then
 abbrev pub ends_part : Plan → List Task → Model → Act → Bool
 ends_part plan commands s act = has_begun s.progress && loses_all (after plan commands s act).progress
 
--- the parts of an act and of the acts behind it: the act's is a part of its own where the act ends it, and else the front of the first one
+-- the parts of an act, in which p happens, and of the acts after it: where the act ends a part (`true`), p is a part of its own, in front
+-- of the others; else p is the front of the first of them
 abbrev pub in_front : Part → Bool → List Part → List Part
 in_front p true parts = p ∷ parts
 in_front p false [] = p ∷ []
@@ -108,7 +112,7 @@ parts_of plan commands s [] = nothing ∷ []
 parts_of plan commands s (act ∷ acts) =
     in_front (acting plan commands s (action_at plan s) act) (ends_part plan commands s act) (parts_of plan commands (after plan commands s act) acts)
 
--- a request with this mark asks this: what the command of the mark asks, or a null procedure where there is no mark
+-- a request with this mark is for the target and the call of `a`: those of the mark's command, or a null procedure where there is no mark
 abbrev pub IsOf : List Task → Option Mark → Asked → Type 0
 IsOf commands None a = a ≡ record { target = 0; call = NullProc }
 IsOf commands (Some mark) a = (task : Task) × (slice_get commands mark.place ≡ Some task) × (a ≡ of_task task)
@@ -121,7 +125,7 @@ AreOf commands _ _ = ⊥
 
 -- whether the request of a command that ended so went out
 abbrev pub went_out : End → Bool
-went_out (Answered answer line) = true
+went_out (Answered quality answer line) = true
 went_out (Unreadable line fault) = true
 went_out (Elsewhere line) = true
 went_out Late = true
@@ -139,10 +143,10 @@ abbrev pub sent_of : List Record → List Record
 sent_of [] = []
 sent_of (r ∷ rs) = sent_with (went_out r.end) r (sent_of rs)
 
--- the mark of the command that a record is of, whose target stands at `near`, where the text says so; 0 as the moment of
--- sending where the record has none
-abbrev pub mark_of : Option Near → Record → Mark
-mark_of near r = record { cycle = r.cycle; place = r.place; sent = unwrap_or r.sent 0; near = near }
+-- the mark of the command that a record is of, where this is expected of its answer; 0 as the moment of sending where the record has
+-- none
+abbrev pub mark_of : Expected → Record → Mark
+mark_of expected r = record { cycle = r.cycle; place = r.place; sent = unwrap_or r.sent 0; expected = expected }
 
 -- a record with 0 for the moment of its end
 abbrev pub timeless : Record → Record

@@ -1,4 +1,5 @@
--- How often a station connects anew, and how long it pauses before that, by its failures in a row: this project's own.
+-- How often a station connects anew, and how long it pauses before that, by its failures in a row: this project's own. An act is
+-- one call of the link, with what came of it.
 use Rattle.std.specs.Prelude.{◌≡◌, ◌⊎◌, ℕ, zero, suc, ◌+◌, ◌*◌, ◌<◌, ◌≤◌, true, false, List, min, max}
 use Rattle.gc_texts.specs.declared.tasks.Task.{Task}
 use Rattle.gc_links.specs.Acts.{Act}
@@ -19,7 +20,7 @@ abbrev pub doubled : ℕ → ℕ → ℕ
 doubled zero time = time
 doubled (suc n) time = 2 * doubled n time
 
--- the length of the pause behind n failures in a row: none behind none; the quiet time behind the first, and behind each
+-- the length of the pause after n failures in a row: none after none; the quiet time after the first, and after each
 -- further one twice the last pause, up to a minute and never below the quiet time
 abbrev pub pause_behind : Plan → ℕ → ℕ
 pause_behind plan zero = 0

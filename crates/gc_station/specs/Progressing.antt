@@ -1,4 +1,6 @@
--- What each act does to how far a station is, this project's own.
+-- What each act does to how far a station is, this project's own. That is its progress: the phase that it is in, the ids of the
+-- null procedures that aren't answered (`word`), the moment told last, and how many cycles, commands of the cycle, tries and
+-- turns are left. An act is one call of the link, with what came of it.
 use Rattle.std.specs.Prelude.{ℕ, ◌-◌, ◌&&◌, ◌||◌, Bool, true, false, not, if◌then◌else◌, nat_lt, nat_le, nat_eq, min, max, List, [], ◌∷◌, Option}
 use Rattle.gc_client.specs.Beginning.{the_word, is_answered, left_by}
 use Rattle.gc_client.specs.Rule.{heard}
@@ -40,22 +42,22 @@ at_start plan turns = record {
   turns = turns;
 }
 
--- the progress behind a turn
+-- the progress after a turn
 abbrev pub turned : Progress → Progress
 turned p = record p { turns = p.turns - 1 }
 
--- the progress once a moment was told otherwise than behind a read that gave nothing: the quiet time begins now. Where the
--- clock went back, the cycle began now at the latest, so that the next one isn't put off, and the line was alive now at the
--- latest
+-- the progress once the moment `m` was told, by any act but a read that gave nothing: the quiet time counts from `m`. Where the
+-- clock went back, so that the cycle's beginning (`began`) or the moment from which a dead line counts (`alive`) lies after
+-- `m`, it becomes `m`: so the next cycle isn't put off
 abbrev pub told : Moment → Progress → Progress
 told m p = record p { moment = m; since = m.elapsed; alive = min p.alive m.elapsed; began = min p.began m.elapsed; stale = false }
 
--- the moment that counts as the beginning of a cycle that is begun at this moment. For the first cycle, and where cycles
--- have no due moment, it is this one; for any other the moment at which the cycle was due, and this one at the latest
+-- the moment that counts as the beginning of a cycle that is begun at the moment `m`. For the first cycle, and where cycles
+-- have no due moment, it is `m`; for any other cycle the moment at which it was due, or `m` where that is earlier
 abbrev pub beginning : Plan → Moment → Progress → ℕ
 beginning plan m p = if nat_eq p.left plan.cycles || nat_eq plan.every 0 then m.elapsed else min (later p.began plan.every) m.elapsed
 
--- whether a cycle that would begin at this moment is missed: the one behind it is due by then
+-- whether a cycle that would begin at this moment is missed: the one after it is due by then
 abbrev pub is_missing : Plan → Moment → Progress → Bool
 is_missing plan m p = nat_lt 0 plan.every && nat_le plan.every (m.elapsed - beginning plan m p)
 
@@ -63,7 +65,7 @@ is_missing plan m p = nat_lt 0 plan.every && nat_le plan.every (m.elapsed - begi
 abbrev pub due_of : Plan → Moment → Progress → ℕ
 due_of plan m p = m.utc - (m.elapsed - beginning plan m p)
 
--- the progress behind the beginning of a cycle of `count` commands. Where it is missed, none of them goes out
+-- the progress after the beginning of a cycle of `count` commands. Where it is missed, none of them goes out
 abbrev pub begun : Plan → ℕ → Moment → Progress → Progress
 begun plan count m p =
     let q = told m p in
@@ -83,16 +85,16 @@ begun plan count m p =
 abbrev pub skipped_at : Moment → Progress → ℕ
 skipped_at m p = if p.missed then p.due else m.utc
 
--- the progress behind a command that isn't sent. `next_is_chained`: the one behind it goes out only once this one was
+-- the progress after a command that isn't sent. `next_is_chained`: the one after it goes out only once this one was
 -- answered well
 abbrev pub skipped : Bool → Moment → Progress → Progress
 skipped next_is_chained m p = let q = told m p in record q { unsent = p.unsent - 1; next_is_chained = next_is_chained; chain_unbroken = false }
 
--- the progress behind a failure for this cause: the connection is to be closed, and without a connection the run is over
+-- the progress after a failure for this cause: the connection is to be closed, and without a connection the run is over
 abbrev pub failing : Cause → Progress → Progress
 failing cause p = record p { phase = if is_up p.phase then phase.Closing cause else phase.Over cause }
 
--- the progress behind a connection that was made
+-- the progress after a connection that was made
 abbrev pub opened : Progress → Progress
 opened p = record p { phase = phase.Clearing }
 
@@ -101,7 +103,7 @@ abbrev pub is_spared : Plan → Cause → Progress → Bool
 is_spared plan cause.Open p = false
 is_spared plan _ p = is_idle plan p
 
--- the phase behind the loss of a connection, or behind an attempt that failed, while `commands` commands wait: the run is
+-- the phase after the loss of a connection, or after an attempt that failed, while `commands` commands wait: the run is
 -- done, or it tries again, or without a try left it is over for this cause
 abbrev pub phase_again : Plan → ℕ → Cause → Progress → Phase
 phase_again plan commands why p =
@@ -109,12 +111,12 @@ phase_again plan commands why p =
     else if is_spared plan why p || nat_lt 0 p.tries then phase.Pausing
     else phase.Over why
 
--- the length of the next pause: the quiet time behind a first failure, and behind each further one twice the last pause, up to
+-- the length of the next pause: the quiet time after a first failure, and after each further one twice the last pause, up to
 -- a minute. Where no connection is wanted it is the last pause. It is never below the quiet time
 abbrev pub pause_again : Plan → Cause → Progress → ℕ
 pause_again plan why p = if is_spared plan why p then max p.pause plan.quiet else max (min (later p.pause p.pause) 60000) plan.quiet
 
--- the progress behind a connection that was closed or couldn't be made: the next attempt takes a try, unless it is spared
+-- the progress after a connection that was closed or couldn't be made: the next attempt takes a try, unless it is spared
 abbrev pub again : Plan → ℕ → Cause → Progress → Progress
 again plan commands why p = record p {
   phase = phase_again plan commands why p;
@@ -124,15 +126,15 @@ again plan commands why p = record p {
   chain_unbroken = false;
 }
 
--- the progress behind the line feed: a connection is drained next, unless a beginning goes on with it
+-- the progress after the line feed: a connection is drained next, unless a beginning goes on with it
 abbrev pub cleared : Progress → Progress
 cleared p = record p { phase = if has_begun p then phase.Draining else phase.Ready; again = 0; asked = false; stale = true }
 
--- the progress behind a request: the time after which the line is dead begins with the first one behind a reply line
+-- the progress after a request: the time after which the line is dead begins with the first one after a reply line
 abbrev pub asking : Progress → Progress
 asking p = record p { alive = if p.asked then p.alive else p.moment.elapsed; asked = true; stale = true }
 
--- the progress behind the null procedure of the first id that isn't answered: it goes out again at its deadline
+-- the progress after the null procedure of the first id that isn't answered: it goes out again at its deadline
 abbrev pub null_sent : Plan → Progress → Progress
 null_sent plan p = let q = asking p in record q { again = later p.moment.elapsed plan.deadline }
 
@@ -141,35 +143,35 @@ null_sent plan p = let q = asking p in record q { again = later p.moment.elapsed
 abbrev pub renewed : Plan → Moment → Progress → Progress
 renewed plan m p = let q = told m p in record q { word = the_word; again = 0; asked = p.asked && goes_on plan q; chain_unbroken = false }
 
--- the progress behind the next command. `next_is_chained`: the one behind it goes out only once this one was answered well
+-- the progress after the next command. `next_is_chained`: the one after it goes out only once this one was answered well
 abbrev pub sent : Bool → Progress → Progress
 sent next_is_chained p = let q = asking p in record q { unsent = p.unsent - 1; next_is_chained = next_is_chained; chain_unbroken = true }
 
--- the progress behind a line that was heard: a reply line shows that the line is alive
+-- the progress after a line that was heard: a reply line shows that the line is alive
 abbrev pub noted : Bool → Progress → Progress
 noted is_reply p = record p { alive = if is_reply then p.moment.elapsed else p.alive; asked = if is_reply then false else p.asked }
 
--- the progress once a line with this id, or with none, was heard while the station begins: where that answers the first null
--- procedure that is left, the next one goes out at once
+-- the progress once a line with this id, or with none, was heard while the station begins: where the line answers the first
+-- null procedure that is left, the next null procedure goes out at once
 abbrev pub answered : Option ℕ → Progress → Progress
 answered id p = record p { word = left_by p.word id; again = if is_answered p.word id then 0 else p.again }
 
--- the progress behind a line that was heard while the station begins
+-- the progress after a line that was heard while the station begins
 abbrev pub line_asked : Progress → List ℕ → Progress
 line_asked p line = noted (is_reply line) (answered (heard line) p)
 
--- the progress behind the lines of a piece that were heard while the station begins, in order
+-- the progress after the lines of a piece that were heard while the station begins, in order
 abbrev pub lines_asked : Progress → List (List ℕ) → Progress
 lines_asked p [] = p
 lines_asked p (line ∷ others) = lines_asked (line_asked p line) others
 
--- whether the cycle counts as done early behind a read. A read until the next cycle is due shows that it was, because only a done cycle
--- has such a read; behind any other read it counts as before (`early`)
+-- whether the cycle counts as done early after a read. A read until the next cycle is due shows that it was, because only a done cycle
+-- has such a read; after any other read it counts as before (`early`)
 abbrev pub early_behind : Until → Bool → Bool
 early_behind Due early = true
 early_behind Limit early = early
 
--- the progress behind bytes that came: `before` commands waited before them, and `after` counts what waits behind them.
+-- the progress after bytes that came: `before` commands waited before them, and `after` counts what waits after them.
 -- Where a command was settled, all tries are left again, and the next pause is the quiet time
 abbrev pub gave : Plan → Until → ℕ → Waiting → Progress → Progress
 gave plan until before after p = record p {
@@ -186,14 +188,15 @@ pause_ended plan p = record p { phase = if is_past p.pause p && not (is_idle pla
 abbrev pub drained : Progress → Progress
 drained p = record p { phase = phase.Ready; alive = p.moment.elapsed; asked = false }
 
--- the progress behind a read of which nothing came: a pause, or a draining, that was long enough ends
+-- the progress after a read of which nothing came: a pause, or a draining, that was long enough ends
 abbrev pub quieted : Plan → Phase → Progress → Progress
 quieted plan phase.Pausing p = pause_ended plan p
 quieted plan phase.Draining p = if is_quiet plan p then drained p else p
 quieted plan _ p = p
 
--- the progress once a moment was told behind a read that gave nothing: the quiet time goes on. Where the clock went back, the quiet time
--- and the cycle began now at the latest, and the line was alive now at the latest
+-- the progress once the moment `m` was told by a read that gave nothing: the quiet time goes on. Where the clock went back, so
+-- that the start of the quiet time (`since`), the cycle's beginning (`began`) or the moment from which a dead line counts
+-- (`alive`) lies after `m`, it becomes `m`
 abbrev pub time_passed : Until → Moment → Progress → Progress
 time_passed until m p = record p {
   moment = m;
@@ -204,7 +207,7 @@ time_passed until m p = record p {
   early = early_behind until p.early;
 }
 
--- the progress behind a read that gave nothing until this moment
+-- the progress after a read that gave nothing until this moment
 abbrev pub silent : Plan → Until → Moment → Progress → Progress
 silent plan until m p = quieted plan p.phase (time_passed until m p)
 
@@ -217,7 +220,7 @@ reckoned_early plan commands p = record p { early = p.early || (nat_eq commands 
 abbrev pub ended_for : Cause → Progress → Progress
 ended_for why p = record p { phase = phase.Over why; chain_unbroken = false }
 
--- the progress behind a close: for `Done`, `Clock` and `Turns` no other connection is made; for any other cause `again` says whether
+-- the progress after a close: for `Done`, `Clock` and `Turns` no other connection is made; for any other cause `again` says whether
 abbrev pub closed : Plan → Waiting → Cause → Progress → Progress
 closed plan w cause.Done p = ended_for cause.Done p
 closed plan w cause.Clock p = ended_for cause.Clock p

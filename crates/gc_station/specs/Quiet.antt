@@ -1,4 +1,5 @@
--- Which acts are requests, stay on a connection, or are quiet: this project's own, in terms of the acts alone.
+-- Which acts are requests, stay on a connection, or are quiet: this project's own, in terms of the acts alone. An act is one call
+-- of the link, with what came of it.
 use Rattle.std.specs.Prelude.{◌≡◌, ◌≢◌, ℕ, ◌-◌, ◌≤◌, List, [], ◌∷◌, ◌++◌}
 use Rattle.std.specs.List.{AllByRecursion}
 use Rattle.gc_links.specs.declared.link.Moment.{Moment}
@@ -12,7 +13,7 @@ IsRequest (Put bytes) = bytes ≢ 10 ∷ []
 IsRequest (Cut bytes count) = bytes ≢ 10 ∷ []
 IsRequest _ = ⊥
 
--- an action sends a request of the client, and none of a beginning: the next command, or a null procedure behind requests that are all
+-- an action sends a request of the client, and none of a beginning: the next command, or a null procedure after requests that are all
 -- given up
 abbrev pub IsAsking : Action → Type 0
 IsAsking Send = Unit {0}
@@ -23,7 +24,7 @@ IsAsking _ = ⊥
 abbrev pub AsksNothing : Act → Type 0
 AsksNothing act = IsRequest act → ⊥
 
--- an act tells this moment, behind whatever came with it
+-- an act tells this moment, together with whatever else came of it
 abbrev pub TellsMoment : ℕ → Act → Type 0
 TellsMoment elapsed (Told m) = m.elapsed ≡ elapsed
 TellsMoment elapsed (Gave bytes m) = m.elapsed ≡ elapsed
@@ -55,7 +56,7 @@ StaysConnected Unopened = ⊥
 StaysConnected _ = Unit {0}
 
 -- these acts begin with a quiet time of `quiet` milliseconds, before anything goes out. First bytes may come; then an act told a moment; and
--- the reads behind it gave nothing, until one told a moment at least `quiet` milliseconds later by the clock. A quiet time of 0 has always
+-- the reads after it gave nothing, until one told a moment at least `quiet` milliseconds later by the clock. A quiet time of 0 has always
 -- passed, also where the clock went back
 pub record IsQuietFirst (quiet : ℕ) (acts : List Act) : Type 0 where
   pub drain : List Act

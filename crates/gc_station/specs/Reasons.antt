@@ -19,8 +19,8 @@ HasRoom plan w = (w.current < width_of plan) × (w.all < WINDOW)
 abbrev pub IsHeld : Progress → Type 0
 IsHeld p = (p.unsent ≡ 0) ⊎ (p.next_is_chained ≡ true)
 
--- no command may go out: the station hasn't begun; or there is no room; or `IsHeld` is so, and some commands wait, and some request
--- isn't given up
+-- no command may go out: the station hasn't begun; or there is no room; or all that may be sent was sent (`IsHeld`), and some
+-- commands wait, and some request isn't given up
 abbrev pub NothingMayGo : Plan → Progress → Waiting → Type 0
 NothingMayGo plan p w =
     (has_begun p ≡ false) ⊎ ((width_of plan ≤ w.current) ⊎ ((WINDOW ≤ w.all) ⊎ (IsHeld p × (0 < w.commands) × (0 < w.current))))
@@ -38,7 +38,7 @@ IsAtItsEnd plan p w Dead = NothingMayGo plan p w × (is_dead plan p w ≡ true)
 IsAtItsEnd plan p w Turns = p.turns ≡ 0
 IsAtItsEnd plan p w _ = ⊥
 
--- the conditions of this action, which hold where it is next
+-- what holds where this action is the next one; nothing is said of reading the clock and of a read
 abbrev pub IsFor : Plan → Progress → Waiting → Action → Type 0
 IsFor plan p w action.ReadClock = Unit {0}
 -- the station begins anew where seven wait, which are all given up

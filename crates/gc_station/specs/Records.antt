@@ -1,4 +1,4 @@
--- Records: what a station writes of each command that ended, this project's own.
+-- Records: what a station writes of each command that ended, this project's own. A book is what takes their texts, in order.
 use Rattle.std.specs.Prelude.{◌≡◌, ℕ, ◌<◌, List, ◌∷◌, ◌++◌, length, take, Option, Result, Ok, Err}
 use Rattle.std.specs.List.{flat_map}
 use Rattle.std.specs.Io.KnownBytes.{Appends}
@@ -10,8 +10,8 @@ use Rattle.gc_catalogue.specs.declared.answer.Reading.{Reading}
 use Rattle.gc_catalogue.specs.declared.call.Call.{Call}
 use Rattle.gc_station.specs.Scopes.{AreReadings}
 
--- how a command ended: the moment told last before its request went out, if it did; the moment of its end; its cycle and its place in that;
--- what it asked and whom; and its ending
+-- how a command ended: the moment told last before its request went out, if it did (`sent`); the moment of its end (`utc`),
+-- both by the clock of time stamps; its cycle, and its place in the cycle; what it asked, and whom; and its ending
 pub record Record : Type 0 where
   pub sent : Option ℕ
   pub utc : ℕ
@@ -29,12 +29,12 @@ abbrev pub Writes : {X E : Type 0} → Option (List ℕ) → Option (List ℕ) �
 Writes old new text (Ok _) = Appends old new text
 Writes old new text (Err _) = (part : ℕ) × (part < length text) × Appends old new (take part text)
 
--- the texts of records, one behind the other
+-- the texts of records, one after the other
 abbrev pub texts_of : (Record → List ℕ) → List Record → List ℕ
 texts_of text records = flat_map text records
 
--- a book wrote these records, `all`, in order, and broke off within one that isn't among those of `before`: the records in front of that one
--- were written whole, and of that one a first part, which isn't all
+-- a book that was to write the records `all`, in order, broke off within the record `next`, which comes after those of
+-- `before`: all records in front of `next` were written whole, and of `next` only a first part
 pub record WritesPart (text : Record → List ℕ) (before all : List Record) (old new : Option (List ℕ)) : Type 0 where
   pub earlier : List Record
   pub next : Record
@@ -49,7 +49,8 @@ abbrev pub WritesAll : {X E : Type 0} → (Record → List ℕ) → List Record 
 WritesAll text before all old new (Ok _) = Appends old new (texts_of text all)
 WritesAll text before all old new (Err _) = WritesPart text before all old new
 
--- whatever replies say: a book that had taken the texts of some records wrote these behind them; or it failed, and wrote a part of them
+-- for each function `reads` that gives replies' readings: a book that had taken the texts of the records `before` wrote those of `news`
+-- after them; or it failed, and wrote a part of these
 abbrev pub WritesNews : {X E : Type 0} → (Record → List ℕ) → (old new : Option (List ℕ)) → (news : (Call → List ℕ → Reading) → List Record) → Result X E → Type 0
 WritesNews text old new news result =
     (reads : Call → List ℕ → Reading) (start : Option (List ℕ)) (before : List Record)

@@ -1,4 +1,4 @@
--- How many requests may be under way where one goes out: this project's own.
+-- How many requests may be under way where one goes out: this project's own. An act is one call of the link, with what came of it.
 use Rattle.std.specs.Prelude.{◌≡◌, ◌⊎◌, ◌<◌, List, length}
 use Rattle.gc_client.specs.Rule.{deadlines}
 use Rattle.gc_texts.specs.declared.tasks.Task.{Task}

@@ -1,5 +1,5 @@
 -- Whole runs of a station, this project's own: each act was the one that was to be made next, and the book has what they write
--- down.
+-- down. An act is one call of the link, with what came of it. The book is what takes the texts of the records.
 use Rattle.std.specs.Prelude.{◌≡◌, ◌⊎◌, ℕ, Bool, true, List, [], ◌∷◌, ◌++◌, Option, Some, Result, Ok, Err}
 use Rattle.std.specs.Io.KnownBytes.{Appends}
 use Rattle.gc_texts.specs.declared.tasks.Task.{Task}
@@ -17,7 +17,7 @@ use Rattle.gc_station.specs.Model.{Model, opening, action_at, after_all, Runs}
 use Rattle.gc_station.specs.Tallies.{none_yet, tallied}
 use Rattle.gc_station.specs.Scopes.{Scope}
 
--- the model of a station behind these acts, from the start on
+-- the model of a station after these acts, from the start on
 abbrev pub stood : Plan → List Task → Scope → List Act → Model
 stood plan commands scope acts = after_all plan commands (opening plan scope) acts
 
@@ -32,7 +32,7 @@ pub record RanTo (plan : Plan) (commands : List Task) (scope : Scope) (text : Re
   pub took : Appends taken taken' (texts_of text (stood plan commands scope acts).records)
   pub counts : tally ≡ tallied none_yet (stood plan commands scope acts).records
 
--- a link told these acts, each the one that was to be made next, and behind the last one that the connection was closed, and nothing
+-- a link told these acts, each the one that was to be made next, and after the last one that the connection was closed, and nothing
 -- else; the book took the records of the acts before the last one whole, and of those that this one writes down a part, from the front
 pub record BrokeAt (plan : Plan) (commands : List Task) (scope : Scope) (text : Record → List ℕ) (told told' : Option (List Act)) (taken taken' : Option (List ℕ)) : Type 0 where
   pub acts : List Act
@@ -41,7 +41,7 @@ pub record BrokeAt (plan : Plan) (commands : List Task) (scope : Scope) (text : 
   pub runs : Runs plan commands (opening plan scope) (acts ++ last ∷ [])
   pub took : WritesPart text (stood plan commands scope acts).records (stood plan commands scope (acts ++ last ∷ [])).records taken taken'
 
--- a link told these acts, each the one that was to be made next, and behind them that the connection was closed, and nothing else; the
+-- a link told these acts, each the one that was to be made next, and after them that the connection was closed, and nothing else; the
 -- book took the records of all of them, and couldn't make them last
 pub record LeftAt (plan : Plan) (commands : List Task) (scope : Scope) (text : Record → List ℕ) (told told' : Option (List Act)) (taken taken' : Option (List ℕ)) : Type 0 where
   pub acts : List Act
@@ -64,7 +64,7 @@ Ran plan commands scope text told told' taken taken' (Err Output) =
 Ran plan commands scope text told told' taken taken' (Err fault) =
     (cause : Cause) × (tally : Tally) × RanTo plan commands scope text told told' taken taken' cause tally × (fault_of cause ≡ Some fault)
 
--- behind a run with the fault `Output` its book has failed (`new`); behind any other run whether the book has failed is as before (`old`)
+-- after a run with the fault `Output` its book has failed (`new`); after any other run whether the book has failed is as before (`old`)
 abbrev pub FailsAtOutput : {X : Type 0} → Bool → Bool → Result X RunFault → Type 0
 FailsAtOutput old new (Ok _) = new ≡ old
 FailsAtOutput old new (Err Output) = new ≡ true

@@ -22,6 +22,6 @@ OneReadingForALine = (call : Call) (line : List ℕ) (x y : Reading) → ReadsAs
 abbrev pub SomeReadings : Type 0
 SomeReadings = (reads : Call → List ℕ → Reading) × AreReadings reads
 
--- `Holds` is so for every function that gives each reply's reading for its call, and there is such a function
+-- the claim `Holds` is true of every function that gives each reply's reading for its call, and there is such a function
 abbrev pub ForReadings : ((Call → List ℕ → Reading) → Type 0) → Type 0
 ForReadings Holds = ((reads : Call → List ℕ → Reading) → AreReadings reads → Holds reads) × ((reads : Call → List ℕ → Reading) × AreReadings reads × Holds reads)

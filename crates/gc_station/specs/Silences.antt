@@ -1,4 +1,5 @@
--- How long no reply line came, where a connection is closed for it: this project's own.
+-- How long no reply line came, where a connection is closed for it: this project's own. An act is one call of the link, with what
+-- came of it.
 use Rattle.std.specs.Prelude.{◌≡◌, ◌⊎◌, ℕ, ◌-◌, ◌<◌, ◌≤◌, false, List, [], ◌∷◌, ◌++◌}
 use Rattle.std.specs.List.{AllByRecursion}
 use Rattle.gc_texts.specs.declared.tasks.Task.{Task}
@@ -21,7 +22,7 @@ latest now (act ∷ acts) = latest now acts
 abbrev pub IsNoReply : List ℕ → Type 0
 IsNoReply line = is_reply line ≡ false
 
--- an act brings no line that reads as a reply, behind these bytes since the last line feed
+-- an act brings no line that reads as a reply, where `rest` are the bytes since the last line feed
 abbrev pub BringsNoReply : List ℕ → Act → Type 0
 BringsNoReply rest (Gave piece m) = AllByRecursion IsNoReply (lines_behind rest piece)
 BringsNoReply rest act = Unit {0}
@@ -31,7 +32,7 @@ abbrev pub IsMute : Plan → List Task → Model → List Act → Type 0
 IsMute plan commands s [] = Unit {0}
 IsMute plan commands s (act ∷ acts) = BringsNoReply s.rest act × IsMute plan commands (after plan commands s act) acts
 
--- behind these acts the clock goes back to this moment: the one told last among them is later
+-- after these acts the clock goes back to the moment `from`: the moment that they told last is later
 pub record WentBack (from : ℕ) (acts : List Act) : Type 0 where
   pub earlier : List Act
   pub act : Act
@@ -41,8 +42,8 @@ pub record WentBack (from : ℕ) (acts : List Act) : Type 0 where
   pub tells : TellsMoment told act
   pub later : from < latest told others
 
--- behind an act that told a moment, `start`, no line that reads as a reply came on the same connection, and the moment that was told last is
--- at least `wait` milliseconds later. Behind `start` no request went out, or one went out at once, so that its reply had all that time; or
+-- after an act that told a moment, `start`, no line that reads as a reply came on the same connection, and the moment that was told last is
+-- at least `wait` milliseconds later. After `start` no request went out, or one went out at once, so that its reply had all that time; or
 -- the clock went back at `start`
 pub record IsMuteFor (wait : ℕ) (plan : Plan) (commands : List Task) (scope : Scope) (acts : List Act) : Type 0 where
   pub before : List Act

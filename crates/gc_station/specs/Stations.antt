@@ -1,4 +1,5 @@
--- No part of a promise: what the functions of a station do to it, in terms of its model.
+-- No part of a promise: what the functions of a station do to it, in terms of its model. An act is one call of the link, with what
+-- came of it.
 use Rattle.std.specs.Prelude.{◌≡◌, ℕ, ◌<◌, false, List, [], ◌∷◌, length, Option, Result, Ok, Err}
 use Rattle.std.specs.Io.KnownBytes.{Appends}
 use Rattle.gc_lines.specs.Assembler.{StandsFor}
@@ -45,7 +46,7 @@ pub record Refines (station : Station) (s : Model) : Type 0 where
   pub paired : length s.marks ≡ length s.client.waiting
   pub assembles : StandsFor station.assembler s.rest
   pub tally : AreReadings s.reads → station.tally ≡ tallied none_yet s.records
-  pub well : AreReadings s.reads → station.well ≡ last_well s.reads false s.records
+  pub well : AreReadings s.reads → station.well ≡ last_well false s.records
 
 -- a book took the records of a model, where the model's `reads` gives each reply's reading for its call
 abbrev pub Took : (Record → List ℕ) → Option (List ℕ) → Option (List ℕ) → Model → Type 0
@@ -68,14 +69,16 @@ pub record Seen : Type 0 where
 abbrev pub seen : Option (List Act) → (Record → List ℕ) → Option (List ℕ) → Station → Seen
 seen acts text taken station = record { acts = acts; text = text; taken = taken; station = station }
 
--- a link told one act, which performs this action; the station went on by `next`, and a book took the records that this adds
+-- a link told one act, which performs this action. Where the station was as the model s says and the book had taken its
+-- records, the station is then as `next s act` says, and the book has taken the records of that
 pub record Makes (commands : List Task) (action : Action) (next : Model → Act → Model) (old new : Seen) : Type 0 where
   pub act : Act
   pub tells : Tells old.acts new.acts (act ∷ [])
   pub goes : (s : Model) (start : Option (List ℕ)) → Refines old.station s → Took old.text start old.taken s
       → Performs commands s action act × Refines new.station (next s act) × Took new.text start new.taken (next s act)
 
--- a link told one act, which performs this action; and a book failed at one of the records that `next` adds
+-- a link told one act, which performs this action; and a book failed at one of the records that the model `next s act` has
+-- beyond those of the model s
 pub record Breaks (commands : List Task) (action : Action) (next : Model → Act → Model) (old : Seen) (told : Option (List Act)) (taken : Option (List ℕ)) : Type 0 where
   pub act : Act
   pub tells : Tells old.acts told (act ∷ [])
@@ -91,11 +94,11 @@ Made commands action next old new (Err _) = Breaks commands action next old new.
 abbrev pub Does : Plan → List Task → Action → Seen → Seen → Type 0
 Does plan commands action old new = Makes commands action (moved plan commands action) old new
 
--- the model behind an act that performs this action, with the turn that is taken and what is lost then
+-- the model after an act that performs this action, with the turn that is taken and what is lost then
 abbrev pub stepped : Plan → List Task → Action → Model → Act → Model
 stepped plan commands action s act = ended (moved plan commands action (with_progress turned s) act)
 
--- the progress behind a write with this result: as it was or, where the write was cut (`Err`), failing for a cause that names
+-- the progress after a write with this result: as it was or, where the write was cut (`Err`), failing for a cause that names
 -- this number of requests
 abbrev pub cut_progress : Result (Unit {0}) ℕ → ℕ → Progress → Progress
 cut_progress (Ok _) requests p = p

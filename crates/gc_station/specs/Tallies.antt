@@ -15,7 +15,7 @@ one_more n = later n 1
 
 -- a tally in which a command with this ending is counted
 abbrev pub counted : End → Tally → Tally
-counted (Answered answer line) t = record t { answered = one_more t.answered }
+counted (Answered quality answer line) t = record t { answered = one_more t.answered }
 counted Late t = record t { late = one_more t.late }
 counted Lost t = record t { lost = one_more t.lost }
 counted Skipped t = record t { skipped = one_more t.skipped }

@@ -1,4 +1,5 @@
--- How many connections ended, or couldn't be made, since a command was settled: this project's own.
+-- How many connections ended, or couldn't be made, since a command was settled: this project's own. An act is one call of the link,
+-- with what came of it.
 use Rattle.std.specs.Prelude.{◌≡◌, ◌≢◌, ◌⊎◌, ℕ, suc, ◌<◌, ◌≤◌, List, [], ◌∷◌, ◌++◌}
 use Rattle.gc_texts.specs.declared.tasks.Task.{Task}
 use Rattle.gc_station.specs.declared.cause.Cause.{Cause}
@@ -10,7 +11,7 @@ use Rattle.gc_station.specs.Runs.{stood}
 use Rattle.gc_station.specs.Model.{Model, after}
 use Rattle.gc_station.specs.Scopes.{Scope}
 
--- a cause for which a run stops only without a try left, where its connection ended or couldn't be made
+-- a cause for which a connection ended or couldn't be made, and after which the run connects anew, unless no try is left
 abbrev pub IsTried : Cause → Type 0
 IsTried cause.Done = ⊥
 IsTried cause.Clock = ⊥
@@ -42,7 +43,7 @@ abbrev pub SettlesNone : Model → Act → Model → Type 0
 SettlesNone s (Gave bytes m) t = t.records ≡ s.records
 SettlesNone s act t = Unit {0}
 
--- no read among these acts settled a command, from where a station stands
+-- no read among these acts settled a command, from this model on
 abbrev pub NoneSettled : Plan → List Task → Model → List Act → Type 0
 NoneSettled plan commands s [] = Unit {0}
 NoneSettled plan commands s (act ∷ acts) = SettlesNone s act (after plan commands s act) × NoneSettled plan commands (after plan commands s act) acts
@@ -55,8 +56,9 @@ pub record EndsSettled (plan : Plan) (commands : List Task) (scope : Scope) (act
   pub order : acts ≡ earlier ++ Gave piece moment ∷ []
   pub settled : (stood plan commands scope acts).records ≢ (stood plan commands scope earlier).records
 
--- since a read settled a command, or from the start where none did, more connections ended, or couldn't be made, than the plan
--- has tries. At least as many as the plan has tries were asked for and, counted from the start, more
+-- since the last read that settled a command, or from the start where none did, more connections ended or couldn't be made than
+-- the plan has tries. At least as many connections as the plan has tries were asked for meanwhile, and more where that is from
+-- the start
 pub record AllTried (plan : Plan) (commands : List Task) (scope : Scope) (acts : List Act) : Type 0 where
   pub before : List Act
   pub behind : List Act

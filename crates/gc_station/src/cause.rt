@@ -10,14 +10,15 @@ use gc_texts::RunFault;
 pub enum Cause {
     /// Each command of each cycle is settled.
     Done,
-    /// No command may go out, and no reply line came for twice the longest deadline: since the last one, or since the first
-    /// request that was sent behind it.
+    /// No command may go out, and no reply line came for twice the longest deadline, counted from the last reply line or from the
+    /// first request that was sent after that.
     Dead,
     /// A read failed.
     Read,
     /// The other end closed the connection.
     End,
-    /// A write failed: only its first `bytes` bytes went out. `requests` commands of the cycle were sent or passed over before it.
+    /// A write failed: only its first `bytes` bytes went out. `requests` commands of the cycle were sent or passed over before
+    /// it.
     Write { requests: usize, bytes: usize },
     /// The clock can't be read.
     Clock,

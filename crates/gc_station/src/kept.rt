@@ -1,4 +1,5 @@
-//! What is seen of a link and a book before each act of a run: a ghost value, which no code reads and which takes no memory.
+//! What is seen of a link and a book before each act of a run: a ghost value, which no code reads and which takes no memory. What
+//! is seen before one act is a turn.
 
 ghost use Rattle.std.specs.Prelude.{◌≡◌, [], ◌∷◌, ◌++◌, List};
 ghost use base.Fml.{ftrue};
@@ -26,7 +27,7 @@ impl Kept {
         Kept {}
     }
 
-    // What was seen so far, and this turn behind that. The turns are ghost, so there is nothing to copy.
+    // What was seen so far, with `turn` added at the end. The turns are ghost, so there is nothing to copy.
     fn then<L, B>(&self, _link: &L, _book: &B) -> Kept
         ghost turn: { Turn }
         ensures { result.turns ≡ self.now.turns ++ turn ∷ [] }
@@ -34,7 +35,8 @@ impl Kept {
         Kept {}
     }
 
-    // What was seen so far, and behind that what the link has told and the book has taken by now, and whether that lasts.
+    // What was seen so far, with a turn of now added at the end: what the link has told, what the book has taken, and whether the
+    // book is durable.
     pub(crate) fn and<L: Link, B: Book>(&self, link: &L, book: &B) -> Kept
         ensures { result.turns ≡ self.now.turns ++ record { acts = L.acts link.now; taken = B.taken book.now; lasts = B.is_durable book.now } ∷ [] }
     {

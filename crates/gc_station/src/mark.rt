@@ -3,9 +3,9 @@
 ghost use Rattle.std.specs.Prelude.{◌≡◌};
 ghost use Rattle.gc_station.specs.Marks.{commands_in};
 
-use gc_texts::Near;
+use gc_texts::Expected;
 
-/// Which command of which cycle was sent, when, and where its target stands.
+/// Which command of which cycle was sent, when, and what is expected of its answer.
 #[derive(Clone, Copy, Debug, PartialEq, Eq)]
 pub(crate) struct Mark {
     /// The cycle, counted from 1.
@@ -14,8 +14,8 @@ pub(crate) struct Mark {
     pub place: usize,
     /// The last moment that the link told before the command was sent, in milliseconds since 1970-01-01, UTC.
     pub sent: u64,
-    /// Where the command's target stands, where the text says so.
-    pub near: Option<Near>,
+    /// Where the command's target stands, and which return codes are accepted, as the text says.
+    pub expected: Expected,
 }
 
 // How many of these marks are of commands; a null procedure has no mark.

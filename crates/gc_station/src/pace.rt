@@ -41,7 +41,8 @@ impl Progress {
         }
     }
 
-    // The moment at which a read in this phase ends if nothing comes, leaving out the deadlines of the requests that wait.
+    // The moment at which a read in this phase ends if nothing comes, leaving out the deadlines of the requests that wait: at the end of
+    // a pause or a drain, when the line is dead, or when a null procedure of the beginning goes out again.
     fn ends(&self, plan: &Plan) -> u64
         ensures { result ≡ ends_in self.now.phase plan.now self.now }
     {

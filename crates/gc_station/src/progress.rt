@@ -1,13 +1,13 @@
 //! Progress: how far a station is, and what it does next. All decisions are made here, by looking at nothing else.
 //!
-//! The table lists the actions that may be next in each phase, of which the first that fits is taken, and the phase behind each. In all
-//! phases but `Closing` and `Over` two come first: where no turn is left, `Close(Turns)`, or without a connection `Stop(Turns)`; and where
-//! something went out, or a connection was closed or couldn't be made, since a moment was told (`stale`), `ReadClock`, which gives up the
-//! requests whose deadline has come, and changes no phase.
+//! The table lists the actions that may be next in each phase, of which the first that fits is taken, and the phase after each.
+//! In all phases but `Closing` and `Over` two come first: where no turn is left, `Close(Turns)`, or without a connection
+//! `Stop(Turns)`; and where something went out, or a connection was closed or couldn't be made, since a moment was told
+//! (`stale`), `ReadClock`, which gives up the requests whose deadline has come, and changes no phase.
 //!
 //! | Phase | Where | Action | What the action does | Next phase |
 //! |---|---|---|---|---|
-//! | `Down` | | `Open` | makes a connection | `Clearing`; where none could be made, as behind `Close(Open)` |
+//! | `Down` | | `Open` | makes a connection | `Clearing`; where none could be made, as after `Close(Open)` |
 //! | `Pausing` | | `Read(Limit)` | waits | `Down`, once the pause is over and a connection is wanted |
 //! | `Clearing` | | `Clear` | sends a lone line feed | `Draining`; `Ready` where the station begins |
 //! | `Draining` | | `Read(Limit)` | drops what comes | `Ready`, once nothing came for the quiet time |
@@ -17,7 +17,7 @@
 //! | | the null procedure of the first id that isn't answered is to go out, for the first time or again at its deadline | `Ask` | sends it | `Ready` |
 //! | | else | `Read(Limit)` | hears what comes | `Ready`; the station has begun once the eighth is answered |
 //! | `Ready`: the station has begun | a command is unsent, and not `next_is_chained` | with room `Send`, else as where the station waits | sends the next command | `Ready` |
-//! | | commands wait, and all that waits is given up | with room `Flush`, else as where the station waits | sends a null procedure behind them | `Ready` |
+//! | | commands wait, and all that waits is given up | with room `Flush`, else as where the station waits | sends a null procedure after them | `Ready` |
 //! | | commands wait, and something isn't given up | as where the station waits | | |
 //! | | no command waits, one is unsent, and may go | with room `Send`, else as where the station waits | sends the next command | `Ready` |
 //! | | no command waits, one is unsent, and may not go | `Skip` | reads the clock, and writes the command down | `Ready` |
@@ -81,7 +81,7 @@ pub(crate) enum Action {
     Send,
     /// To read the clock, and to write the next command down without sending it.
     Skip,
-    /// To send a null procedure behind requests that are all given up: its reply settles them.
+    /// To send a null procedure after requests that are all given up: its reply settles them.
     Flush,
     /// To read.
     Read(Until),
@@ -121,23 +121,23 @@ pub(crate) struct Progress {
     pub phase: Phase,
     /// Which null procedures of the beginning are answered. Once all are, the station has begun.
     pub word: Beginning,
-    /// The deadline of the null procedure of the first id that isn't answered, where that went out on this connection: then it goes
-    /// out again. Else 0.
+    /// The deadline of the null procedure of the first id that isn't answered, where that went out on this connection: then it
+    /// goes out again. Else 0.
     pub again: u64,
     /// Whether something went out, or a connection was closed or couldn't be made, since `moment` was told.
     pub stale: bool,
     /// The last moment that the link told.
     pub moment: Moment,
-    /// From when a pause and the quiet time count: the last moment that was told otherwise than behind a read that gave
+    /// From when a pause and the quiet time count: the last moment that was told otherwise than after a read that gave
     /// nothing, or an earlier one where the clock went back since.
     pub since: u64,
-    /// From when a dead line counts: the latest of the moments at which the last reply line came, the first request behind it
+    /// From when a dead line counts: the latest of the moments at which the last reply line came, the first request after it
     /// or on this connection went out, and a connection was last drained; an earlier one where the clock went back since.
     pub alive: u64,
     /// Whether a request went out on this connection, and no reply line came since.
     pub asked: bool,
-    /// The moment that counts as the beginning of the cycle: its due moment, or where it has none, as the first, the one at which it
-    /// began.
+    /// The moment that counts as the beginning of the cycle: its due moment, or where it has none, as the first, the one at which
+    /// it began.
     pub began: u64,
     /// Whether the cycle was done before the next was due.
     pub early: bool,
@@ -256,8 +256,8 @@ impl Progress {
         self.word.has_begun()
     }
 
-    // Whether the line is dead: a request waits, or a null procedure of the beginning went out on this connection, and no reply line
-    // came for `patience_of`.
+    // Whether the line is dead: a request waits, or a null procedure of the beginning went out on this connection, and no reply
+    // line came for `patience_of`.
     fn is_dead(&self, plan: &Plan, waiting: Waiting) -> bool
         ensures { result ≡ is_dead plan.now self.now waiting }
     {
@@ -336,8 +336,9 @@ impl Progress {
         self.left == 0 && self.unsent == 0 && commands == 0
     }
 
-    // The next action while the station begins: to send the null procedure of the first id that isn't answered, for the first time
-    // or again at its deadline. Nothing goes out between cycles, nor where no command is left to be sent behind the beginning.
+    // The next action while the station begins: to send the null procedure of the first id that isn't answered, for the first
+    // time or again at its deadline. Nothing goes out between cycles, nor where no command is left to be sent after the
+    // beginning.
     fn action_beginning(&self, plan: &Plan, waiting: Waiting) -> Action
         ensures { result ≡ action_beginning plan.now self.now waiting }
     {
@@ -354,7 +355,8 @@ impl Progress {
         }
     }
 
-    // The next action once the station has begun: to send the next command, if that needn't wait for the answer before it.
+    // The next action once the station has begun: to send the next command, if there is one that needn't wait for the answer of
+    // the command before it, and there is room; else as `action_sent` or `action_room` says.
     fn action_begun(&self, plan: &Plan, waiting: Waiting) -> Action
         ensures { result ≡ action_begun plan.now self.now waiting }
     {
@@ -365,8 +367,9 @@ impl Progress {
         }
     }
 
-    // The next action where no command may go out before those that wait are settled: each of the cycle was sent, or the
-    // next one is chained.
+    // The next action where no command may go out before those that wait are settled: all of the cycle have gone out, or the next
+    // one is chained. Where commands wait, and all requests that wait are given up, a null procedure goes out, whose reply
+    // settles them.
     fn action_sent(&self, plan: &Plan, waiting: Waiting) -> Action
         ensures { result ≡ action_sent plan.now self.now waiting }
     {
@@ -439,7 +442,8 @@ impl Progress {
 }
 
 impl Waiting {
-    // Whether another request may go out: fewer are under way than `width` allows, and fewer wait in all than the window has places.
+    // Whether another request may go out: fewer are under way than `width` allows, and fewer wait in all than the window has
+    // places.
     pub(crate) fn has_room(self, plan: &Plan) -> bool
         ensures { result ≡ has_room plan.now self }
     {

@@ -22,8 +22,8 @@ pub(crate) fn later(moment: u64, wait: u64) -> u64
     moment.saturating_add(wait)
 }
 
-// Whether the cycle counts as done early behind a read. A read `Until::Due` shows that it was, because only a done cycle has such a
-// read; behind any other read it counts as before (`early`).
+// Whether the cycle counts as done early after a read. A read `Until::Due` shows that the cycle was done early, because only
+// after a done cycle is there such a read. After any other read the cycle counts as it did before (`early`).
 fn early_behind(until: Until, early: bool) -> bool
     ensures { result ≡ early_behind until early }
 {
@@ -62,9 +62,9 @@ impl Progress {
         self.turns = self.turns.saturating_sub(1);
     }
 
-    // Notes a moment that the link told, unless it is that of a read that gave nothing: the quiet time begins now. Where the
-    // clock went back, the cycle is taken to have begun now at the latest, so that the next one isn't put off, and the line to
-    // have been alive now at the latest.
+    // Notes a moment that the link told: the quiet time begins now. (`pass_time` notes the moment of a read that gave nothing.)
+    // Where the clock went back, the cycle is taken to have begun now at the latest, so that the next one isn't put off, and the
+    // line to have been alive now at the latest.
     pub(crate) fn tell(&mut self, moment: Moment)
         ensures { self.new ≡ told moment self.old }
     {
@@ -75,8 +75,8 @@ impl Progress {
         self.stale = false;
     }
 
-    // The moment that counts as the beginning of a cycle that is begun at `moment`: that moment for the first cycle, and where cycles
-    // have no due moment; for any other the moment at which it was due, or `moment` if that is earlier.
+    // The moment that counts as the beginning of a cycle that is begun at `moment`: that moment for the first cycle, and where
+    // cycles have no due moment; for any other the moment at which it was due, or `moment` if that is earlier.
     fn beginning(&self, plan: &Plan, moment: Moment) -> u64
         ensures { result ≡ beginning plan.now moment self.now }
     {
@@ -87,7 +87,7 @@ impl Progress {
         }
     }
 
-    // Whether a cycle that would begin at this moment is missed: the one behind it is due by then.
+    // Whether a cycle that would begin at this moment is missed: the cycle after it is due by then.
     fn is_missing(&self, plan: &Plan, moment: Moment) -> bool
         ensures { result ≡ is_missing plan.now moment self.now }
     {
@@ -129,7 +129,7 @@ impl Progress {
         if self.missed { self.due } else { moment.utc }
     }
 
-    // Passes over the next command, which isn't sent. `next_is_chained`: the one behind it goes out only once this one was
+    // Passes over the next command, which isn't sent. `next_is_chained`: the command after it goes out only once this one was
     // answered well.
     pub(crate) fn skip(&mut self, next_is_chained: bool, moment: Moment)
         ensures { self.new ≡ skipped next_is_chained moment self.old }
@@ -176,7 +176,7 @@ impl Progress {
         }
     }
 
-    // The phase behind the loss of a connection, or behind an attempt that failed, while `commands` commands wait: the run
+    // The phase after the loss of a connection, or after an attempt that failed, while `commands` commands wait: the run
     // is done, or it tries again, or without a try left it is over for this cause.
     fn phase_again(&self, plan: &Plan, commands: usize, cause: Cause) -> Phase
         ensures { result ≡ phase_again plan.now commands cause self.now }
@@ -190,7 +190,7 @@ impl Progress {
         }
     }
 
-    // The length of the next pause: the quiet time behind a first failure, and behind each further one twice the last pause, up
+    // The length of the next pause: the quiet time after a first failure, and after each further one twice the last pause, up
     // to a minute. Where no connection is wanted it is the last pause. It is never below the quiet time.
     fn pause_again(&self, plan: &Plan, cause: Cause) -> u64
         ensures { result ≡ pause_again plan.now cause self.now }
@@ -231,7 +231,7 @@ impl Progress {
         self.stale = true;
     }
 
-    // Notes that a request went out. The time after which the line is dead begins with the first one behind a reply line.
+    // Notes that a request went out. The time after which the line is dead begins with the first request after a reply line.
     pub(crate) fn ask(&mut self)
         ensures { self.new ≡ asking self.old }
     {
@@ -250,8 +250,8 @@ impl Progress {
         self.again = later(self.moment.elapsed, plan.deadline);
     }
 
-    // Notes that the station begins anew at this moment. Where nothing goes out before the next cycle is due, the time after which
-    // the line is dead begins with the first null procedure.
+    // Notes that the station begins anew at this moment. Where nothing goes out before the next cycle is due, the time after
+    // which the line is dead begins with the first null procedure.
     pub(crate) fn renew(&mut self, plan: &Plan, moment: Moment)
         ensures { self.new ≡ renewed plan.now moment self.old }
     {
@@ -262,7 +262,8 @@ impl Progress {
         self.chain_unbroken = false;
     }
 
-    // Hears a line while the station begins. Where it answers the first null procedure that is left, the next one goes out at once.
+    // Hears a line while the station begins. Where the line answers the first null procedure that is left, the next one goes out
+    // at once.
     pub(crate) fn hear(&mut self, line: &[u8])
         requires { length line.now ≤ 512 }
         ensures { self.new ≡ line_asked self.old line.now }
@@ -273,7 +274,7 @@ impl Progress {
         self.note(reads(line));
     }
 
-    // Notes that the next command went out. `next_is_chained`: the one behind it goes out only once this one was answered
+    // Notes that the next command went out. `next_is_chained`: the command after it goes out only once this one was answered
     // well.
     pub(crate) fn send(&mut self, next_is_chained: bool)
         ensures { self.new ≡ sent next_is_chained self.old }
@@ -339,7 +340,7 @@ impl Progress {
         }
     }
 
-    // Notes the moment behind a read that gave nothing: the quiet time goes on. Where the clock went back, the quiet time
+    // Notes the moment after a read that gave nothing: the quiet time goes on. Where the clock went back, the quiet time
     // and the cycle are taken to have begun now at the latest, and the line to have been alive now at the latest.
     fn pass_time(&mut self, until: Until, moment: Moment)
         ensures { self.new ≡ time_passed until moment self.old }

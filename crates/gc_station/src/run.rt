@@ -41,8 +41,8 @@ pub(crate) fn run<L: Link, B: Book>(
     // The last cycle whose overrun was reported to the book; 0 where none was.
     let mut told = 0;
     loop {
-        // No act is made before all records last: through a crash of the program, or of the machine, as far as the book is meant for
-        // that.
+        // No act is made before all records last: through a crash of the program, or of the machine, as far as the book is meant
+        // for that.
         if let Err(unsynced) = book.sync() {
             link.close();
             return Err(unsynced);
@@ -62,35 +62,35 @@ pub(crate) fn run<L: Link, B: Book>(
 
 /// Sends the commands over a link, in cycles, by the plan, and writes into a book how each command ended.
 ///
-/// What a station does next is a function of what its link told: `action_at`. It connects, sends a lone line feed, and begins: eight
-/// null procedures go out one after the other, with ids 6, 5, 4, 3, 2, 1, 0 and 7. One that isn't answered by its deadline goes out
-/// again with the same id, also on the next connection. Any reply with that id answers it; all other bytes are dropped. Behind the
-/// eighth answer the client is new, with next id 0. Then the commands of a cycle go out, each once, while fewer requests are under
-/// way than the plan's width, and fewer than seven wait in all. Each moment gives up the requests whose deadline has come, before the
-/// bytes that came with it are heard. A request that is given up keeps its id and no longer holds up the others: its own reply
-/// settles it as late, and the reply to a later request as lost. Where no command may go out before those that wait are settled, and
-/// all that wait are given up, a null procedure goes out behind them. Its reply settles them; it is in no record. A command is never
-/// sent again in its cycle.
+/// What a station does next is a function of what its link told: `action_at`. It connects, sends a lone line feed, and begins:
+/// eight null procedures go out one after the other, with ids 6, 5, 4, 3, 2, 1, 0 and 7. One that isn't answered by its deadline
+/// goes out again with the same id, also on the next connection. Any reply with that id answers it; all other bytes are dropped.
+/// After the eighth answer the client is new, with next id 0. Then the commands of a cycle go out, each once, while fewer
+/// requests are under way than the plan's width, and fewer than seven wait in all. Each moment gives up the requests whose
+/// deadline has come, before the bytes that came with it are heard. A request that is given up keeps its id and no longer holds
+/// up the others: its own reply settles it as late, and the reply to a later request as lost. Where no command may go out before
+/// those that wait are settled, and all that wait are given up, a null procedure goes out after them. Its reply settles them; it
+/// is in no record. A command is never sent again in its cycle.
 ///
-/// A connection that failed, ended or is dead is closed. The requests that wait go on waiting on the next connection, and the ids go
-/// on. Before each new attempt to connect the station pauses: for the quiet time, at each further failure twice as long, up to a
-/// minute. Once a cycle is done it connects again only when the next is due. Each connection is cleared by a line feed. Unless a
-/// beginning goes on with it, bytes on it are then dropped until none came for the quiet time. The station begins anew where seven
-/// requests wait that are all given up: all of them are lost, and the null procedures go out on the same connection. A beginning
-/// whose connection was lost goes on with the next one.
+/// A connection that failed, ended or is dead is closed. The requests that wait go on waiting on the next connection, and the ids
+/// go on. Before each new attempt to connect the station pauses: for the quiet time, at each further failure twice as long, up to
+/// a minute. Once a cycle is done it connects again only when the next is due. Each connection is cleared by a line feed. Unless
+/// a beginning goes on with it, bytes on it are then dropped until none came for the quiet time. The station begins anew where
+/// seven requests wait that are all given up: all of them are lost, and the null procedures go out on the same connection. A
+/// beginning whose connection was lost goes on with the next one.
 ///
-/// `Ok`: each command of each cycle is settled, and the tally counts how. The run fails with `Clock` as soon as the clock can't be
-/// read; and, once no try is left, with `Read` where a read failed, `Mute` where the line was dead, `Write` where a write was cut
-/// (with the number of the cycle's commands before it, 0 before the first cycle), `LinkClosed` where the other end closed the
+/// `Ok`: each command of each cycle is settled, and the tally counts how. The run fails with `Clock` as soon as the clock can't
+/// be read; and, once no try is left, with `Read` where a read failed, `Mute` where the line was dead, `Write` where a write was
+/// cut (with the number of the cycle's commands before it, 0 before the first cycle), `LinkClosed` where the other end closed the
 /// connection, and `Socket` where no connection could be made. It fails with `TooManyReads` where `max_turns` acts were made; a
 /// connection that is open then is closed by one act more. In all of these cases the connection is closed, and the commands that
-/// waited are written as lost. The run fails with `Output` where the book failed. Where it failed at a record of the last act, it has
-/// all records of the acts before, those of the last act in front of that record, and a first part of that record. Where the records
-/// couldn't be made to last, it has all of them. Then nothing more is sent: the link is closed, and the commands that wait aren't
-/// written.
+/// waited are written as lost. The run fails with `Output` where the book failed. Where it failed at a record of the last act, it
+/// has all records of the acts before, those of the last act in front of that record, and a first part of that record. Where the
+/// records couldn't be made to last, it has all of them. Then nothing more is sent: the link is closed, and the commands that
+/// wait aren't written.
 ///
-/// Before each act all records of the acts before outlast what the book is meant to outlast. What is seen of the link and the book then
-/// is noted in `kept`.
+/// Before each act all records of the acts before outlast what the book is meant to outlast. What is seen of the link and the
+/// book then is noted in `kept`.
 pub fn run_station<L: Link, B: Book>(
     link: &mut L,
     book: &mut B,
@@ -104,8 +104,8 @@ pub fn run_station<L: Link, B: Book>(
     ensures ran { ForReadings (λ reads.
         Ran plan.now commands.now (record { turns = max_turns; reads = reads }) (B.text book.old) (L.acts link.old) (L.acts link.new) (B.taken book.old) (B.taken book.new) result) }
 
-    // At each act what the acts before it settled is in the book, and lasts. Where the book failed one act is made all the same: the
-    // connection is closed.
+    // At each act what the acts before it settled is in the book, and lasts. Where the book failed one act is made all the same:
+    // the connection is closed.
     ensures keeps { ForReadings (λ reads.
         KeepsUp plan.now commands.now (record { turns = max_turns; reads = reads }) (B.text book.old) (L.acts link.old) (L.acts link.new) (B.taken book.old) kept.old.turns kept.new.turns (closing_at result)) }
 

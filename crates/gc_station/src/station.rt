@@ -11,7 +11,7 @@ ghost use Rattle.gc_links.specs.Acts.{Told};
 ghost use Rattle.gc_station.specs.Marks.{commands_in, records_of, last_well};
 ghost use Rattle.gc_station.specs.Scopes.{AreReadings};
 ghost use Rattle.gc_station.specs.Records.{Record, texts_of, WritesAll, WritesNews};
-ghost use Rattle.gc_station.specs.Model.{Model, opening, action_at, place_next, near_first, mark_next, requests_out, is_chained, is_chained_behind_next, skips, moved, ended};
+ghost use Rattle.gc_station.specs.Model.{Model, opening, action_at, place_next, expected_first, mark_next, requests_out, is_chained, is_chained_behind_next, skips, moved, ended};
 ghost use Rattle.gc_station.specs.Stations.{waiting_in, IsPaired, Refines, Took, Does, Made, stepped, OnCall, ComesTo, IsFitting, seen};
 ghost use Rattle.gc_station.specs.Tallies.{tallied};
 ghost use Rattle.gc_station.specs.declared.progress.Action.TheVariants.{ReadClock, Renew, Begin, Open, Skip, Close};
@@ -31,7 +31,7 @@ use arrayvec::ArrayVec;
 use gc_client::{Client, Settlement, Slots, WINDOW};
 use gc_lines::{Assembler, PortFailed};
 use gc_links::{Link, Moment};
-use gc_texts::{Ending, Near, Stamp, Task};
+use gc_texts::{Codes, Ending, Expected, Stamp, Task};
 
 // Whether a command at this place goes out only once the one before it was answered well.
 fn is_chained(commands: &[Task], place: usize) -> bool
@@ -109,13 +109,19 @@ impl Station {
         commands.len().saturating_sub(self.progress.unsent)
     }
 
-    // Where the target of the next command stands, where the text says so.
-    fn near(&self, commands: &[Task]) -> Option<Near>
-        ensures { result ≡ near_first (drop (place_next commands.now self.now.progress) commands.now) }
+    // What is expected of the answer of the next command.
+    fn expected(&self, commands: &[Task]) -> Expected
+        ensures { result ≡ expected_first (drop (place_next commands.now self.now.progress) commands.now) }
     {
         match commands.get(self.place(commands)) {
-            Some(task) => task.near,
-            None => None,
+            Some(task) => Expected {
+                near: task.near,
+                accepted: task.accepted,
+            },
+            None => Expected {
+                near: None,
+                accepted: Codes::none(),
+            },
         }
     }
 
@@ -127,19 +133,20 @@ impl Station {
             cycle: plan.cycles.saturating_sub(self.progress.left),
             place: self.place(commands),
             sent: self.progress.moment.utc,
-            near: self.near(commands),
+            expected: self.expected(commands),
         }
     }
 
-    // Whether the command behind the next one goes out only once the next one was answered well. In a missed cycle, where none
-    // goes out, this holds of each command.
+    // Whether the command after the next one goes out only once the next one was answered well. In a missed cycle the result is
+    // true for each command, because none goes out.
     fn is_chained_behind_next(&self, commands: &[Task]) -> bool
         ensures { result ≡ is_chained_behind_next commands.now self.now.progress }
     {
         self.progress.missed || is_chained(commands, self.place(commands).saturating_add(1))
     }
 
-    // How many commands of the cycle were sent or passed over: 0 before the first cycle. The fault of a cut write has this number.
+    // How many commands of the cycle were sent or passed over: 0 before the first cycle. The fault of a cut write has this
+    // number.
     fn requests_out(&self, plan: &Plan, commands: &[Task]) -> usize
         ensures { result ≡ requests_out plan.now commands.now self.now.progress }
     {
@@ -294,7 +301,7 @@ impl Station {
         ensures tally { OnOk result ((reads : Call → List ℕ → Reading) → AreReadings reads
             → self.new.tally ≡ tallied self.old.tally (records_of reads self.old.progress.moment.utc self.old.marks.items (map settlement_seen self.old.settled.items))) }
         ensures well { OnOk result ((reads : Call → List ℕ → Reading) → AreReadings reads
-            → self.new.well ≡ last_well reads self.old.well (records_of reads self.old.progress.moment.utc self.old.marks.items (map settlement_seen self.old.settled.items))) }
+            → self.new.well ≡ last_well self.old.well (records_of reads self.old.progress.moment.utc self.old.marks.items (map settlement_seen self.old.settled.items))) }
         ensures fails { FailsWith result (B.failed book.old) (B.failed book.new) }
         ensures form { B.text book.new ≡ B.text book.old }
     {
@@ -395,7 +402,7 @@ impl Station {
         self.write(book)
     }
 
-    // Takes a turn: makes the one call of an action, does what comes of it, and writes down what is lost. Before it begins, all
+    // Takes a turn: makes the one call of an action, does what comes of it, and writes down what is lost. When it is called, all
     // records so far must be durable.
     pub(crate) fn step<L: Link, B: Book>(
         &mut self,

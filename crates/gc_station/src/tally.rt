@@ -21,7 +21,7 @@ pub struct Tally {
     pub unreadable: u64,
     /// The command wasn't sent: its cycle couldn't begin before the next was due.
     pub missed: u64,
-    /// A reply came in time, with both codes 0, whose direction isn't near where its target stands.
+    /// A reply came in time, with both codes 0 or an accepted return code, whose direction isn't near where its target stands.
     pub elsewhere: u64,
 }
 

@@ -7,8 +7,10 @@ ghost use Rattle.gc_client.specs.Rule;
 ghost use Rattle.gc_catalogue.specs.declared.answer.Reading.{Reading};
 ghost use Rattle.gc_catalogue.specs.declared.call.Call.{Call};
 ghost use Rattle.gc_client.specs.Settlements.{settlement_seen, outcome_seen, IsWellRead};
-ghost use Rattle.gc_station.specs.Marks.{records_of, value_as, end_of, last_well, is_well};
+ghost use Rattle.gc_station.specs.Marks.{records_of, value_as, refused_as, end_of, last_well, is_well};
+ghost use Rattle.gc_station.specs.Zeros.{IsZeroOf};
 ghost use Rattle.gc_station.specs.Scopes.{AreReadings};
+ghost use Rattle.gc_texts.specs.Codes.{are_accepted};
 ghost use Rattle.gc_texts.specs.Endings.{ending_seen};
 ghost use Rattle.gc_texts.specs.Nears.{is_elsewhere};
 ghost use Rattle.gc_station.specs.Records.{WritesNews};
@@ -18,10 +20,10 @@ use crate::book::Book;
 use crate::mark::Mark;
 use crate::tally::Tally;
 use arrayvec::ArrayVec;
-use gc_catalogue::{Answer, Reading};
+use gc_catalogue::{Answer, Call, Reading};
 use gc_client::{Outcome, Settlement, WINDOW};
 use gc_lines::{Line, PortFailed};
-use gc_texts::{Command, Ending, Near, Stamp, is_elsewhere};
+use gc_texts::{Command, Ending, Expected, Near, Quality, Stamp, is_elsewhere, reading_as_zero};
 
 // Takes out the mark of the oldest request that waits. `None`: that request is a null procedure, or none waits.
 fn take_mark(marks: &mut ArrayVec<Option<Mark>, WINDOW>) -> Option<Mark>
@@ -36,39 +38,84 @@ fn take_mark(marks: &mut ArrayVec<Option<Mark>, WINDOW>) -> Option<Mark>
 }
 
 // The ending of a command whose reply, this line, has this answer: elsewhere where the answer's direction isn't near where the
-// target stands (`near`), else answered.
-fn value_ending<'a>(near: Option<Near>, answer: &'a Answer, line: &'a Line) -> Ending<'a>
-    ensures { ending_seen result ≡ value_as (is_elsewhere near answer.now) answer.now line.now.items }
+// target stands (`near`), else answered with this quality.
+fn value_ending<'a>(
+    quality: Quality,
+    near: Option<Near>,
+    answer: &'a Answer,
+    line: &'a Line,
+) -> Ending<'a>
+    ensures { ending_seen result ≡ value_as quality (is_elsewhere near answer.now) answer.now line.now.items }
 {
     if is_elsewhere(near, answer) {
         Ending::Elsewhere(line)
     } else {
-        Ending::Answered(Some(answer), line)
+        Ending::Answered(quality, Some(answer), line)
     }
 }
 
-// The ending of a command whose request had this outcome. `near`: where its target stands, where the text says so.
-fn ending_of(near: Option<Near>, outcome: &Outcome) -> Ending<'_>
-    ensures { (reads : Call → List ℕ → Reading) (call : Call) → AreReadings reads → IsWellRead call outcome.now
-        → ending_seen result ≡ end_of reads near call (outcome_seen outcome.now) }
+// The ending of a command whose reply, this line, has this return code, which isn't 0, and would say `zero` with return code 0.
+// With an accepted code: elsewhere where the values would read and were measured elsewhere, else answered with a warning. With
+// another code: answered and refused.
+fn refused_ending<'a>(
+    expected: &Expected,
+    code: u16,
+    zero: &'a Reading,
+    line: &'a Line,
+) -> Ending<'a>
+    ensures { ending_seen result ≡ refused_as (are_accepted expected.now.accepted code) expected.now.near zero.now line.now.items }
+{
+    if !expected.accepted.has(code) {
+        return Ending::Answered(Quality::Refused, None, line);
+    }
+    match zero {
+        Reading::Value(answer) => value_ending(Quality::Warning, expected.near, answer, line),
+        Reading::Refused(_) | Reading::ComFault(_) | Reading::Unreadable(_) => {
+            Ending::Answered(Quality::Warning, None, line)
+        }
+    }
+}
+
+// What the line of a reply with a return code other than 0 would say with return code 0. For any other outcome: a refusal,
+// which nothing reads.
+fn zero_of(call: &Call, outcome: &Outcome) -> Reading
+    ensures { IsZeroOf call.now outcome.now result }
+{
+    match outcome {
+        Outcome::Answered(Reading::Refused(_), line) => reading_as_zero(call, line),
+        _ => Reading::Refused(0),
+    }
+}
+
+// The ending of a command whose request had this outcome, where this is expected of its answer, and its line would say `zero`
+// with return code 0.
+fn ending_of<'a>(expected: &Expected, zero: &'a Reading, outcome: &'a Outcome) -> Ending<'a>
+    ensures { (reads : Call → List ℕ → Reading) (call : Call) → AreReadings reads → IsWellRead call outcome.now → IsZeroOf call outcome.now zero.now
+        → ending_seen result ≡ end_of reads expected.now call (outcome_seen outcome.now) }
 {
     match outcome {
         Outcome::Answered(Reading::Unreadable(fault), line) => Ending::Unreadable(line, *fault),
-        Outcome::Answered(Reading::Value(answer), line) => value_ending(near, answer, line),
-        Outcome::Answered(_, line) => Ending::Answered(None, line),
+        Outcome::Answered(Reading::Value(answer), line) => {
+            value_ending(Quality::Fine, expected.near, answer, line)
+        }
+        Outcome::Answered(Reading::Refused(code), line) => {
+            refused_ending(expected, *code, zero, line)
+        }
+        Outcome::Answered(Reading::ComFault(_), line) => {
+            Ending::Answered(Quality::Refused, None, line)
+        }
         Outcome::Late => Ending::Late,
         Outcome::Lost => Ending::Lost,
     }
 }
 
-// Whether a command whose request had this outcome was answered well: with both codes 0 and values that read, and not
-// elsewhere.
-fn is_well(near: Option<Near>, outcome: &Outcome) -> bool
-    ensures { (reads : Call → List ℕ → Reading) (call : Call) → AreReadings reads → IsWellRead call outcome.now
-        → result ≡ is_well reads call (end_of reads near call (outcome_seen outcome.now)) }
+// Whether a command that ended so was answered well: with both codes 0 and values that read, or with an accepted return code,
+// and not elsewhere.
+fn is_well(ending: Ending<'_>) -> bool
+    ensures { result ≡ is_well (ending_seen ending.entry) }
 {
-    match outcome {
-        Outcome::Answered(Reading::Value(answer), _) => !is_elsewhere(near, answer),
+    match ending {
+        Ending::Answered(quality, ..) => quality.is_good(),
         _ => false,
     }
 }
@@ -88,7 +135,7 @@ fn write_one<B: Book>(
     ensures tally { OnOk result ((reads : Call → List ℕ → Reading) → AreReadings reads
         → tally.new ≡ tallied tally.old (records_of reads utc (mark ∷ []) (settlement_seen settlement.now ∷ []))) }
     ensures well { OnOk result ((reads : Call → List ℕ → Reading) → AreReadings reads
-        → well.new ≡ last_well reads well.old (records_of reads utc (mark ∷ []) (settlement_seen settlement.now ∷ []))) }
+        → well.new ≡ last_well well.old (records_of reads utc (mark ∷ []) (settlement_seen settlement.now ∷ []))) }
     ensures fails { FailsWith result (B.failed book.old) (B.failed book.new) }
     ensures form { B.text book.new ≡ B.text book.old }
 {
@@ -105,18 +152,19 @@ fn write_one<B: Book>(
         target: settlement.target,
         call: settlement.call,
     };
-    let ending = ending_of(mark.near, &settlement.outcome);
+    let zero = zero_of(&settlement.call, &settlement.outcome);
+    let ending = ending_of(&mark.expected, &zero, &settlement.outcome);
     if let Err(failed) = book.write(stamp, &command, ending) {
         return Err(failed);
     }
     tally.count(ending);
-    *well = is_well(mark.near, &settlement.outcome);
+    *well = is_well(ending);
     Ok(())
 }
 
 // Writes and counts the records of these settlements, which are those of the oldest requests that wait, and takes out the marks
-// of these requests. `well` becomes whether the last command written was answered well, and stays where none was. `Err`: the
-// book failed at a record, and none behind it was written.
+// of these requests. `well` becomes whether the command written last was answered well, and stays as it is where none was
+// written. `Err`: the book failed at a record, and no record after it was written.
 pub(crate) fn write_settlements<B: Book>(
     book: &mut B,
     tally: &mut Tally,
@@ -130,7 +178,7 @@ pub(crate) fn write_settlements<B: Book>(
     ensures tally { OnOk result ((reads : Call → List ℕ → Reading) → AreReadings reads
         → tally.new ≡ tallied tally.old (records_of reads utc marks.old.items (map settlement_seen settlements.now))) }
     ensures well { OnOk result ((reads : Call → List ℕ → Reading) → AreReadings reads
-        → well.new ≡ last_well reads well.old (records_of reads utc marks.old.items (map settlement_seen settlements.now))) }
+        → well.new ≡ last_well well.old (records_of reads utc marks.old.items (map settlement_seen settlements.now))) }
     ensures marks { OnOk result (marks.new.items ≡ drop (length settlements.now) marks.old.items) }
     ensures fails { FailsWith result (B.failed book.old) (B.failed book.new) }
     ensures form { B.text book.new ≡ B.text book.old }

@@ -4,21 +4,25 @@ use arrayvec::ArrayVec;
 use gc_lines::PortFailed;
 use gc_links::Moment;
 use gc_station::{Book, LinkHealth};
-use gc_texts::{Command, Ending, Stamp};
+use gc_texts::{Command, Ending, Quality, Stamp};
 
-/// A book that keeps cycle, place and a letter for each outcome, and the values of an answer behind its letter. It fails at one of its
-/// writes, or at each sync behind so many.
+/// A book that keeps a word for each record: the last digits of its cycle and its place, a letter for its outcome, and behind the
+/// letter the values of a reply. A case may have it fail at one write, or at each sync after the first few.
 #[derive(Drop)]
 pub struct Ends {
-    /// What it kept.
+    /// The words of the records, and `N!` for each cycle N that was reported as overrun, each with a blank behind it.
     pub text: ArrayVec<u8, 256>,
+    // How many writes there were.
     writes: u64,
+    // The write that fails, counted from 1; 0: none.
     fails: u64,
+    // How many syncs still succeed.
     keeps: u64,
 }
 
 impl Ends {
-    /// A book that fails at the write `fails`, counted from 1, where 0 is none, and at each sync behind the first `keeps`.
+    /// A book that fails at the write with the number `fails`, counted from 1 (0: at none), and at each sync after the first
+    /// `keeps`.
     pub fn new(fails: u64, keeps: u64) -> Ends {
         Ends {
             text: ArrayVec::new(),
@@ -47,6 +51,7 @@ impl Ends {
     }
 }
 
+// Contracts say nothing of what this book takes: a case compares `text`.
 impl Book for Ends {
     ghost use Rattle.std.specs.Prelude.{None, [], ◌∷◌, true};
 
@@ -58,6 +63,8 @@ impl Book for Ends {
 
     ghost is_durable = { λ _. true };
 
+    // Keeps the word of a record: the digits of its cycle and place, and the letter of its ending, behind which a reply's values
+    // stand.
     fn write(
         &mut self,
         stamp: Stamp,
@@ -71,7 +78,8 @@ impl Book for Ends {
         self.digit(stamp.cycle);
         self.digit(stamp.place as u64);
         match ending {
-            Ending::Answered(_, line) => self.note_values(b"a", line),
+            Ending::Answered(Quality::Warning, _, line) => self.note_values(b"w", line),
+            Ending::Answered(_, _, line) => self.note_values(b"a", line),
             Ending::Unreadable(line, _) => self.note_values(b"u", line),
             Ending::Elsewhere(line) => self.note_values(b"e", line),
             Ending::Late => self.note(b"l"),
@@ -83,6 +91,7 @@ impl Book for Ends {
         Ok(())
     }
 
+    // Uses up one of the syncs that succeed; where none is left, fails.
     fn sync(&mut self) -> Result<(), PortFailed> {
         if self.keeps == 0 {
             return Err(PortFailed);
@@ -91,8 +100,10 @@ impl Book for Ends {
         Ok(())
     }
 
+    // Does nothing: no case looks at the health of the link.
     fn sees(&mut self, _sight: LinkHealth, _moment: Moment) {}
 
+    // Keeps the word of a cycle that overran.
     fn overran(&mut self, cycle: u64) {
         self.digit(cycle);
         self.note(b"! ");

@@ -1,4 +1,4 @@
-//! A run of a case over a link with a log, and what that log has where a link only hears.
+//! A case's run over a link with a log; and, for a case without tasks, the log of a link that is only read, without a station.
 
 use crate::ends::Ends;
 use crate::running::Outcome;
@@ -11,11 +11,14 @@ use gc_logs::Logged;
 use gc_texts::Task;
 use std::alloc::Global;
 
-// A sink that keeps what is written, and fails behind so many writes.
+// A sink that keeps what is written, and fails once no write is left, or memory runs out.
 #[derive(Drop)]
 struct Kept {
+    // What was written.
     bytes: Vec<u8>,
+    // How many writes still succeed.
     left: u64,
+    // Whether a write has failed. Then each further one fails.
     broken: bool,
 }
 
@@ -26,6 +29,7 @@ impl Sink for Kept {
 
     ghost failed = { λ k. k.broken };
 
+    // Keeps these bytes, and uses up one write; where none is left or memory runs out, fails for good.
     fn write(&mut self, bytes: &[u8]) -> Result<usize, PortFailed> {
         if self.broken || self.left == 0 || self.bytes.extend_from_slice(bytes).is_err() {
             self.broken = true;
@@ -35,12 +39,14 @@ impl Sink for Kept {
         Ok(bytes.len())
     }
 
+    // Whether a write has failed.
     fn has_failed(&self) -> bool {
         self.broken
     }
 }
 
-// The link of a case, with a log whose sink takes so many writes.
+// The link of a case, with a log whose sink fails after `writes` writes. Until the link tells a moment, the log's lines have the
+// moment 1000, at which the link's clock starts.
 fn logged<'a>(
     alloc: Global,
     steps: &'a [Step<'a>],
@@ -55,7 +61,8 @@ fn logged<'a>(
     Logged::new(Script::new(steps, setting), kept, 1000)
 }
 
-/// Runs a station over a link with a log. A log whose sink failed is told as `lost`, if the log of a sink that takes all begins with it.
+/// Runs a station over a link with a log. A log whose sink failed is told as `lost`, provided that it is the first part of the
+/// log of the same run over a sink that never fails.
 pub fn play_logged(
     alloc: Global,
     tasks: &[Task],
@@ -82,7 +89,7 @@ fn compare_logs(
     outcome.lose_log(&whole);
 }
 
-// Runs the station once, with a log whose sink takes so many writes.
+// Runs the station once, with a log whose sink fails after `writes` writes.
 fn play_once(
     alloc: Global,
     tasks: &[Task],

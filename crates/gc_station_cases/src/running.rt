@@ -11,14 +11,14 @@ use gc_links::Telling;
 use gc_texts::{RunFault, Task, read_tasks};
 use std::alloc::Global;
 
-/// What a case has its runs do.
+/// What a case gives for its runs.
 #[derive(Clone, Copy)]
 pub struct Run<'a> {
     /// The station's text.
     pub tasks: &'a [u8],
     /// The words of the steps.
     pub steps: &'a [u8],
-    /// The words of the steps behind them.
+    /// The words of the steps after those of `steps`.
     pub then: &'a [u8],
     /// How the runs are set.
     pub setting: Setting,
@@ -31,9 +31,9 @@ pub struct Run<'a> {
 /// What a run came to, as a case has it.
 #[derive(Drop)]
 pub struct Outcome {
-    // What was put.
+    // What was put on the link.
     put: Told,
-    // What was written.
+    // What was written into the book.
     ends: Told,
     // The fault, as the program prints it.
     end: Told,
@@ -43,7 +43,7 @@ pub struct Outcome {
 }
 
 impl Outcome {
-    /// Nothing at all.
+    /// The outcome of no run: all its texts are empty.
     pub fn new(alloc: Global) -> Outcome {
         Outcome {
             put: Told::new(alloc),
@@ -80,7 +80,8 @@ impl Outcome {
         }
     }
 
-    // Tells that a word of the case isn't known, and where it stands.
+    // Tells, in place of what was put on the link, that the case's entry of this name (`with`, `steps` or `tasks`) has a word
+    // that can't be read. The word itself isn't told.
     fn tell_unknown(&mut self, what: &str) {
         self.put.text("a word isn't known: ");
         self.put.text(what);
@@ -123,13 +124,15 @@ impl<'a> Run<'a> {
         }
     }
 
-    // Adds the steps, and says whether each word is known, and each step has room.
+    // Adds the first `setting.first` of the steps, and those of `then` after them. Says whether each word is known, and each step
+    // has room.
     fn push_steps(&self, steps: &mut Vec<Step<'a>>, setting: &Setting) -> bool {
         let are_known = push_words(steps, text_of(self.steps), setting.split);
         steps.truncate(usize::try_from(setting.first).unwrap_or(usize::MAX));
         push_words(steps, text_of(self.then), setting.split) && are_known
     }
 
+    // Reads the station's text, and runs the station with its tasks over these steps.
     fn play_steps(
         &self,
         alloc: Global,
@@ -143,7 +146,7 @@ impl<'a> Run<'a> {
         }
     }
 
-    // Runs a station, or without a task only hears what comes.
+    // Runs a station with these tasks. Without a task, a link with a log is only read, so that its log has what comes.
     fn play_tasks(
         &self,
         alloc: Global,
@@ -162,6 +165,7 @@ impl<'a> Run<'a> {
     }
 }
 
+// Bytes as text; `?` where they aren't UTF-8.
 fn text_of(bytes: &[u8]) -> &str {
     str::from_utf8(bytes).unwrap_or("?")
 }
@@ -179,7 +183,8 @@ fn tell_words(words: &[u8], told: &mut Told) {
     told.bytes(words.strip_suffix(b" ").unwrap_or(words));
 }
 
-// Tells the fault, if there is one, with `kept` for the number of bytes of a cut put, where that is how many went out.
+// Tells the fault, if there is one. A cut write whose fault names the right number of bytes (`gone`) is told with the word `kept`
+// for that number, so that a row holds for each number.
 fn tell_end(fault: Option<RunFault>, gone: usize, end: &mut Told) {
     match fault {
         None => {}
@@ -191,7 +196,8 @@ fn tell_end(fault: Option<RunFault>, gone: usize, end: &mut Told) {
     }
 }
 
-// Tells a part of a row behind its mark, and `none` for an empty one. Where the part lacks memory so does the row, and no case expects it.
+// Tells a part of a row behind `mark`: its text, or `none` where that is empty. If memory ran out for the part, the row counts as
+// lacking, too, so that it equals no row of a case.
 fn tell_part(mark: &str, part: &Told, row: &mut Told) {
     row.text(mark);
     row.either(part.as_bytes().is_empty(), "none", "");

@@ -30,11 +30,11 @@ pub enum Step<'a> {
     End,
     /// The read fails.
     Failure,
-    /// The clock can't be read behind it.
+    /// The clock can't be read after the read.
     NoMoment,
 }
 
-// When the clock of a link starts.
+// The moment at which the clock of a link starts, in milliseconds.
 const START: u64 = 1000;
 
 // The ids of a beginning's null procedures.
@@ -44,8 +44,9 @@ const WORD: [u8; 8] = *b"65432107";
 #[derive(Drop)]
 pub struct Script<'a> {
     steps: &'a [Step<'a>],
+    // The place of the next step.
     at: usize,
-    // So many opens fail from now on.
+    // How many of the next attempts to connect fail.
     shut: u64,
     // The call of `put` that is cut, counted from 1, and how many bytes of it go out.
     cut: u64,
@@ -71,12 +72,13 @@ pub struct Script<'a> {
     first_at: u64,
     /// How many bytes went out of the put that was cut.
     pub gone: usize,
-    /// The calls.
+    /// The words of the calls that opened, closed or wrote (`open`, `shut`, `close`, `lf`, requests, `cut:`), each with a blank
+    /// behind it.
     pub text: ArrayVec<u8, 1024>,
 }
 
 impl<'a> Script<'a> {
-    /// A link that is set so, of which no call was made yet.
+    /// A link that plays these steps by this setting, before its first call.
     pub fn new(steps: &'a [Step<'a>], setting: &Setting) -> Script<'a> {
         Script {
             steps,
@@ -107,7 +109,7 @@ impl<'a> Script<'a> {
         let _ = self.text.try_extend_from_slice(text);
     }
 
-    // Keeps a word, and when it was.
+    // Keeps a word; where the link is timed, with the time `clock` behind it, in milliseconds since the start.
     fn note_at(&mut self, word: &[u8], clock: u64) {
         self.note(word);
         if self.timed {
@@ -119,13 +121,14 @@ impl<'a> Script<'a> {
         self.note(b" ");
     }
 
-    // Keeps a word that happens now. It ends a row of null procedures.
+    // Keeps the word of a call that is made now. The call is no null procedure, so it ends a row of these.
     fn note_now(&mut self, word: &[u8]) {
         self.nulls = 0;
         self.note_at(word, self.clock);
     }
 
-    // Keeps what is put: a request without its line end.
+    // Keeps what is put: `lf` for a lone line feed, else a request, without its line end. Where that is the eighth null procedure
+    // of a beginning in a row, the word `begin` takes the place of all eight.
     fn note_put(&mut self, bytes: &[u8]) {
         if bytes == b"\n".as_slice() {
             self.note_now(b"lf");
@@ -146,7 +149,8 @@ impl<'a> Script<'a> {
         }
     }
 
-    // Counts the null procedures of a beginning that are put one after the other.
+    // Counts the null procedures of a beginning that are put one after the other, with the ids of `WORD` in order. Any other
+    // request begins the count anew.
     fn count_null(&mut self, request: &[u8]) {
         let id = if request.starts_with(b"%R1Q,0,") {
             id_of(request)
@@ -197,7 +201,7 @@ impl<'a> Script<'a> {
         Came::Bytes(n, moment)
     }
 
-    // The reply of a null procedure comes.
+    // The reply to a null procedure with this id comes.
     fn bring_id(&mut self, buf: &mut [u8], id: u8, later: u64) -> Came
         ensures { IsWithin result buf.new }
     {
@@ -206,7 +210,8 @@ impl<'a> Script<'a> {
         self.bring(buf, &line, later)
     }
 
-    // The reply to the last request comes.
+    // The reply to the last request comes. Its one value is the request's number among all requests, counted from 0: its last
+    // digit.
     fn reply(&mut self, buf: &mut [u8], later: u64) -> Came
         ensures { IsWithin result buf.new }
     {
@@ -227,7 +232,8 @@ impl<'a> Script<'a> {
         self.reply(buf, millis.min(5))
     }
 
-    // The step of the next read, where there is one. One that lasts is the step of the read behind it, too.
+    // The step of the next read, where there is one. `Dead`, `Noise` and `Answers` last: each is the step of all further reads,
+    // until a close ends the first two.
     fn next(&mut self) -> Option<Step<'a>> {
         let step = self.steps.get(self.at).copied()?;
         if !matches!(step, Step::Dead | Step::Noise | Step::Answers) {
@@ -248,6 +254,7 @@ impl<'a> Link for Script<'a> {
 
     ghost acts = { λ _. None };
 
+    // Reads the clock, unless this is the failing call or the clock can't be read.
     fn now(&mut self) -> Result<Moment, PortFailed> {
         if self.is_failing() || self.blind {
             return Err(PortFailed);
@@ -255,6 +262,7 @@ impl<'a> Link for Script<'a> {
         Ok(self.moment(0))
     }
 
+    // Plays the next step. Where none is left, nothing comes for `millis` milliseconds.
     fn read(&mut self, buf: &mut [u8], millis: u64) -> Came {
         if self.is_failing() {
             return Came::Failure;
@@ -280,6 +288,7 @@ impl<'a> Link for Script<'a> {
         }
     }
 
+    // The put whose number is `cut`, or that is the failing call, is cut: its first `kept` bytes go out, at most all but one.
     fn put(&mut self, bytes: &[u8]) -> Result<(), usize> {
         self.puts = self.puts.saturating_add(1);
         if self.is_failing() || self.puts == self.cut {
@@ -299,6 +308,7 @@ impl<'a> Link for Script<'a> {
         Ok(())
     }
 
+    // Closes the connection, which ends `Dead` and `Noise`. A request that went out on it isn't answered by `Answers` any more.
     fn close(&mut self) {
         self.note_now(b"close");
         self.up = false;
@@ -308,6 +318,7 @@ impl<'a> Link for Script<'a> {
         }
     }
 
+    // Makes a connection, unless this is the failing call or one of the first `shut` attempts.
     fn open(&mut self) -> Result<(), PortFailed> {
         if self.is_failing() {
             self.note_now(b"shut");

@@ -10,7 +10,7 @@ pub struct Setting {
     pub plan: Plan,
     /// How many turns the run may take.
     pub turns: u64,
-    /// The first so many opens fail.
+    /// How many of the first attempts to connect fail.
     pub shut: u64,
     /// The put that is cut, counted from 1; 0: none.
     pub cut: u64,
@@ -20,13 +20,13 @@ pub struct Setting {
     pub failing: u64,
     /// The write of the book that fails, counted from 1; 0: none.
     pub fails: u64,
-    /// Behind how many keeps the book fails.
+    /// How many syncs of the book succeed; the ones after these fail.
     pub keeps: u64,
     /// How many writes the sink of the log takes.
     pub writes: u64,
     /// How many of the steps are made before those of `then`.
     pub first: u64,
-    /// Behind how many bytes the line of a step `<<` comes in two.
+    /// Behind how many bytes the line of a step `<<` is cut in two.
     pub split: u64,
     /// Whether the clock can't be read.
     pub blind: bool,
@@ -35,8 +35,8 @@ pub struct Setting {
 }
 
 impl Setting {
-    /// One request at a time, given up after 100 milliseconds, a quiet time of 10, and one new try, so that a line is dead after 200. Nothing
-    /// fails.
+    /// One request at a time, given up after 100 milliseconds, a quiet time of 10, and one new try, so that a line is dead after
+    /// 200. Nothing fails.
     pub fn new() -> Setting {
         Setting {
             plan: Plan {

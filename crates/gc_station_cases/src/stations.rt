@@ -4,11 +4,10 @@
 //!     tasks 7 0;8 0               the station's text, with `;` for the ends of its lines; chained as it says
 //!     with width=2 timed          what is set otherwise than `Setting::new` has it
 //!     steps BEGUN #0 end QUIET    what the reads come to
-//!     then dead answers           the steps behind these, where `with` or a row says `first`
-//!     put open lf begin %R1Q,0,0: ..    what is put; `begin` are the eight null procedures of a beginning, one after the other, each once
-//!     ends 10a 11x 2!             cycle, place and a letter for each record: answered (its values behind it), unreadable and
-//!                             elsewhere (likewise),
-//!                                 late, lost (x), skipped or missed; and `!` behind a cycle that overran
+//!     then dead answers           the steps after these, where `with` or a row says `first`
+//!     put open lf begin %R1Q,0,0: ..    what is put; `begin` are the eight null procedures of a beginning, in a row, each once
+//!     ends 10a 11x 2!             cycle, place and a letter for each record: answered, a warning, unreadable and elsewhere (each
+//!                                 with its values after it), late, lost (x), skipped or missed; `!` behind a cycle that overran
 //!     end fault 46                the fault, if there is one
 //!     log ..                      what the log has, over a link with one; without tasks the link only hears
 //!     row cut=3: PUT | ENDS | END the same once more with this word behind the others, in place of the three lines
@@ -25,13 +24,14 @@ use std::io;
 pub struct Stations;
 
 impl Player for Stations {
+    // Plays a case of runs of a station, and tells into `wrong` what came otherwise.
     fn play(&self, rt: &HostRuntime, case: &Case<'_>, wrong: &mut Told) -> io::Result<()> {
         play_case(rt.alloc(), case, wrong);
         Ok(())
     }
 }
 
-// What the values of a case stand for.
+// The texts of a case: the station's text, the words of the steps, and those of the steps after them.
 #[derive(Drop)]
 struct Values {
     tasks: Vec<u8>,
@@ -40,6 +40,7 @@ struct Values {
 }
 
 impl Values {
+    // The texts of no case: all are empty.
     fn new(alloc: Global) -> Values {
         Values {
             tasks: Vec::new(alloc),
@@ -78,7 +79,7 @@ fn push_lines(lines: &mut Vec<u8>, value: &str) -> Result<(), AllocError> {
     Ok(())
 }
 
-// Plays a case. Where memory runs out for its values, it comes otherwise.
+// Plays a case. Where memory runs out for its texts, it is told as wrong.
 fn play_case(alloc: Global, case: &Case<'_>, wrong: &mut Told) {
     let mut values = Values::new(alloc);
     if values.take(case).is_err() {
@@ -87,8 +88,8 @@ fn play_case(alloc: Global, case: &Case<'_>, wrong: &mut Told) {
     play_run(alloc, case, &values.run(case), wrong);
 }
 
-// Plays the rows, or where there is none the run. A case with rows has no `put`, `ends`, `end` or `log` beside them: one that it has is told
-// as wrong, against an outcome of nothing.
+// Plays the rows, or where there is none the run. A case with rows has no `put`, `ends`, `end` or `log` beside them: one that it
+// has is told as wrong, against an outcome of nothing.
 fn play_run(alloc: Global, case: &Case<'_>, run: &Run<'_>, wrong: &mut Told) {
     if case.value("row").is_empty() {
         return play_each(alloc, case, run, wrong);
@@ -107,6 +108,7 @@ fn play_rows(alloc: Global, case: &Case<'_>, run: &Run<'_>, wrong: &mut Told) {
     }
 }
 
+// Plays a row: runs with its word, and where something else comes than the row has, tells that.
 fn play_row(alloc: Global, case: &Case<'_>, row: &str, run: &Run<'_>, wrong: &mut Told) {
     let mut came = Told::new(alloc);
     let word = row.split_once(": ").map_or(row, |cut| cut.0);

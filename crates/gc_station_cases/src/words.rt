@@ -1,6 +1,6 @@
 //! The words of steps. Milliseconds stand behind `@`, and are 5 where none do.
 //!
-//!     BEGUN              the beginning is answered: the replies of its eight null procedures come, the last one 15 behind the others
+//!     BEGUN              the beginning is answered: the replies of its eight null procedures come, the last of them 15 later
 //!     QUIET              nothing comes for the quiet time
 //!     GIVEN_UP           nothing comes until a deadline
 //!     #3@30              the reply of a null procedure with this id comes
@@ -11,12 +11,12 @@
 //!     back@500           the clock goes back
 //!     dead, noise        nothing comes any more, or lines that are no replies, until the connection is closed
 //!     answers            from now on the request that went out last is answered, if it isn't yet
-//!     end, failure, no_moment
+//!     end, failure, no_moment   the other end closes, the read fails, or the clock can't be read after the read
 
 use crate::script::Step;
 use gc_texts::number_of;
 
-// What a named step stands for, in the words of others.
+// The words of the steps that a name in capitals stands for. `None`: the word is no such name.
 fn meaning_of(word: &str) -> Option<&'static str> {
     match word {
         "BEGUN" => Some("#6@0 #5@0 #4@0 #3@0 #2@0 #1@0 #0@0 #7@15"),
@@ -26,7 +26,8 @@ fn meaning_of(word: &str) -> Option<&'static str> {
     }
 }
 
-/// Adds the steps of words, and says whether each is known, and each step has room.
+/// Adds the steps of words, and says whether each is known, and each step has room. `split`: behind how many bytes a line of a
+/// word `<<` is cut in two.
 pub fn push_words<'a>(steps: &mut Vec<Step<'a>>, words: &'a str, split: u64) -> bool {
     let mut rest = words;
     let mut are_known = true;
@@ -44,7 +45,7 @@ pub fn push_words<'a>(steps: &mut Vec<Step<'a>>, words: &'a str, split: u64) -> 
     are_known
 }
 
-// Adds the steps that a named one stands for.
+// Adds the steps of `meaning`, the words that a name stands for.
 fn push_named(steps: &mut Vec<Step<'_>>, meaning: &'static str) -> bool {
     let mut rest = meaning;
     let mut are_known = true;
@@ -75,11 +76,12 @@ fn push_word<'a>(steps: &mut Vec<Step<'a>>, word: &'a str, split: u64) -> bool {
     }
 }
 
+// Adds a step, and says whether there was room for it.
 fn push<'a>(steps: &mut Vec<Step<'a>>, step: Step<'a>) -> bool {
     steps.push(step).is_ok()
 }
 
-// A line, cut behind so many bytes.
+// A line, cut in two behind `split` bytes; the second part is empty where the line is no longer than that.
 fn cut_line(line: &[u8], split: u64) -> (&[u8], &[u8]) {
     let at = usize::try_from(split).unwrap_or(usize::MAX).min(line.len());
     line.split_at(at)
@@ -107,7 +109,7 @@ fn step_of<'a>(what: &'a str, millis: u64) -> Option<Step<'a>> {
     }
 }
 
-// The digit of an id.
+// The one byte of an id's word. `None`: it isn't one byte.
 fn id_of(id: &str) -> Option<u8> {
     match id.as_bytes() {
         [digit] => Some(*digit),

@@ -1,4 +1,5 @@
--- What becomes of a schedule that a source gives, and how that is reported: this project's own.
+-- What becomes of a schedule that a source gives, and how that is reported: this project's own. `told` is what had been written
+-- on the messages before, and `told'` what has been written now.
 use Rattle.std.specs.Prelude.{◌≡◌, ℕ, ◌<◌, ◌⊎◌, true, List, Option, Result}
 use Rattle.std.specs.Io.KnownBytes.{Consumes, Appends, IsAtEnd}
 use Rattle.gc_messages.specs.Refusals.{range_line}

@@ -10,7 +10,8 @@ use Rattle.gc_texts.specs.declared.fault.RunFault.{RunFault}
 abbrev pub AreUnused : Ports → Ports → Type 0
 AreUnused old new = (new.remaining ≡ old.remaining) × (new.taken ≡ old.taken)
 
--- the scene that was named was refused, which is reported with status 1, and nothing was read or written
+-- the scene that was named was refused, which is reported with status 1, and nothing was read or written; the messages had
+-- `told` before, and have `told'` now
 pub record RefusesScene {Name : Type 0} (scene : Option Name) (old new : Ports) (status : ℕ) (told told' : Option (List ℕ)) : Type 0 where
   pub fault : RunFault
   pub is : status ≡ 1

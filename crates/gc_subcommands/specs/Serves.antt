@@ -1,4 +1,5 @@
--- How `exec` and `check` report how their loop over frames ended: this project's own.
+-- How `exec` and `check` report how their loop over frames ended: this project's own. `told` is what had been written on the
+-- messages before, and `told'` what has been written now. 4294967295 is the most reads that a u32 counts.
 use Rattle.std.specs.Prelude.{◌≡◌, ℕ, ◌+◌, ◌<◌, ◌⊎◌, ◌↔◌, Bool, true, false, List, Option, Result}
 use Rattle.gc_subcommands.specs.Scenes.{RefusesScene, IsOfScene}
 use Rattle.gc_engines.specs.Checking.{IsChecking}
@@ -22,7 +23,7 @@ abbrev pub TellsExec : {Name : Type 0} → Option Name → Ports → Ports → �
 TellsExec scene old new status told told' =
     RefusesScene scene old new status told told' ⊎ ((start : State) × IsOfScene scene start × TellsServing start old new status told told')
 
--- a log or a stream was checked, with this result
+-- a log (`true`) or a stream (`false`) was checked, with this result
 abbrev pub ChecksInput : Bool → Ports → Ports → Result Served ServeFault → Type 0
 ChecksInput true old new end = IsCheckingLog old new 4294967295 end
 ChecksInput false old new end = IsChecking old new 4294967295 end

@@ -1,4 +1,4 @@
-//! `geocom loop`: its words, and commands that are asked over a connection to a simulator of its own.
+//! `geocom loop`: its words, and commands that are asked over a connection to a simulator in this program.
 
 ghost use Rattle.std.specs.Prelude.{◌≤◌, IfOk};
 ghost use Rattle.std.specs.Process.{exit_status};
@@ -64,7 +64,7 @@ pub fn loop_port<
     ended
 }
 
-/// Writes behind a fault's line that the fault is the scene's, where a scene is named.
+/// Where a scene is named, writes after a fault's line that the fault is in the scene's file.
 pub(crate) fn tell_scene<E: Write>(scene: Option<&str>, messages: &mut E) -> io::Result<()> {
     match scene {
         Some(path) => writeln!(messages, "geocom: of the scene in {path}"),
@@ -72,7 +72,8 @@ pub(crate) fn tell_scene<E: Write>(scene: Option<&str>, messages: &mut E) -> io:
     }
 }
 
-// Writes behind a fault's line that the fault is the commands', where a scene is named, too.
+// Where a scene is named, so that two texts were read, writes after a fault's line that the fault is in the commands of
+// standard input.
 fn tell_commands<E: Write>(scene: Option<&str>, messages: &mut E) -> io::Result<()> {
     match scene {
         Some(_) => writeln!(messages, "geocom: of the commands of standard input"),

@@ -1,4 +1,5 @@
-//! `geocom serve`: its words, and an instrument on a port or on a device, over places of the standard streams that are all taken.
+//! `geocom serve`: its words, and an instrument on a port or on a device. The places of standard streams that are closed (file
+//! descriptors 0 to 2) are filled first, so that no socket or device takes one.
 
 ghost use Rattle.std.specs.Prelude.{◌≤◌, IfOk};
 ghost use Rattle.std.specs.Process.{exit_status};
@@ -75,8 +76,8 @@ pub fn serve_command<'a>(alloc: Global, name: &'a str) -> Result<Command<'a>, Al
     )
 }
 
-/// What the words of `serve` ask for. `None`: they name no place, or one that isn't on this machine, where alone a simulator is
-/// served.
+/// What the words of `serve` ask for. `None`: they name no place, or one on another machine, though a simulator is served on
+/// this one alone.
 pub fn serving_of<'a>(words: &ArgMatches<'a>) -> Option<Serving<'a>> {
     match named_place(words) {
         None | Some(Place::Host(_)) => None,
@@ -89,8 +90,8 @@ pub fn serving_of<'a>(words: &ArgMatches<'a>) -> Option<Serving<'a>> {
     }
 }
 
-// After how many seconds a connection is idle, where the place is to be kept; else `None`. clap gives a missing number its default, though
-// no clause of clap's says so: else it would be 0, which `keep_place` refuses.
+// After how many seconds a connection is idle, where the place is to be kept; else `None`. clap gives a missing number its
+// default, though no clause of clap's says so: else it would be 0, which `keep_place` refuses.
 fn idle_of(words: &ArgMatches) -> Option<u32> {
     if words.get_flag("keep") {
         Some(words.get_one::<u32>("idle").unwrap_or(0))
@@ -100,7 +101,7 @@ fn idle_of(words: &ArgMatches) -> Option<u32> {
 }
 
 /// Serves a port or a device, or keeps it where `serving.idle` is set, and reports how that ended. The places of standard
-/// streams that are closed are filled first, and stay so. `StreamClosed` comes where that can't be done. Then the scene is
+/// streams that are closed are filled first, and stay filled. `StreamClosed` comes where that can't be done. Then the scene is
 /// read, and only then a port is bound or a device opened.
 pub fn serve_filled<
     R: Net<Listener = TcpListener, Stream = TcpStream> + Clock + Files<File = File>,
@@ -155,8 +156,8 @@ fn serve_scene<
     }
 }
 
-// Serves a port or a device, and reports how that ended. clap refuses numbers out of their range, though no clause of clap's says so:
-// hence they are refused here, too, but for 0 connections of a device, which is not opened then.
+// Serves a port or a device, and reports how that ended. clap refuses numbers out of their range, though no clause of clap's says
+// so: hence they are refused here, too, but for 0 connections of a device, which is not opened then.
 fn serve_place<
     R: Net<Listener = TcpListener, Stream = TcpStream> + Clock + Files<File = File>,
     E: Write,
@@ -233,7 +234,7 @@ fn keep_place<
     }
 }
 
-// Reports how serving a place ended, and of a fault where and why.
+// Reports how serving a place ended. After the line of some faults come the place and the reason (`tell_place`).
 fn tell_served<E: Write>(
     place: Place<'_>,
     end: Result<(), RunFault>,

@@ -10,7 +10,7 @@ use clap::{ArgMatches, Command, Error};
 use gc_links::Place;
 use gc_words::help::SCENES_AND_FAULTS;
 use gc_words::{
-    Recording, Site, Station, VERSION, log_of, named_place, recording_of, station_command,
+    Recording, Settings, Site, VERSION, log_of, named_place, recording_of, station_command,
     station_of,
 };
 use std::alloc::{AllocError, Global};
@@ -18,31 +18,34 @@ use std::alloc::{AllocError, Global};
 /// What a command line asks for. A scene is the name of its file, where one is named.
 pub enum Asked<'a> {
     Exec { scene: Option<&'a str> },
-    /// Of a log, or of a stream.
+    /// Checks a log where `log` is set, else a stream.
     Check { log: bool },
     Drill(Drilling<'a>),
     Serve(Serving<'a>),
+    /// Asks commands over a connection.
     Over(Asking<'a>),
-    /// The word for the place names none: none to serve a simulator on where `serves` is set, else none of an instrument.
+    /// The word for the place is no place: no port or device to serve a simulator on where `serves` is set, else no place of an
+    /// instrument.
     Nowhere { serves: bool },
     /// A number is missing that has a default.
     Unnumbered,
 }
 
-/// What is to be asked over a connection: commands once, of a simulator or at a place, or a station's.
+/// What is to be asked over a connection: commands, once, of a simulator or at a place; or the commands of a station.
 #[derive(Drop)]
 pub enum Asking<'a> {
-    /// Of the instrument in the file of a scene, where one is named.
+    /// Asks the simulator, or the instrument of a scene's file where one is named.
     Loop {
         scene: Option<&'a str>,
     },
+    /// Asks at a place.
     Ask {
         place: Place<'a>,
     },
-    /// With its records in a file, where one is named.
+    /// Measures as a station, with its records in a file where one is named.
     Station {
         site: Site<'a>,
-        station: Station,
+        station: Settings,
         recording: Option<Recording<'a>>,
     },
 }
@@ -135,7 +138,8 @@ impl Subcommand {
     }
 }
 
-/// What the words ask for. `Err`: they don't parse, as without a subcommand, or ask for the help or the version, or memory ran out.
+/// What the words ask for. `Err`: they don't parse, as without a subcommand, or ask for the help or the version, or memory ran
+/// out.
 // A loop makes the subcommands: the proof of a chain of `.subcommand(..)?` grows faster than the chain.
 pub fn asked_of<'a>(alloc: Global, words: &'a [String]) -> Result<Asked<'a>, Error> {
     let subcommands = subcommands_of(alloc)?;
@@ -192,8 +196,8 @@ fn ask_asked<'a>(words: &ArgMatches<'a>) -> Asked<'a> {
     }
 }
 
-// A station at a place, with its records and its log in files where the words name them, unless they name no place, or a number is
-// missing that has a default, which no clause of clap's excludes.
+// A station at a place, with its records and its log in files where the words name them. `Nowhere`: the words name no place.
+// `Unnumbered`: a number is missing, though it has a default; clap fills it in, but no clause of clap's says so.
 fn station_asked<'a>(words: &ArgMatches<'a>) -> Asked<'a> {
     let Some(place) = named_place(words) else {
         return Asked::Nowhere { serves: false };

@@ -11,9 +11,11 @@ use Rattle.gc_texts.proofs.Cutting.{cut_found, one_front, digits_lack_spaces}
 use Rattle.gc_texts.proofs.OneReading.{one_procedure, one_list}
 use Rattle.gc_texts.proofs.Procedures.{one_number}
 
+-- equal texts within `Some` are equal
 some_is : (a b : List ℕ) → Some a ≡ Some b → a ≡ b
 some_is a b e = cc
 
+-- the parts of a line that has the form of a command
 module _ (line : List ℕ) (command : Command) (is : IsCommand line command) where
   -- the first space of a command's line stands between its target and its procedure
   the_cut : (target : List ℕ) (rest : Option (List ℕ)) → Cuts 32 line target rest → (target ≡ is.target_text) × (rest ≡ Some is.procedure)
@@ -23,16 +25,16 @@ module _ (line : List ℕ) (command : Command) (is : IsCommand line command) whe
   pub no_space : (target : List ℕ) → Cuts 32 line target None → ⊥
   no_space target cut = let parts = the_cut target None cut in let bad : None ≡ Some is.procedure = parts.1 in cc
 
-  -- what stands before that space is a target
+  -- what stands before the first space of a command's line is a target
   pub has_number : (target : List ℕ) (rest : Option (List ℕ)) → Cuts 32 line target rest → ((n : ℕ) → IsNumber target n 4294967295 → ⊥) → ⊥
   has_number target rest cut none = none command.target (subst (λ (ds : List ℕ). IsNumber ds command.target 4294967295) (sym (the_cut target rest cut).0) is.target_is)
 
-  -- what stands behind that space is a call
+  -- what stands behind the first space of a command's line is a call
   pub has_call : (target procedure : List ℕ) → Cuts 32 line target (Some procedure) → ((c : Call) → IsProcedure procedure c → ⊥) → ⊥
   has_call target procedure cut none = none command.call (subst (λ (p : List ℕ). IsProcedure p command.call)
       (sym (some_is procedure is.procedure (the_cut target (Some procedure) cut).1)) is.procedure_is)
 
--- two commands with one target and one call are one
+-- two commands with equal targets and equal calls are equal
 same_command : (c d : Command) → c.target ≡ d.target → c.call ≡ d.call → c ≡ d
 same_command c d e f = ap (λ t. record { target = t; call = c.call }) e ∙ ap (λ x. record { target = d.target; call = x }) f
 
@@ -45,6 +47,6 @@ one_command line c d r s =
     (one_number s.target_text c.target d.target 4294967295 (subst (λ (x : List ℕ). IsNumber x c.target 4294967295) parts.0 r.target_is) s.target_is)
     (one_procedure s.procedure c.call d.call (subst (λ (x : List ℕ). IsProcedure x c.call) parts.1 r.procedure_is) s.procedure_is)
 
--- a text gives one list of commands
+-- a text gives one list of commands at most
 pub one_command_list : (text : List ℕ) (xs ys : List Command) → IsCommands text xs → IsCommands text ys → xs ≡ ys
 one_command_list text xs ys h k = one_list IsCommand one_command (filter is_kept (text_lines text)) xs ys h k

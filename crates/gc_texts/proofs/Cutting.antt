@@ -1,4 +1,4 @@
--- Texts cut at a mark: there is one first mark.
+-- Texts cut at the first mark, which is a byte, as LF between lines or a space between words.
 use Rattle.std.proofs.Common.{◌≡◌, ◌≢◌, ◌<◌, ◌+◌, ◌≤◌, ℕ, zero, suc, List, [], ◌∷◌, ◌++◌, length, take, drop, get_or, Option, Some, None, arith, refl, ap, subst, sym, ◌∙◌}
 use Rattle.std.proofs.lemmas.Bool.{eqb-true, eq-eqb}
 use Rattle.std.proofs.lemmas.List.{take_all}
@@ -12,7 +12,7 @@ lacks_before mark bs zero le none = tt
 lacks_before mark [] (suc i) le none = tt
 lacks_before mark (b ∷ bs) (suc i) le none = (none 0 (omega arith), lacks_before mark bs i (omega (arith, le)) (λ j lt. none (suc j) (omega (arith, lt))))
 
--- the text is what stands before place i, its byte, and what stands behind it
+-- a text with the mark at place i is what stands before that place, the mark, and what stands behind it
 split_place : (mark : ℕ) (bs : List ℕ) (i : ℕ) → i < length bs → get_or bs i 0 ≡ mark → bs ≡ take i bs ++ mark ∷ drop (i + 1) bs
 split_place mark [] i lt e = absurd (omega (arith, lt))
 split_place mark (b ∷ bs) zero lt e = ap (λ x. x ∷ bs) e
@@ -20,7 +20,7 @@ split_place mark (b ∷ bs) (suc i) lt e =
     let next : suc i + 1 ≡ suc (i + 1) = omega arith in
     ap (λ l. b ∷ l) (split_place mark bs i (omega (arith, lt)) e) ∙ ap (λ n. b ∷ (take i bs ++ mark ∷ drop n (b ∷ bs))) (sym next)
 
--- the first place of a mark cuts a text
+-- where place i is the first that has the mark, the text is cut there
 pub first_cuts : (mark : ℕ) (bs : List ℕ) (i : ℕ) (rest : List ℕ) → IsFirstByte (is_byte mark) bs (Some i) → rest ≡ drop (i + 1) bs → Cuts mark bs (take i bs) (Some rest)
 first_cuts mark bs i rest first is = (
   split_place mark bs i first.0.high (eqb-true (get_or bs i 0) mark first.1) ∙ ap (λ l. take i bs ++ mark ∷ l) (sym is),
@@ -32,7 +32,7 @@ pub none_cuts : (mark : ℕ) (bs : List ℕ) → IsFirstByte (is_byte mark) bs N
 none_cuts mark bs none =
     (refl, subst (Lacks mark) (take_all (length bs) bs (omega arith)) (lacks_before mark bs (length bs) (omega arith) (λ j lt e. none j (omega arith) lt (eq-eqb (get_or bs j 0) mark e))))
 
--- what stands before the first mark, and what stands behind it, are determined
+-- a text has one front before its first mark and one rest behind it
 pub one_front : (mark : ℕ) (f g r s : List ℕ) → f ++ mark ∷ r ≡ g ++ mark ∷ s → Lacks mark f → Lacks mark g → (f ≡ g) × (r ≡ s)
 one_front mark [] [] r s e lf lg = (refl, cc)
 one_front mark [] (b ∷ g) r s e lf lg = let same : b ≡ mark = cc in absurd (lg.0 same)
@@ -50,7 +50,7 @@ has_mark mark [] r (b ∷ g) e lg = let same : b ≡ mark = cc in lg.0 same
 has_mark mark (a ∷ f) r [] e lg = cc
 has_mark mark (a ∷ f) r (b ∷ g) e lg = let tails : f ++ mark ∷ r ≡ g = cc in has_mark mark f r g tails lg.1
 
--- a cut finds the mark that is there
+-- where a text is `g` without a mark, then a mark, then `s`, its cut gives `g` as the front and `s` as the rest
 pub cut_found : (mark : ℕ) (text front : List ℕ) (rest : Option (List ℕ)) (g s : List ℕ) → Cuts mark text front rest → text ≡ g ++ mark ∷ s → Lacks mark g → (front ≡ g) × (rest ≡ Some s)
 cut_found mark text front None g s cut e lg = absurd (has_mark mark g s front (sym e ∙ cut.0) cut.1)
 cut_found mark text front (Some rest) g s cut e lg =

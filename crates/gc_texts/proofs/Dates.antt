@@ -1,4 +1,5 @@
--- How days pass: within a month, to its end, and to the end of a year.
+-- How days pass: within a month, to its end, and to the end of a year. `y`, `m`, `d` are a year, a month and a day of it.
+-- `days` is counted from a date `d`, and `left` from the first of a month or a year, as the loops count down what is left.
 use Rattle.std.proofs.Common.{◌≡◌, ℕ, zero, suc, ◌+◌, ◌<◌, ◌≤◌, ◌-◌, ◌==◌, ◌||◌, Bool, true, false, if◌then◌else◌, inl, inr, refl, sym, ap, subst, ◌∙◌, arith}
 use Rattle.std.specs.Prelude.{nat_lt}
 use Rattle.std.proofs.lemmas.Bool.{lt-ltb, le-ltb, cond-true, cond-false, cond_both}
@@ -6,11 +7,11 @@ use Rattle.std.proofs.lemmas.Bool.Decides.{leb_tells}
 use Rattle.gc_texts.specs.declared.stamp.Date.{Date}
 use Rattle.gc_texts.specs.Stamps.{is_leap, month_days, year_days, days_of_months, next_day, days_after}
 
--- a day of a year
+-- day `d` of month `m` of year `y`
 abbrev pub on : ℕ → ℕ → ℕ → Date
 on y m d = record { year = y; month = m; day = d }
 
--- the date after a + b days is the date b days after that after a days
+-- going on by a + b days from a date is going on by a days, and then by b days
 pub days_sum : (a b : ℕ) (d : Date) → days_after (a + b) d ≡ days_after b (days_after a d)
 unfolding days_after
 days_sum zero b d = let e : 0 + b ≡ b = omega arith in rw e refl
@@ -20,7 +21,7 @@ days_sum (suc a) b d = let e : suc a + b ≡ suc (a + b) = omega arith in rw e (
 next_within : (y m d : ℕ) → d < month_days y m → next_day (on y m d) ≡ on y m (d + 1)
 next_within y m d below = cond-true (nat_lt d (month_days y m)) _ _ (lt-ltb d (month_days y m) below)
 
--- as long as the month has enough days, k days later is k days on in the same month
+-- where the month has as many days, the date k days after day d is day d + k of the same month
 pub within : (k y m d : ℕ) → d + k ≤ month_days y m → days_after k (on y m d) ≡ on y m (d + k)
 unfolding days_after
 within zero y m d le = let e : d ≡ d + 0 = omega arith in ap (on y m) e
@@ -33,7 +34,8 @@ next_month : (y m d : ℕ) → d ≡ month_days y m → m < 12 → next_day (on 
 next_month y m d last below =
     cond-false (nat_lt d (month_days y m)) _ _ (le-ltb d (month_days y m) (omega (arith, last))) ∙ cond-true (nat_lt m 12) _ _ (lt-ltb m 12 below)
 
--- one day after a month's last, which comes after k days, is the first of the next month
+-- where day d is k days before its month's last day, and the month isn't December, k + 1 days after it is the first of the next
+-- month
 pub month_passes : (k y m d : ℕ) → d + k ≡ month_days y m → m < 12 → days_after (suc k) (on y m d) ≡ on y (m + 1) 1
 unfolding days_after
 month_passes zero y m d last below = next_month y m d (omega (arith, last)) below
@@ -46,7 +48,7 @@ some_days y m =
     cond_both (m == 2) _ _ (λ n. 0 < n) (λ _. cond_both (is_leap y) 29 28 (λ n. 0 < n) (λ _. omega arith) (λ _. omega arith))
     (λ _. cond_both ((m == 4) || (m == 6) || (m == 9) || (m == 11)) 30 31 (λ n. 0 < n) (λ _. omega arith) (λ _. omega arith))
 
--- a month's days and more after its first are as many more after the first of the next month
+-- a whole month and `left` days after the first of a month other than December is `left` days after the first of the next month
 pub whole_month : (y m left : ℕ) → m < 12 → days_after (month_days y m + left) (on y m 1) ≡ days_after left (on y (m + 1) 1)
 whole_month y m left below =
     let some = some_days y m in
@@ -54,7 +56,7 @@ whole_month y m left below =
     ap (λ n. days_after (n + left) (on y m 1)) e ∙ days_sum (suc (month_days y m - 1)) left (on y m 1)
     ∙ ap (days_after left) (month_passes (month_days y m - 1) y m 1 (omega (arith, some)) below)
 
--- the days of a year's first k months and more after its first day are as many more after the first of month k + 1
+-- the whole first k months and `left` days after 1 January, where k is below 12, is `left` days after the first of month k + 1
 pub whole_months : (k y left : ℕ) → k < 12 → days_after (days_of_months y k + left) (on y 1 1) ≡ days_after left (on y (k + 1) 1)
 unfolding days_of_months
 whole_months zero y left below = let e : 0 + left ≡ left = omega arith in rw e refl
@@ -79,7 +81,7 @@ december : (y : ℕ) → days_after 31 (on y 12 1) ≡ on (y + 1) 1 1
 unfolding days_after
 december y = refl
 
--- a year's days and more after its first day are as many more after the first day of the next year
+-- a whole year and `left` days after 1 January is `left` days after 1 January of the next year
 pub whole_year : (y left : ℕ) → days_after (year_days y + left) (on y 1 1) ≡ days_after left (on (y + 1) 1 1)
 unfolding days_of_months
 whole_year y left =
@@ -96,11 +98,12 @@ one_month_more y (suc k) le =
     let n : k + 1 ≡ suc k = omega arith in
     rw (e, n) refl
 
--- December is no month that has gone by whole, in a year that has not
+-- a day that lies within the year isn't 31 days or more after 1 December
 not_december : (y left : ℕ) → days_of_months y 11 + left < year_days y → 31 ≤ left → ⊥
 not_december y left part whole = omega (arith, months_of_year y, one_month_more y 12 (omega arith), part, whole)
 
--- a month that has gone by whole, in a year that has not, isn't the last
+-- where a day of the year is `left` days after the first of month `m`, and `left` is all days of month `m` or more, that month
+-- isn't December
 pub before_december : (y m left : ℕ) → m ≤ 12 → days_of_months y (m - 1) + left < year_days y → month_days y m ≤ left → m < 12
 before_december y m left high part whole =
     elim (leb_tells 12 m) as (λ _. m < 12) [
@@ -110,20 +113,23 @@ before_december y m left high part whole =
       | inr is ↦ is.1
     ]
 
--- a date that is at least a month's days after the month's first is as many fewer days after the first of the next month
+-- a date that is `left` days after the first of month `m`, which has no more days than that and isn't December, is `left` minus
+-- the month's days after the first of the next month
 pub month_left : (y m days left : ℕ) (d : Date) → m < 12 → month_days y m ≤ left → days_after days d ≡ days_after left (on y m 1)
     → days_after days d ≡ days_after (left - month_days y m) (on y (m + 1) 1)
 month_left y m days left d below whole so =
     let e : left ≡ month_days y m + (left - month_days y m) = omega (arith, whole) in
     so ∙ ap (λ n. days_after n (on y m 1)) e ∙ whole_month y m (left - month_days y m) below
 
--- where the days left have a whole month, those behind it still lie within the year
+-- a day that lies within the year, `left` days after the first of month `m` and not in that month, lies within the year, too,
+-- when it is counted from the first of the next month
 pub part_left : (y m left : ℕ) → 1 ≤ m → month_days y m ≤ left → days_of_months y (m - 1) + left < year_days y → days_of_months y (m + 1 - 1) + (left - month_days y m) < year_days y
 part_left y m left low whole part =
     let e : m + 1 - 1 ≡ m = omega arith in
     rw e (omega (arith, one_month_more y m low, whole, part))
 
--- a date that is at least a year's days after its first day is as many fewer days after the first day of the next year
+-- a date that is `left` days after 1 January, where `left` is the year's days or more, is `left` minus the year's days after 1
+-- January of the next year
 pub year_left : (y days left : ℕ) (d : Date) → year_days y ≤ left → days_after days d ≡ days_after left (on y 1 1) → days_after days d ≡ days_after (left - year_days y) (on (y + 1) 1 1)
 year_left y days left d whole so =
     let e : left ≡ year_days y + (left - year_days y) = omega (arith, whole) in
@@ -135,7 +141,8 @@ few_days y m =
     cond_both (m == 2) _ _ (λ n. n ≤ 31) (λ _. cond_both (is_leap y) 29 28 (λ n. n ≤ 31) (λ _. omega arith) (λ _. omega arith))
     (λ _. cond_both ((m == 4) || (m == 6) || (m == 9) || (m == 11)) 30 31 (λ n. n ≤ 31) (λ _. omega arith) (λ _. omega arith))
 
--- in front of the first month no days have passed, so the days left lie within the year
+-- a day that lies within the year, `left` days after its first day, lies within it when it is counted from the first of month
+-- 1, too
 pub no_months : (y left : ℕ) → left < year_days y → days_of_months y (1 - 1) + left < year_days y
 unfolding days_of_months
 no_months y left part = omega (arith, part)

@@ -12,7 +12,7 @@ use Rattle.gc_catalogue.specs.declared.call.Call.{Call}
 use Rattle.gc_catalogue.specs.declared.call.Call.TheVariants.{NullProc}
 use Rattle.gc_texts.specs.Nears.{direction_of, asks_direction, DirectionsAreAskedFor}
 
--- the shapes that have one
+-- the shapes of answers that have a direction
 abbrev has_direction : Shape → Bool
 has_direction shape.Angles = true
 has_direction shape.Measured = true

@@ -7,15 +7,17 @@ use Rattle.gc_values.proofs.DecimalLaws.{spells_unique}
 use Rattle.gc_texts.specs.Nears.{IsDouble, AreWords}
 use Rattle.gc_texts.specs.declared.near.Near.{Near}
 
--- a text that doesn't read is no double
+-- the reading of a text doesn't both fail and give a number
 pub no_double : (r : Result Decimal ValueFault) (e : ValueFault) (d : Decimal) → r ≡ Err e → r ≡ Ok d → ⊥
 no_double r e d failed read = let bad : ◌≡◌ {A = Result Decimal ValueFault} (Err e) (Ok d) = sym failed ∙ read in cc
 
+-- no test is both true and false
 never : (b : Bool) → b ≡ true → b ≡ false → ⊥
 never b e f = let bad : true ≡ false = sym e ∙ f in cc
 
+-- what can't be of four words that say where a target stands
 module _ (target hz v tolerance : List ℕ) (near : Near) (are : AreWords target hz v tolerance near) where
-  -- the words are no place where the numbers that they write are none
+  -- where the numbers that two words write are no direction of a place, the four words say no place
   pub no_place : (h w : Decimal) → IsDouble hz h → IsDouble v w → is_place (record { hz = h; v = w }) ≡ false → ⊥
   no_place h w is_h is_w isnt =
       let one = spells_unique hz near.place.hz h are.hz_is is_h in
@@ -23,6 +25,6 @@ module _ (target hz v tolerance : List ℕ) (near : Near) (are : AreWords target
       never (is_place near.place) are.place_is
       (ap (λ x. is_place (record { hz = x; v = near.place.v })) one ∙ ap (λ x. is_place (record { hz = h; v = x })) other ∙ isnt)
 
-  -- the word is no tolerance where the number that it writes is none
+  -- where the number that the last word writes is no tolerance, the four words say no place
   pub no_tolerance : (t : Decimal) → IsDouble tolerance t → is_tolerance t ≡ false → ⊥
   no_tolerance t is isnt = never (is_tolerance near.tolerance) are.tolerance_in (ap is_tolerance (spells_unique tolerance near.tolerance t are.tolerance_is is) ∙ isnt)

@@ -7,12 +7,13 @@ use Rattle.gc_texts.specs.Faults.{fault_detail, fault_line}
 use Rattle.gc_texts.specs.declared.fault.RunFault.{RunFault}
 use Rattle.gc_texts.specs.declared.fault.RunFault.TheVariants.{Write, Schedule}
 
--- nothing is printed behind the number, but of a write and of a text's line
+-- a fault other than `Write` and `Schedule` has nothing printed behind its number
 pub plain_detail : (fault : RunFault) → ((replies bytes : ℕ) → fault ≡ Write replies bytes → ⊥) → ((line : ℕ) → fault ≡ Schedule line → ⊥) → fault_detail fault ≡ []
 plain_detail (Write replies bytes) no_write no_schedule = absurd (no_write replies bytes refl)
 plain_detail (Schedule line) no_write no_schedule = absurd (no_schedule line refl)
 plain_detail _ no_write no_schedule = refl
 
--- the pieces of a fault's line, one behind the other, are that line
+-- `geocom: fault `, the number, what is printed behind it (`detail`) and a line feed (10), one behind the other, are the
+-- fault's line
 pub line_with : (number : ℕ) (detail : List ℕ) → codes "geocom: fault " ++ (decimal number ++ (detail ++ (10 ∷ []))) ≡ fault_line (numbered number ++ detail)
 line_with number detail = ap (λ l. codes "geocom: fault " ++ l) (sym (append_assoc (decimal number) detail (10 ∷ [])))

@@ -1,4 +1,4 @@
--- What stands before the first mark of a text, and what stands behind it.
+-- What stands before the first mark of a text, and what stands behind it. A mark is a byte, as LF or a space.
 use Rattle.std.proofs.Common.{◌≡◌, ◌≢◌, ℕ, ◌==◌, List, [], ◌∷◌, ◌++◌, Option, Some, None, false, inl, inr, refl, sym, ap, ◌∙◌}
 use Rattle.std.proofs.lemmas.Bool.{cond-true, cond-false, eq-eqb}
 use Rattle.std.proofs.lemmas.Bool.Decides.{eqb_tells}
@@ -20,12 +20,12 @@ behind_mark mark [] rest lacks = cond-true (mark == mark) rest (behind mark rest
 behind_mark mark (b ∷ bs) rest lacks =
     cond-false (b == mark) (bs ++ mark ∷ rest) (behind mark (bs ++ mark ∷ rest)) (not_mark b mark lacks.0) ∙ behind_mark mark bs rest lacks.1
 
--- a text without the mark is all before it
+-- of a text without the mark, all of it counts as standing before the first mark
 pub before_none : (mark : ℕ) (text : List ℕ) → Lacks mark text → before mark text ≡ text
 before_none mark [] lacks = refl
 before_none mark (b ∷ bs) lacks = cond-false (b == mark) [] (b ∷ before mark bs) (not_mark b mark lacks.0) ∙ ap (λ l. b ∷ l) (before_none mark bs lacks.1)
 
--- nothing is behind a mark in a text without one
+-- of a text without the mark, nothing stands behind the first mark
 pub behind_none : (mark : ℕ) (text : List ℕ) → Lacks mark text → behind mark text ≡ []
 behind_none mark [] lacks = refl
 behind_none mark (b ∷ bs) lacks = cond-false (b == mark) bs (behind mark bs) (not_mark b mark lacks.0) ∙ behind_none mark bs lacks.1
@@ -35,6 +35,7 @@ pub cut_before : (mark : ℕ) (text front : List ℕ) (rest : Option (List ℕ))
 cut_before mark text front None cut = sym (ap (before mark) cut.0 ∙ before_none mark front cut.1)
 cut_before mark text front (Some rest) cut = sym (ap (before mark) cut.0 ∙ before_mark mark front rest cut.1)
 
+-- the text that there is, or the empty one
 abbrev pub unwrapped : Option (List ℕ) → List ℕ
 unwrapped None = []
 unwrapped (Some rest) = rest

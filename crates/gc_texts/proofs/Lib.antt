@@ -6,11 +6,13 @@ mod TextLines
 mod LinePlaces
 pub mod OneReading
 mod CommandForms
+mod CodeForms
 mod TaskForms
 mod TaskReading
 mod TaskLaws
 pub mod SettlementLines
 mod Telling
+pub mod ZeroReplies
 mod Wanted
 mod Asked
 mod Dates

@@ -1,10 +1,11 @@
--- A line of a text by its number.
+-- A line of a text by its number: the lines are cut off one by one, `left` is what is left of the text (`now` where there is
+-- something), and `wanted` is the wanted line's number among the lines that are left, from 1. LF is byte 10.
 use Rattle.std.proofs.Common.{◌≡◌, ◌-◌, ◌<◌, ◌≤◌, ℕ, suc, List, [], ◌∷◌, get_or, Option, Some, arith, ap, sym, ◌∙◌}
 use Rattle.gc_texts.specs.Cuts.{Cuts}
 use Rattle.gc_texts.specs.LineForms.{without_cr}
 use Rattle.gc_texts.proofs.TextLines.{lines_left, lines-cut}
 
--- the lines that are left are the one that is cut off next, and those of the rest
+-- the lines of what is left, cut at its first LF, are the line before the LF, and the lines of the rest
 front_line : (left : Option (List ℕ)) (now line : List ℕ) (rest : Option (List ℕ)) → left ≡ Some now → Cuts 10 now line rest → lines_left left ≡ without_cr line ∷ lines_left rest
 front_line left now line rest some cut = ap lines_left some ∙ lines-cut now line rest cut
 

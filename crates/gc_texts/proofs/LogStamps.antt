@@ -24,10 +24,11 @@ record IsInk (b : ℕ) : Type 0 where
   above : 32 < b
   below : b ≤ 126
 
--- a byte of a line
+-- a byte of a log line: printable
 abbrev pub IsShown : ℕ → Type 0
 IsShown b = (32 ≤ b) × (b ≤ 126)
 
+-- a byte from 33 to 126 is printable, and no space
 ink : (b : ℕ) → 32 < b → b ≤ 126 → IsInk b
 ink b above below = record { above = above; below = below }
 
@@ -40,6 +41,7 @@ digits_ink (d ∷ ds) digits = let r = digit_from_value d digits.0 in (ink d (om
 decimal_ink : (n : ℕ) → n < 2 ^ 64 → All IsInk (decimal n)
 decimal_ink n h = All-from_recursion IsInk (decimal n) (digits_ink (decimal n) (decimal_is_IsNumeral n h).0.1)
 
+-- a text of one byte from 33 to 126 is printable, without a space
 one_ink : (b : ℕ) → 32 < b → b ≤ 126 → All IsInk (b ∷ [])
 one_ink b above below = All-from_recursion IsInk (b ∷ []) (ink b above below, tt)
 
@@ -51,17 +53,17 @@ two_ink n h = All-from_recursion IsInk (two_digits n) (ink (48 + n / 10) (omega 
 three_ink : (n : ℕ) → n < 1000 → All IsInk (three_digits n)
 three_ink n h = All-append IsInk ((48 + n / 100) ∷ []) (two_digits (n % 100)) (one_ink (48 + n / 100) (omega arith) (omega (arith, h, div-add-mod n 100))) (two_ink (n % 100) (omega arith))
 
--- two texts without a space, one behind the other, have none
+-- two printable texts without a space, one behind the other, are one printable text without a space
 both : (xs ys : List ℕ) → All IsInk xs → All IsInk ys → All IsInk (xs ++ ys)
 both xs ys = All-append IsInk xs ys
 
--- a date's numbers are within a year of this number of days
+-- the month of a date is at most 12, its day at most 31, and its year at most `year`
 record IsWithin (d : Date) (year : ℕ) : Type 0 where
   month : d.month ≤ 12
   day : d.day ≤ 31
   years : d.year ≤ year
 
--- the day after a date lies within one more year
+-- where a date's year is at most `year`, the next day's is at most `year + 1`; its month and day keep their bounds
 next_within : (d : Date) (year : ℕ) → IsWithin d year → IsWithin (next_day d) (suc year)
 next_within d year h =
     cond_both (nat_lt d.day (month_days d.year d.month)) _ _ (λ e. IsWithin e (suc year))
@@ -70,14 +72,14 @@ next_within d year h =
     (λ less. record { month = omega (arith, ltb-true d.month 12 less); day = omega arith; years = omega (arith, h.years) })
     (λ _. record { month = omega arith; day = omega arith; years = omega (arith, h.years) }))
 
--- the date n days after one lies within n more years
+-- where a date's year is at most `year`, that of the date n days later is at most `year + n`; month and day keep their bounds
 later_within : (n : ℕ) (d : Date) (year : ℕ) → IsWithin d year → IsWithin (days_after n d) (year + n)
 unfolding days_after
 later_within zero d year h = let e : year + 0 ≡ year = omega arith in subst (IsWithin d) (sym e) h
 later_within (suc n) d year h = let e : year + suc n ≡ suc year + n = omega arith in
     subst (IsWithin (days_after n (next_day d))) (sym e) (later_within n (next_day d) (suc year) (next_within d year h))
 
--- the date n days after 1 January 1970 lies within n more years
+-- the date n days after 1 January 1970 has a year of at most 1970 + n, and a month and a day within bounds
 date_within : (n : ℕ) → IsWithin (date_of n) (1970 + n)
 date_within n = later_within n (record { year = 1970; month = 1; day = 1 }) 1970 (record { month = omega arith; day = omega arith; years = omega arith })
 
@@ -129,24 +131,27 @@ ink_prints : (bs : List ℕ) → AllByRecursion IsInk bs → AllByRecursion IsSh
 ink_prints [] h = tt
 ink_prints (b ∷ bs) h = ((omega (arith, h.0.above), h.0.below), ink_prints bs h.1)
 
--- a digit of base 16 is printable
+-- a digit of base 16, as it is written, is printable
 digit_ink : (n : ℕ) → n < 16 → IsShown (hex_digit n)
 digit_ink n h = cond_both (nat_lt n 10) (48 + n) (87 + n) IsShown (λ e. (omega (arith, h), omega (arith, h))) (λ e. (omega (arith, h), omega (arith, h)))
 
+-- where `a && b` is true, a is
 and_left : (a b : Bool) → (a && b) ≡ true → a ≡ true
 and_left true b e = refl
 and_left false b e = e
 
+-- where `a && b` is true, b is
 and_right : (a b : Bool) → (a && b) ≡ true → b ≡ true
 and_right true b e = e
 and_right false b e = let bad : false ≡ true = e in cc
 
--- a byte that stands as it is is printable
+-- a byte that a log writes as it is, is printable
 as_it_is_prints : (b : ℕ) → is_as_it_is b ≡ true → IsShown b
 as_it_is_prints b e =
     let bounds = and_left (nat_lt 31 b && nat_lt b 127) (not (b == 92)) e in
     (omega (arith, ltb-true 31 b (and_left (nat_lt 31 b) (nat_lt b 127) bounds)), omega (arith, ltb-true b 127 (and_right (nat_lt 31 b) (nat_lt b 127) bounds)))
 
+-- the first of a byte's two digits of base 16 is below 16
 high_digit : (b : ℕ) → b < 256 → b / 16 < 16
 high_digit b h = omega (arith, h, div-add-mod b 16)
 

@@ -1,4 +1,5 @@
--- Lines of a log: each byte reads back, and so does each line.
+-- Lines of a log: each byte reads back, and so does each line. A log line is a moment, a space, a mark (which says whether
+-- bytes went or came, whole or in part, or that it is about the link), a space and the escaped bytes.
 use Rattle.std.proofs.Common.{◌≡◌, ◌≢◌, ℕ, ◌+◌, ◌/◌, ◌%◌, ◌<◌, ◌≤◌, Bool, true, false, cond, List, [], ◌∷◌, ◌++◌, length, Option, Some, None, refl, sym, ap, subst, ◌∙◌, arith, append_assoc, append-nil, length-append}
 use Rattle.std.specs.List.{All, AllByRecursion}
 use Rattle.std.specs.Prelude.{nat_lt, ◌==◌}
@@ -11,6 +12,7 @@ use Rattle.gc_texts.specs.declared.log_line.LogMark.{LogMark}
 use Rattle.gc_texts.specs.declared.log_line.LogMark.TheVariants.{Went, WentPart, Came, CamePart, Link}
 use Rattle.gc_texts.proofs.Cutting.{cut_found, one_front}
 
+-- a byte is a number below 256
 abbrev IsByte : ℕ → Type 0
 IsByte b = b < 256
 
@@ -19,7 +21,7 @@ data IsEscape (b : ℕ) (text : List ℕ) : Type 0 where
   as_it_is : is_as_it_is b ≡ true → text ≡ b ∷ [] → IsEscape b text
   as_digits : is_as_it_is b ≡ false → text ≡ 92 ∷ 120 ∷ hex_digit (b / 16) ∷ hex_digit (b % 16) ∷ [] → IsEscape b text
 
--- by whether it stands as it is (`test`), a byte has one of the two forms
+-- the text that is chosen by whether a byte stands as it is (`test`) is one of the byte's two forms
 escapes_at : (b : ℕ) (test : Bool) → is_as_it_is b ≡ test → IsEscape b (cond test (b ∷ []) (92 ∷ 120 ∷ hex_digit (b / 16) ∷ hex_digit (b % 16) ∷ []))
 escapes_at b true is = as_it_is is refl
 escapes_at b false is = as_digits is refl
@@ -28,15 +30,15 @@ escapes_at b false is = as_digits is refl
 escapes : (b : ℕ) → IsEscape b (escape b)
 escapes b = escapes_at b (is_as_it_is b) refl
 
--- the digits below 10
+-- a digit of base 16 below 10 is written 0 to 9, the codes from 48 on
 low_digit : (n : ℕ) → n < 10 → hex_digit n ≡ 48 + n
 low_digit n low = cond_both (nat_lt n 10) (48 + n) (87 + n) (λ d. d ≡ 48 + n) (λ _. refl) (λ e. absurd (omega (arith, low, ltb-false n 10 e)))
 
--- the digits from 10 on
+-- a digit of base 16 from 10 on is written a to f, the codes from 97 on
 high_digit : (n : ℕ) → 10 ≤ n → hex_digit n ≡ 87 + n
 high_digit n high = cond_both (nat_lt n 10) (48 + n) (87 + n) (λ d. d ≡ 87 + n) (λ e. absurd (omega (arith, high, ltb-true n 10 e))) (λ _. refl)
 
--- a digit of base 16 has one value
+-- two digits of base 16 that are written alike are the same
 one_value : (m n : ℕ) → hex_digit m ≡ hex_digit n → m < 16 → n < 16 → m ≡ n
 one_value m n same small few =
     cond_both (nat_lt m 10) (48 + m) (87 + m) (λ d. d ≡ hex_digit n → m ≡ n)
@@ -48,13 +50,15 @@ one_value m n same small few =
 not_a_backslash : (b : ℕ) → is_as_it_is b ≡ true → b ≡ 92 → ⊥
 not_a_backslash b is e = let bad : false ≡ true = subst (λ x. is_as_it_is x ≡ true) e is in cc
 
+-- the first of a byte's two digits of base 16 is below 16
 small_high : (b : ℕ) → b < 256 → b / 16 < 16
 small_high b h = omega (arith, h, div-add-mod b 16)
 
+-- the second of a byte's two digits of base 16 is below 16
 small_low : (b : ℕ) → b % 16 < 16
 small_low b = omega arith
 
--- the escaped form that a text begins with is that of one byte alone
+-- where two texts are equal, and each is an escaped byte and a rest, the bytes are equal, and the rests are
 one_byte : (b c : ℕ) (s t xs ys : List ℕ) → b < 256 → c < 256 → IsEscape b s → IsEscape c t → s ++ xs ≡ t ++ ys → (b ≡ c) × (xs ≡ ys)
 one_byte b c s t xs ys small few (as_it_is is so) (as_it_is was to) e =
     let same : b ∷ xs ≡ c ∷ ys = sym (ap (λ z. z ++ xs) so) ∙ e ∙ ap (λ z. z ++ ys) to in
@@ -78,7 +82,7 @@ some_text : (b : ℕ) (s xs : List ℕ) → IsEscape b s → s ++ xs ≡ [] → 
 some_text b s xs (as_it_is is so) e = let bad : b ∷ xs ≡ [] = sym (ap (λ z. z ++ xs) so) ∙ e in cc
 some_text b s xs (as_digits is so) e = let bad : 92 ∷ 120 ∷ hex_digit (b / 16) ∷ hex_digit (b % 16) ∷ xs ≡ [] = sym (ap (λ z. z ++ xs) so) ∙ e in cc
 
--- where the first bytes were read, the others are what is left
+-- `all` are the bytes `bytes`, which were read, and then `more`, whose escaped form is `left`
 record IsBehind (bytes left all : List ℕ) : Type 0 where
   more : List ℕ
   joins : all ≡ bytes ++ more
@@ -94,7 +98,8 @@ behind_bytes (b ∷ bs) left (c ∷ cs) h k e =
     let next = behind_bytes bs left cs h.1 k.1 one.1 in
     record { more = next.more; joins = ap (λ x. x ∷ cs) (sym one.0) ∙ ap (λ l. b ∷ l) next.joins; are = next.are; so = next.so }
 
--- what of a text was read, and what is left
+-- how far the reading of a text has come: it is the escaped form of `bytes`, which were read, and behind that `left`, which
+-- wasn't
 pub record ReadsBytes (text bytes left : List ℕ) : Type 0 where
   pub so : text ≡ escaped bytes ++ left
   pub are : All IsByte bytes
@@ -103,22 +108,24 @@ pub record ReadsBytes (text bytes left : List ℕ) : Type 0 where
 pub is_left : (left : List ℕ) → false ≡ (length left == 0) → left ≢ []
 is_left left some none = let bad : false ≡ true = some ∙ ap (λ l. length l == 0) none in cc
 
+-- a number that the test says is 514 is at least 514
 pub are_many : (n : ℕ) → true ≡ (n == 514) → 514 ≤ n
 are_many n full = omega (arith, eqb-true n 514 (sym full))
 
--- what is left, and begins with no escaped byte, is the escaped form of no bytes
+-- a text that isn't empty, and doesn't begin with an escaped byte, isn't the escaped form of any bytes
 no_more : (left more : List ℕ) → left ≢ [] → ((b : ℕ) (rest : List ℕ) → b < 256 → left ≡ escape b ++ rest → ⊥) → AllByRecursion IsByte more → left ≡ escaped more → ⊥
 no_more left [] some none h e = some e
 no_more left (b ∷ bs) some none h e = none b (escaped bs) h.0 e
 
--- where what is left of a text begins with no escaped byte, the text is the escaped form of no bytes
+-- where what is left of a text isn't empty, and doesn't begin with an escaped byte, the text isn't the escaped form of any
+-- bytes
 pub reads_no_more : (text bytes left : List ℕ) → ReadsBytes text bytes left → left ≢ [] → ((b : ℕ) (rest : List ℕ) → b < 256 → left ≡ escape b ++ rest → ⊥)
     → (all : List ℕ) → All IsByte all → text ≡ escaped all → ⊥
 reads_no_more text bytes left h some none all are e =
     let k = behind_bytes bytes left all (recursion_from_All IsByte bytes h.are) (recursion_from_All IsByte all are) (sym h.so ∙ e) in
     no_more left k.more some none k.are k.so
 
--- if the escaped form of some bytes is left over, there are bytes left over
+-- where a text isn't empty, and is the escaped form of bytes, there is at least one byte
 too_many : (left more : List ℕ) → left ≢ [] → left ≡ escaped more → 0 < length more
 too_many left [] some e = absurd (some e)
 too_many left (b ∷ bs) some e = omega arith
@@ -129,12 +136,12 @@ reads_too_many text bytes left h some full all room are e =
     let k = behind_bytes bytes left all (recursion_from_All IsByte bytes h.are) (recursion_from_All IsByte all are) (sym h.so ∙ e) in
     omega (arith, full, room, ap length k.joins, length-append bytes k.more, too_many left k.more some k.so)
 
--- where the escaped form of the further bytes is empty, there are none
+-- `ys` are `xs` and then `more`: where the escaped form of `more` is empty, `ys` are `xs`
 none_left : (xs ys more : List ℕ) → ys ≡ xs ++ more → [] ≡ escaped more → xs ≡ ys
 none_left xs ys [] joins so = sym (joins ∙ append-nil xs)
 none_left xs ys (b ∷ bs) joins so = absurd (some_text b (escape b) (escaped bs) (escapes b) (sym so))
 
--- the escaped form of bytes is that of these alone
+-- two lists of bytes with the same escaped form are the same
 pub one_text : (xs ys : List ℕ) → All IsByte xs → All IsByte ys → escaped xs ≡ escaped ys → xs ≡ ys
 one_text xs ys h j e =
     let k = behind_bytes xs [] ys (recursion_from_All IsByte xs h) (recursion_from_All IsByte ys j) (append-nil (escaped xs) ∙ e) in
@@ -148,6 +155,7 @@ mark_lacks Came = ((λ e. absurd (omega (arith, e))), tt)
 mark_lacks CamePart = ((λ e. absurd (omega (arith, e))), ((λ e. absurd (omega (arith, e))), tt))
 mark_lacks Link = ((λ e. absurd (omega (arith, e))), tt)
 
+-- equal texts within `Some` are equal
 some_is : (a b : List ℕ) → Some a ≡ Some b → a ≡ b
 some_is a b e = cc
 
@@ -156,7 +164,7 @@ module _ (line front : List ℕ) (rest : Option (List ℕ)) (cut : Cuts 32 line 
   first_word : (front ≡ moment) × (rest ≡ Some (mark_text mark ++ 32 ∷ escaped bytes))
   first_word = cut_found 32 line front rest moment (mark_text mark ++ 32 ∷ escaped bytes) cut is.is is.one_word
 
-  -- so a line whose first word isn't printable is none of a log
+  -- a line whose first word isn't printable is no log line
   pub not_printable : (IsPrintable front → ⊥) → ⊥
   not_printable none = none (subst IsPrintable (sym first_word.0) is.is_printable)
 
@@ -164,29 +172,30 @@ module _ (line front : List ℕ) (rest : Option (List ℕ)) (cut : Cuts 32 line 
   second_word : (behind word : List ℕ) (text : Option (List ℕ)) → rest ≡ Some behind → Cuts 32 behind word text → (word ≡ mark_text mark) × (text ≡ Some (escaped bytes))
   second_word behind word text so next = cut_found 32 behind word text (mark_text mark) (escaped bytes) next (some_is behind _ (sym so ∙ first_word.1)) (mark_lacks mark)
 
-  -- so is a line without a space none of a log
+  -- a line without a space is no log line
   pub no_moment : rest ≡ None → ⊥
   no_moment none = let bad : None ≡ Some (mark_text mark ++ 32 ∷ escaped bytes) = sym none ∙ first_word.1 in cc
 
-  -- so is a line without a second space
+  -- a line without a second space is no log line
   pub no_mark : (behind word : List ℕ) (text : Option (List ℕ)) → rest ≡ Some behind → Cuts 32 behind word text → text ≡ None → ⊥
   no_mark behind word text so next none = let bad : None ≡ Some (escaped bytes) = sym none ∙ (second_word behind word text so next).1 in cc
 
-  -- so is a line whose second word is no mark
+  -- a line whose second word is no mark is no log line
   pub another_mark : (behind word : List ℕ) (text : Option (List ℕ)) → rest ≡ Some behind → Cuts 32 behind word text → ((m : LogMark) → word ≡ mark_text m → ⊥) → ⊥
   another_mark behind word text so next none = none mark (second_word behind word text so next).0
 
-  -- so is a line whose text is the escaped form of no bytes of at most 514
+  -- a line whose text behind the mark isn't the escaped form of any bytes, 514 at most, is no log line
   pub other_bytes : (behind word text : List ℕ) → rest ≡ Some behind → Cuts 32 behind word (Some text) → length bytes ≤ 514
       → ((all : List ℕ) → length all ≤ 514 → All IsByte all → text ≡ escaped all → ⊥) → ⊥
   other_bytes behind word text so next room none = none bytes room is.are_bytes (some_is text (escaped bytes) (second_word behind word (Some text) so next).1)
 
--- one of two marks: the first where the text is at its end
+-- one of two marks by the text behind a mark's first byte: `whole` where there is none, else `part`
 by_end : List ℕ → LogMark → LogMark → LogMark
 by_end [] whole part = whole
 by_end (b ∷ bs) whole part = part
 
--- the mark that a text is
+-- the mark that a text spells, by its first byte (62 is `>`, 60 is `<`) and whether there is a second; `Link` for any other
+-- text
 mark_from : List ℕ → LogMark
 mark_from [] = Link
 mark_from (b ∷ bs) = cond (b == 62) (by_end bs Went WentPart) (cond (b == 60) (by_end bs Came CamePart) Link)
@@ -200,7 +209,7 @@ marked Came = refl
 marked CamePart = refl
 marked Link = refl
 
--- the text of a mark is that of one alone
+-- two marks with the same text are the same
 one_mark : (m k : LogMark) → mark_text m ≡ mark_text k → m ≡ k
 one_mark m k e = sym (marked m) ∙ ap mark_from e ∙ marked k
 

@@ -1,4 +1,4 @@
--- A stamp's numbers, from its milliseconds.
+-- A stamp's numbers, from its milliseconds since 1 January 1970. `more` is the milliseconds beyond whole seconds.
 use Rattle.std.proofs.Common.{◌≡◌, ℕ, ◌+◌, ◌*◌, ◌/◌, ◌%◌, ◌<◌, List, [], ◌∷◌, ◌++◌, refl, ap, ◌∙◌, arith}
 use Rattle.std.specs.Prelude.{codes}
 use Rattle.std.proofs.Math.Nat.{div-add-mod}
@@ -6,7 +6,7 @@ use Rattle.gc_texts.specs.Moments.{millis_of, digit, StampsAreMoments}
 use Rattle.gc_texts.specs.Stamps.{next_day, days_after, date_of, two_digits, three_digits, date_text, time_text, stamp_text}
 use Rattle.gc_texts.proofs.Dates.{days_sum}
 
--- a number of tens and ones in two digits is the digit of each
+-- a tens and b ones are written as the digit of a and the digit of b
 two : (a b : ℕ) → b < 10 → two_digits (a * 10 + b) ≡ digit a ∷ digit b ∷ []
 two a b h =
     let n = a * 10 + b in
@@ -14,7 +14,7 @@ two a b h =
     let second : n % 10 ≡ b = omega (arith, h, div-add-mod n 10) in
     ap (λ x. digit x ∷ digit (n % 10) ∷ []) first ∙ ap (λ x. digit a ∷ digit x ∷ []) second
 
--- a number of hundreds, tens and ones in three digits is the digit of each
+-- a hundreds, b tens and c ones are written as the digits of a, b and c
 three : (a b c : ℕ) → b < 10 → c < 10 → three_digits (a * 100 + b * 10 + c) ≡ digit a ∷ digit b ∷ digit c ∷ []
 three a b c h k =
     let n = a * 100 + b * 10 + c in
@@ -22,7 +22,8 @@ three a b c h k =
     let rest : n % 100 ≡ b * 10 + c = omega (arith, h, k, div-add-mod n 100) in
     ap (λ x. digit x ∷ two_digits (n % 100)) first ∙ ap (λ x. digit a ∷ two_digits x) rest ∙ ap (λ xs. digit a ∷ xs) (two b c k)
 
--- the text of a time has its hours, minutes, seconds and milliseconds
+-- the text of a time of day, given in milliseconds, is its hours, minutes, seconds and milliseconds, with colons (58) and a
+-- point (46) between them
 time : (hours minutes seconds more : ℕ) → minutes < 60 → seconds < 60 → more < 1000
     → time_text (hours * 3600000 + minutes * 60000 + seconds * 1000 + more) ≡ two_digits hours ++ 58 ∷ (two_digits minutes ++ 58 ∷ (two_digits seconds ++ 46 ∷ three_digits more))
 time hours minutes seconds more m s k =
@@ -38,11 +39,11 @@ time hours minutes seconds more m s k =
     ∙ ap (λ x. two_digits hours ++ 58 ∷ (two_digits minutes ++ 58 ∷ (two_digits x ++ 46 ∷ three_digits (n % 1000)))) (ap (λ x. x % 60) c1 ∙ c2)
     ∙ ap (λ x. two_digits hours ++ 58 ∷ (two_digits minutes ++ 58 ∷ (two_digits seconds ++ 46 ∷ three_digits x))) d
 
--- the parts of a stamp
+-- a stamp with this text of its date and this text of its time
 abbrev parts : List ℕ → List ℕ → List ℕ
 parts date time = date ++ codes "T" ++ time ++ codes "Z"
 
--- the text of a stamp has the numbers of its moment
+-- the stamp of a moment is its date, and its hour, minute, second and millisecond in two, two, two and three digits
 moment : (days hours minutes seconds more : ℕ) → hours < 24 → minutes < 60 → seconds < 60 → more < 1000
     → stamp_text (millis_of days hours minutes seconds more)
     ≡ date_text (date_of days) ++ codes "T" ++ (two_digits hours ++ codes ":" ++ two_digits minutes ++ codes ":" ++ two_digits seconds ++ codes "." ++ three_digits more) ++ codes "Z"
@@ -53,7 +54,7 @@ moment days hours minutes seconds more h m s k =
     ap (λ x. parts (date_text (date_of x)) (time_text (n % 86400000))) day
     ∙ ap (λ x. parts (date_text (date_of days)) x) (ap time_text rest ∙ time hours minutes seconds more m s k)
 
--- the date of the next day is the day after the date of a day
+-- the date of day `days + 1` is the day after the date of day `days`
 next : (days : ℕ) → date_of (days + 1) ≡ next_day (date_of days)
 unfolding days_after
 next days = days_sum days 1 (record { year = 1970; month = 1; day = 1 })

@@ -1,4 +1,4 @@
--- Where it is said of a target that it stands, and what that says of its tasks and of an answer.
+-- Where targets stand, as lines of a text say it, and what follows for the tasks of a target and for an answer.
 use Rattle.std.proofs.Common.{◌≡◌, ℕ, zero, suc, ◌+◌, take, drop, ◌<◌, get_or, slice_set, arith, ◌==◌, ◌&&◌, ◌||◌, not, nat_lt, List, [], ◌∷◌, ◌++◌, length, map, Option, Some, None, Bool, true, false, cond, refl, sym, ap, ◌∙◌, subst, append_assoc, append-nil}
 use Rattle.std.proofs.lemmas.Bool.{eq-eqb}
 use Rattle.gc_catalogue.specs.declared.answer.Answer.{Answer}
@@ -14,15 +14,17 @@ use Rattle.gc_texts.specs.declared.task_line.TaskLine.{TaskLine}
 use Rattle.gc_texts.specs.declared.task_line.TaskLine.TheVariants as says
 use Rattle.gc_texts.specs.declared.tasks.Task.{Task}
 
+-- where `a && b` is true, b is
 both_true : (a b : Bool) → (a && b) ≡ true → b ≡ true
 both_true true b e = e
 both_true false b e = cc
 
+-- where `not b` is true, b is false
 not_true : (b : Bool) → not b ≡ true → b ≡ false
 not_true true e = cc
 not_true false e = refl
 
--- where a line says where a target stands, no line before it does
+-- where lines may stand in a text, and one of them says where a target stands, no line before it says where that target stands
 unsaid : (names : List Name) (nears : List Near) (front later : List TaskLine) (near : Near) → MayFollow names nears (front ++ says.Standing near ∷ later)
     → is_said near.target (nears ++ nears_of front) ≡ false
 unsaid names nears [] later near follow =
@@ -30,31 +32,32 @@ unsaid names nears [] later near follow =
 unsaid names nears (line ∷ front) later near follow =
     ap (is_said near.target) (sym (append_assoc nears (near_at line) (nears_of front))) ∙ unsaid (names ++ name_at line) (nears ++ near_at line) front later near follow.1
 
+-- where `a || b` is false, both are
 none_of : (a b : Bool) → (a || b) ≡ false → (a ≡ false) × (b ≡ false)
 none_of true b e = cc
 none_of false b e = (refl, e)
 
--- where these places say nothing of a target, the first place behind them that does is found for the target
+-- where none of `nears` is a target's place, and the next place is that target's, that is the place that is found
 found_near : (nears others : List Near) (near : Near) → is_said near.target nears ≡ false → near_of near.target (nears ++ near ∷ others) ≡ Some near
 found_near [] others near unsaid = ap (λ b. cond b (Some near) (near_of near.target others)) (eq-eqb near.target near.target refl)
 found_near (n ∷ nears) others near unsaid =
     let apart = none_of (n.target == near.target) (is_said near.target nears) unsaid in
     ap (λ b. cond b (Some n) (near_of near.target (nears ++ near ∷ others))) apart.0 ∙ found_near nears others near apart.1
 
--- lines, and others behind them, give the places of the first, and behind them those of the others
+-- the lines `xs` and then `ys` give the places of `xs`, and behind them those of `ys`
 nears_both : (xs ys : List TaskLine) → nears_of (xs ++ ys) ≡ nears_of xs ++ nears_of ys
 nears_both [] ys = refl
 nears_both (x ∷ xs) ys = ap (λ ns. near_at x ++ ns) (nears_both xs ys) ∙ sym (append_assoc (near_at x) (nears_of xs) (nears_of ys))
 
--- lists that are one have one first task
+-- equal lists have equal first tasks
 first_is : (t u : Task) (ts us : List Task) → ◌≡◌ {A = List Task} (t ∷ ts) (u ∷ us) → t ≡ u
 first_is t u ts us e = cc
 
--- lists that are one have the same tasks behind the first
+-- equal lists have equal tasks behind the first
 others_are : (t u : Task) (ts us : List Task) → ◌≡◌ {A = List Task} (t ∷ ts) (u ∷ us) → ts ≡ us
 others_are t u ts us e = cc
 
--- each task has the place that is said of its target
+-- once all tasks were given their places, each has the place of its target, if there is one
 placed_so : (nears : List Near) (tasks earlier others : List Task) (task : Task) → map (placed nears) tasks ≡ earlier ++ task ∷ others → task.near ≡ near_of task.command.target nears
 placed_so nears [] [] others task e = cc
 placed_so nears [] (t ∷ ts) others task e = cc
@@ -72,21 +75,22 @@ places_hold text deadline chained tasks names nears is front later near at earli
     placed_so nears (tasks_of (opening deadline chained) is.said) earlier others task (sym is.tasks_are ∙ among)
     ∙ ap (λ t. near_of t nears) same ∙ ap (near_of near.target) all ∙ found_near (nears_of front) (nears_of later) near (unsaid [] [] front later near follow)
 
+-- where `not b` is false, b is true
 double_not : (b : Bool) → not b ≡ false → b ≡ true
 double_not true e = refl
 double_not false e = cc
 
--- an answer that isn't elsewhere, and has a direction, is near
+-- an answer that isn't elsewhere, and has a direction, has one that is near its target's place
 pub near_unless_elsewhere : (near : Near) (answer : Answer) (d : Direction) → is_elsewhere (Some near) answer ≡ false → direction_of answer ≡ Some d → IsNear d near.place near.tolerance
 unfolding is_elsewhere
 near_unless_elsewhere near answer d isnt has =
     (near_is_within d near.place near.tolerance).0 (double_not (is_near d near.place near.tolerance) (ap (is_away near) (sym has) ∙ isnt))
 
--- the tasks before place i stand where it is said, and those behind it don't yet
+-- the tasks, when the loop has given the first i of them their places, and the others none yet
 abbrev halfway : List Near → ℕ → List Task → List Task
 halfway nears i tasks = map (placed nears) (take i tasks) ++ drop i tasks
 
--- one more task is given its place
+-- where the first i tasks have their places, and task i is given its own, the first i + 1 have theirs
 placed_at : (nears : List Near) (tasks : List Task) (i : ℕ) (d : Task) → i < length tasks
     → slice_set (halfway nears i tasks) i (placed nears (get_or (halfway nears i tasks) i d)) ≡ halfway nears (suc i) tasks
 placed_at nears [] zero d below = absurd (omega (arith, below))
@@ -94,7 +98,8 @@ placed_at nears [] (suc i) d below = absurd (omega (arith, below))
 placed_at nears (x ∷ tasks) zero d below = refl
 placed_at nears (x ∷ tasks) (suc i) d below = let low : i < length tasks = omega (arith, below) in ap (λ ts. placed nears x ∷ ts) (placed_at nears tasks i d low)
 
--- one more turn of the loop over tasks gives one more its place
+-- where `now` is the tasks with the first i given their places, and task i of `now` is replaced by itself with its place, the
+-- first i + 1 have theirs
 pub placed_next : (nears : List Near) (tasks now : List Task) (i : ℕ) (d new : Task) → now ≡ halfway nears i tasks → i < length tasks → new ≡ placed nears (get_or now i d)
     → slice_set now i new ≡ map (placed nears) (take (i + 1) tasks) ++ drop (i + 1) tasks
 placed_next nears tasks now i d new is below e =

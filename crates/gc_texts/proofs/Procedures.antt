@@ -1,4 +1,5 @@
--- Which texts are those of a procedure and its parameters.
+-- Which texts are those of a procedure: its number in digits and, behind a space (byte 32), its parameters, if there are any. A
+-- text that is cut at its first space has a front and, if it has a space, a rest.
 use Rattle.std.proofs.Common.{◌≡◌, ◌<◌, ℕ, List, [], ◌∷◌, ◌++◌, length, Option, Some, None, arith, refl, ap, subst, sym, ◌∙◌, unwrap_or}
 use Rattle.std.specs.Prelude.{MatchOption}
 use Rattle.std.proofs.lemmas.List.{append-nil}
@@ -26,6 +27,7 @@ no_procedure text front rest cut none call p =
     let parts = procedure_parts text front rest call cut p in
     none p.rpc (subst (λ (t : List ℕ). IsNumber t p.rpc 65535) (sym parts.0) p.number)
 
+-- an empty list of parameters, where one is given, has no byte
 not_more : (params : Option (List ℕ)) → params ≡ Some [] → IsMore params → ⊥
 not_more None e more = cc
 not_more (Some []) e more = absurd (omega (arith, more))
@@ -41,7 +43,8 @@ no_parameters text front cut call p =
 pub one_number : (digits : List ℕ) (m n max : ℕ) → IsNumber digits m max → IsNumber digits n max → m ≡ n
 one_number digits m n max h k = h.names.value ∙ sym k.names.value
 
--- the call of a procedure's text is that of its number and parameters, and there is none where these are no call's
+-- where the front of a text is a number, and `r` is the call of that number and the parameters behind it, or `None` where they
+-- make none, `r` is the call of the text, too
 pub procedure_is : (text front params : List ℕ) (rest : Option (List ℕ)) (rpc : ℕ) (r : Option Call) → Cuts 32 text front rest → IsMore rest
     → params ≡ unwrap_or rest [] → IsNumber front rpc 65535 → MatchOption r ((call : Call) → IsCall rpc params call → ⊥)
     (λ call. IsCall rpc params call) → MatchOption r ((call : Call) → IsProcedure text call → ⊥) (λ call. IsProcedure text call)
@@ -62,15 +65,17 @@ procedure_is text front params rest rpc (Some call) cut more same number calls =
       calls = subst (λ (ps : List ℕ). IsCall rpc ps call) same calls;
     }
   where
+    -- a text that is cut at its first space is its front and what stands behind that, with the space
     cut_text : (text front : List ℕ) (rest : Option (List ℕ)) → Cuts 32 text front rest → text ≡ front ++ behind_number rest
     cut_text text front None cut = cut.0 ∙ sym (append-nil front)
     cut_text text front (Some rest) cut = cut.0
 
--- a cut with one rest is a cut with a rest that is the same
+-- in a cut, the rest may be replaced by one that equals it
 pub with_rest : (mark : ℕ) (text front : List ℕ) (o rest : Option (List ℕ)) → Cuts mark text front o → o ≡ rest → Cuts mark text front rest
 with_rest mark text front o rest cut e = let P : Option (List ℕ) → Type 0 = λ r. Cuts mark text front r in subst P e cut
 
--- where at least one byte of parameters stands behind a space, the text's call is that of its number and these parameters
+-- where the front of a text is a number, with a space and at least one byte of parameters behind it, and `r` is the call of
+-- that number and these parameters, or `None` where they make none, `r` is the call of the text, too
 pub with_parameters : (text front params : List ℕ) (o : Option (List ℕ)) (rpc : ℕ) (r : Option Call) → Cuts 32 text front o → o ≡ Some params
     → 0 < length params → IsNumber front rpc 65535 → MatchOption r ((call : Call) → IsCall rpc params call → ⊥)
     (λ call. IsCall rpc params call) → MatchOption r ((call : Call) → IsProcedure text call → ⊥) (λ call. IsProcedure text call)

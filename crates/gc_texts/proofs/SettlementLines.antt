@@ -6,7 +6,8 @@ use Rattle.gc_client.specs.Rule
 use Rattle.gc_client.specs.Settlements.{settlement_seen}
 use Rattle.gc_texts.specs.Settlements.{settlement_line, lines_from, settlement_lines}
 
--- a list is what stands before a place, the item there, and what stands behind it
+-- where x is the item at place i of a list, the first i + 1 items are the first i and x, and the list is these and what stands
+-- behind them
 pub at_place : {A : Type 0} (xs : List A) (i : ℕ) (x : A) → i < length xs → x ≡ get_or xs i x → (take (i + 1) xs ≡ take i xs ++ x ∷ []) × (xs ≡ take i xs ++ x ∷ drop (i + 1) xs)
 at_place xs i x below is = (
   take_more xs i x below ∙ ap (λ y. take i xs ++ y ∷ []) (sym is),
@@ -22,7 +23,8 @@ lines_one from (x ∷ before) s =
     ap (λ l. settlement_line from x ++ l) (lines_one (from + 1) before s ∙ ap (λ p. later ++ settlement_line p s) place)
     ∙ sym (append_assoc (settlement_line from x) later (settlement_line (from + length (x ∷ before)) s))
 
--- settlements, and one more, are seen as these, and that one behind them
+-- the values that stand for settlements and one more (`settlement_seen`) are those of the settlements, and then that of the
+-- last
 pub map_one : (before : List Settlement) (s : Settlement) → map settlement_seen (before ++ s ∷ []) ≡ map settlement_seen before ++ settlement_seen s ∷ []
 map_one [] s = refl
 map_one (x ∷ before) s = ap (λ l. settlement_seen x ∷ l) (map_one before s)

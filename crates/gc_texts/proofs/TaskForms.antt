@@ -1,5 +1,5 @@
 -- Which lines have the forms of a station's text.
-use Rattle.std.proofs.Common.{◌≡◌, ◌≤◌, ◌==◌, ℕ, List, [], ◌∷◌, ◌++◌, get_or, true, false, Option, Some, None, MatchOption, arith, refl, ap, subst, sym, ◌∙◌, codes, cond, ne_eqb, if◌then◌else◌}
+use Rattle.std.proofs.Common.{◌≡◌, ◌≤◌, ◌==◌, inl, inr, ℕ, List, [], ◌∷◌, ◌++◌, get_or, true, false, Option, Some, None, MatchOption, arith, refl, ap, subst, sym, ◌∙◌, codes, cond, ne_eqb, if◌then◌else◌}
 use Rattle.std.proofs.lemmas.List.{append_cancel_left}
 use Rattle.gc_values.specs.Digits.{AreDigits}
 use Rattle.gc_values.proofs.DecimalLaws.{spells_unique}
@@ -13,6 +13,7 @@ use Rattle.gc_texts.specs.declared.near.Near.{Near}
 use Rattle.gc_texts.specs.declared.task_line.TaskLine.{TaskLine}
 use Rattle.gc_texts.specs.declared.task_line.TaskLine.TheVariants as says
 use Rattle.gc_texts.proofs.Cutting.{cut_found, one_front, digits_lack_spaces}
+use Rattle.gc_texts.proofs.CodeForms.{one_accepting}
 use Rattle.gc_texts.proofs.CommandForms.{one_command}
 use Rattle.gc_texts.proofs.Procedures.{one_number}
 
@@ -20,12 +21,13 @@ use Rattle.gc_texts.proofs.Procedures.{one_number}
 pub deadline_digits : (line rest : List ℕ) (deadline : ℕ) → line ≡ codes "deadline " ++ rest → (is : IsDeadline line deadline) → is.digits ≡ rest
 deadline_digits line rest deadline e is = append_cancel_left (codes "deadline ") is.digits rest (sym is.line_is ∙ e)
 
--- a deadline of 0 is none
+-- where the number behind `deadline ` is 0, the line gives no deadline
 pub no_zero : (line rest : List ℕ) (n : ℕ) → line ≡ codes "deadline " ++ rest → IsNumber rest n 86400000 → n ≡ 0 → (deadline : ℕ) → IsDeadline line deadline → ⊥
 no_zero line rest n e number zero deadline is =
     let same : n ≡ deadline = one_number rest n deadline 86400000 number (subst (λ (ds : List ℕ). IsNumber ds deadline 86400000) (deadline_digits line rest deadline e is) is.number) in
     omega (arith, same, zero, is.some)
 
+-- the parts of a line that gives a target a name
 module _ (line rest : List ℕ) (name : Name) (e : line ≡ codes "name " ++ rest) (is : IsNaming line name) where
   -- what stands behind `name ` is the target, a space and the name
   the_rest : rest ≡ is.target_text ++ 32 ∷ name.text.items
@@ -39,11 +41,11 @@ module _ (line rest : List ℕ) (name : Name) (e : line ≡ codes "name " ++ res
   pub no_space : (target : List ℕ) → Cuts 32 rest target None → ⊥
   no_space target cut = let parts = the_cut target None cut in let bad : None ≡ Some name.text.items = parts.1 in cc
 
-  -- what stands before that space is a target
+  -- what stands before the first space behind `name ` is a target
   pub has_target : (target : List ℕ) (text : Option (List ℕ)) → Cuts 32 rest target text → ((n : ℕ) → IsNumber target n 4294967295 → ⊥) → ⊥
   has_target target text cut none = none name.target (subst (λ (ds : List ℕ). IsNumber ds name.target 4294967295) (sym (the_cut target text cut).0) is.target_is)
 
-  -- what stands behind that space is a name
+  -- what stands behind the first space behind `name ` is a name
   pub has_name : (target text : List ℕ) → Cuts 32 rest target (Some text) → is_name text ≡ false → ⊥
   has_name target text cut isnt =
       let some : Some text ≡ Some name.text.items = (the_cut target (Some text) cut).1 in
@@ -51,7 +53,8 @@ module _ (line rest : List ℕ) (name : Name) (e : line ≡ codes "name " ++ res
       let both : true ≡ false = sym is.text_is ∙ ap is_name (sym same) ∙ isnt in
       cc
 
--- what kind of line it is; the first byte shows that, but that `name` and `near` begin alike
+-- the kinds of lines, told apart by the first byte: 0 a command, 1 `deadline`, 2 `chained`, 3 `unchained`, 4 `name` or `near`,
+-- which begin alike, 5 `accept`
 abbrev kind : TaskLine → ℕ
 kind (says.Command command) = 0
 kind (says.Deadline deadline) = 1
@@ -59,27 +62,31 @@ kind says.Chained = 2
 kind says.Unchained = 3
 kind (says.Naming name) = 4
 kind (says.Standing near) = 4
+kind (says.Accepting accepted) = 5
 
+-- the kind of a line with this first byte: 100 is d, 99 c, 117 u, 110 n and 97 a; any other begins a command
 abbrev first_kind : ℕ → ℕ
-first_kind b = if b == 100 then 1 else if b == 99 then 2 else if b == 117 then 3 else if b == 110 then 4 else 0
+first_kind b = if b == 100 then 1 else if b == 99 then 2 else if b == 117 then 3 else if b == 110 then 4 else if b == 97 then 5 else 0
 
+-- the kind of a line, by its first byte
 abbrev kind_in : List ℕ → ℕ
 kind_in line = first_kind (get_or line 0 0)
 
 -- a line that begins with a digit is of the kind of a command (0)
 digit_kind : (b : ℕ) → b ≤ 57 → first_kind b ≡ 0
 digit_kind b low =
-    ap (λ t. cond t 1 (if b == 99 then 2 else if b == 117 then 3 else if b == 110 then 4 else 0)) (ne_eqb b 100 (λ e. omega (arith, e, low)))
-    ∙ ap (λ t. cond t 2 (if b == 117 then 3 else if b == 110 then 4 else 0)) (ne_eqb b 99 (λ e. omega (arith, e, low)))
-    ∙ ap (λ t. cond t 3 (if b == 110 then 4 else 0)) (ne_eqb b 117 (λ e. omega (arith, e, low)))
-    ∙ ap (λ t. cond t 4 0) (ne_eqb b 110 (λ e. omega (arith, e, low)))
+    ap (λ t. cond t 1 (if b == 99 then 2 else if b == 117 then 3 else if b == 110 then 4 else if b == 97 then 5 else 0)) (ne_eqb b 100 (λ e. omega (arith, e, low)))
+    ∙ ap (λ t. cond t 2 (if b == 117 then 3 else if b == 110 then 4 else if b == 97 then 5 else 0)) (ne_eqb b 99 (λ e. omega (arith, e, low)))
+    ∙ ap (λ t. cond t 3 (if b == 110 then 4 else if b == 97 then 5 else 0)) (ne_eqb b 117 (λ e. omega (arith, e, low)))
+    ∙ ap (λ t. cond t 4 (if b == 97 then 5 else 0)) (ne_eqb b 110 (λ e. omega (arith, e, low)))
+    ∙ ap (λ t. cond t 5 0) (ne_eqb b 97 (λ e. omega (arith, e, low)))
 
 -- a line that begins with digits and a space is of the kind of a command (0)
 digits_kind : (ds rest : List ℕ) → AreDigits ds → first_kind (get_or (ds ++ 32 ∷ rest) 0 0) ≡ 0
 digits_kind [] rest digits = refl
 digits_kind (d ∷ ds) rest digits = digit_kind d digits.0.1
 
--- a line has the kind that its first bytes show
+-- the first byte of a line shows the kind of what the line says
 kind_is : (line : List ℕ) (said : TaskLine) → IsTaskLine line said → kind_in line ≡ kind said
 kind_is line (says.Command command) is = ap kind_in is.line_is ∙ digits_kind is.target_text is.procedure is.target_is.names.digits
 kind_is line (says.Deadline deadline) is = ap kind_in is.line_is
@@ -87,13 +94,15 @@ kind_is line says.Chained is = ap kind_in is
 kind_is line says.Unchained is = ap kind_in is
 kind_is line (says.Naming name) is = ap kind_in is.line_is
 kind_is line (says.Standing near) is = ap kind_in is.line_is
+kind_is line (says.Accepting accepted) (inl alone) = ap kind_in alone.0
+kind_is line (says.Accepting accepted) (inr is) = ap kind_in is.line_is
 
 -- a line gives one deadline at most
 one_deadline : (line : List ℕ) (m n : ℕ) → IsDeadline line m → IsDeadline line n → m ≡ n
 one_deadline line m n x y =
     one_number y.digits m n 86400000 (subst (λ (ds : List ℕ). IsNumber ds m 86400000) (deadline_digits line y.digits m y.line_is x) x.number) y.number
 
--- two names with one target and one text are one
+-- two names with equal targets and equal texts are equal
 same_name : (m n : Name) → m.target ≡ n.target → m.text.items ≡ n.text.items → m ≡ n
 same_name m n e f = ap (λ t. record { target = t; text = m.text }) e ∙ ap (λ xs. record { target = n.target; text = record { items = xs } }) f
 
@@ -105,7 +114,7 @@ one_naming line m n x y =
     (digits_lack_spaces x.target_text x.target_is.names.digits) (digits_lack_spaces y.target_text y.target_is.names.digits) in
     same_name m n (one_number y.target_text m.target n.target 4294967295 (subst (λ (t : List ℕ). IsNumber t m.target 4294967295) parts.0 x.target_is) y.target_is) parts.1
 
--- two places with one target, one direction and one tolerance are one
+-- two places with equal targets, directions and tolerances are equal
 same_near : (m n : Near) → m.target ≡ n.target → m.place.hz ≡ n.place.hz → m.place.v ≡ n.place.v → m.tolerance ≡ n.tolerance → m ≡ n
 same_near m n e f g h =
     ap (λ t. record { target = t; place = m.place; tolerance = m.tolerance }) e
@@ -125,19 +134,20 @@ one_standing line m n x y =
     one_near (before 32 y.rest) (before 32 (behind 32 y.rest)) (before 32 (behind 32 (behind 32 y.rest))) (behind 32 (behind 32 (behind 32 y.rest))) m n
     (subst (λ (r : List ℕ). IsNearText r m) (append_cancel_left (codes "near ") x.rest y.rest (sym x.line_is ∙ y.line_is)) x.near_is) y.near_is
 
--- where a line begins with `near `, it says where a target stands exactly as the text behind that does
+-- where a line is `near ` and `rest`, and `r` is the place that `rest` says, or `None` where it says none, `r` is the place
+-- that the line says, too
 pub stands_so : (line rest : List ℕ) (r : Option Near) → line ≡ codes "near " ++ rest → MatchOption r ((near : Near) → IsNearText rest near → ⊥) (λ near. IsNearText rest near)
     → MatchOption r ((near : Near) → IsStanding line near → ⊥) (λ near. IsStanding line near)
 stands_so line rest None e none = λ near is. none near (subst (λ (r : List ℕ). IsNearText r near) (append_cancel_left (codes "near ") is.rest rest (sym is.line_is ∙ e)) is.near_is)
 stands_so line rest (Some near) e is = record { rest = rest; line_is = e; near_is = is }
 
--- a line of a name is none of a place
+-- no line both gives a target a name (`name `) and says where a target stands (`near `)
 never_both : (line : List ℕ) (name : Name) (near : Near) → IsNaming line name → IsStanding line near → ⊥
 never_both line name near x y =
     let second : ◌≡◌ {A = ℕ} 97 101 = ap (λ bs. get_or bs 1 0) (sym x.line_is ∙ y.line_is) in
     omega (arith, second)
 
--- two readings of a line that are of one kind are the same
+-- where a line says `a` and says `b`, and both are of one kind, they are the same
 same_said : (line : List ℕ) (a b : TaskLine) → IsTaskLine line a → IsTaskLine line b → kind a ≡ kind b → a ≡ b
 same_said line (says.Command c) (says.Command d) x y h = ap says.Command (one_command line c d x y)
 same_said line (says.Deadline m) (says.Deadline n) x y h = ap says.Deadline (one_deadline line m n x y)
@@ -145,6 +155,7 @@ same_said line says.Chained says.Chained x y h = refl
 same_said line says.Unchained says.Unchained x y h = refl
 same_said line (says.Naming m) (says.Naming n) x y h = ap says.Naming (one_naming line m n x y)
 same_said line (says.Standing m) (says.Standing n) x y h = ap says.Standing (one_standing line m n x y)
+same_said line (says.Accepting a) (says.Accepting b) x y h = ap says.Accepting (one_accepting line a b x y)
 same_said line (says.Naming m) (says.Standing n) x y h = absurd (never_both line m n x y)
 same_said line (says.Standing m) (says.Naming n) x y h = absurd (never_both line n m y x)
 same_said line a b x y h = absurd (omega (arith, h))

@@ -1,7 +1,10 @@
--- Laws of a station's text: one reading, the commands' texts among them, and chains within rows.
+-- Laws of a station's text: it has one reading; a command text (lines of commands alone) is one; and chains stay within rows,
+-- which are runs of commands for one target with no line `chained` or `unchained` between them. The mode at a line is the
+-- deadline, the accepted codes, whether commands are chained, and the target of the row there.
 use Rattle.std.proofs.Common.{◌≡◌, ℕ, List, [], ◌∷◌, ◌++◌, map, Option, Some, None, Bool, true, false, ◌&&◌, ◌⊎◌, inl, inr, refl, ap, sym, ◌∙◌}
 use Rattle.std.specs.Prelude.{filter}
 use Rattle.std.proofs.lemmas.Bool.{eqb-true}
+use Rattle.gc_texts.specs.Codes.{no_codes}
 use Rattle.gc_texts.specs.Commands.{IsCommand}
 use Rattle.gc_texts.specs.Laws.{OneTaskList, CommandsAreTasks, CommandsArePlain, AreRows, ChainsAreRows}
 use Rattle.gc_texts.specs.LineForms.{is_kept, text_lines, AreItems}
@@ -27,7 +30,7 @@ one_task_list text deadline chained xs ys ms ns ps qs h k =
       places,
     )
 
--- lines of commands
+-- commands, as what the lines of a station's text say
 abbrev asks : List Command → List TaskLine
 asks commands = map says.Command commands
 
@@ -38,7 +41,7 @@ asked_forms [] (c ∷ cs) are = absurd are
 asked_forms (line ∷ lines) [] are = absurd are
 asked_forms (line ∷ lines) (c ∷ cs) are = (are.0, asked_forms lines cs are.1)
 
--- whatever names and places there are, commands may follow
+-- lines of commands may stand behind any names and places
 asked_follow : (names : List Name) (nears : List Near) (commands : List Command) → MayFollow names nears (asks commands)
 asked_follow names nears [] = tt
 asked_follow names nears (c ∷ cs) = (refl, asked_follow (names ++ []) (nears ++ []) cs)
@@ -53,7 +56,7 @@ asked_nears : (commands : List Command) → [] ≡ nears_of (asks commands)
 asked_nears [] = refl
 asked_nears (c ∷ cs) = asked_nears cs
 
--- where no place is said, the tasks stand nowhere
+-- where the text says no place, giving tasks their places changes nothing: they have none
 unplaced : (mode : Mode) (lines : List TaskLine) → tasks_of mode lines ≡ map (placed []) (tasks_of mode lines)
 unplaced mode [] = refl
 unplaced mode (says.Command c ∷ later) = ap (λ ts. tasks_of mode (says.Command c ∷ []) ++ ts) (unplaced (behind mode (says.Command c)) later)
@@ -62,8 +65,9 @@ unplaced mode (says.Chained ∷ later) = unplaced (behind mode says.Chained) lat
 unplaced mode (says.Unchained ∷ later) = unplaced (behind mode says.Unchained) later
 unplaced mode (says.Naming n ∷ later) = unplaced mode later
 unplaced mode (says.Standing n ∷ later) = unplaced mode later
+unplaced mode (says.Accepting cs ∷ later) = unplaced (behind mode (says.Accepting cs)) later
 
--- the tasks of commands have these commands
+-- the tasks of lines of commands have these commands, in order
 asked_tasks : (mode : Mode) (commands : List Command) → map (λ task. task.command) (tasks_of mode (asks commands)) ≡ commands
 asked_tasks mode [] = refl
 asked_tasks mode (c ∷ cs) = ap (λ l. c ∷ l) (asked_tasks (behind mode (says.Command c)) cs)
@@ -82,15 +86,18 @@ commands_are_tasks text commands deadline chained are = (
   asked_tasks (opening deadline chained) commands,
 )
 
+-- the task of a command that isn't chained, with this deadline and without a place
 abbrev plain : ℕ → Command → Task
-plain deadline command = record { command = command; deadline = deadline; chained = false; near = None }
+plain deadline command = record { command = command; deadline = deadline; chained = false; near = None; accepted = no_codes }
 
--- where commands aren't chained, each gives a task with the deadline, by itself
-plain_tasks : (deadline : ℕ) (row : Option ℕ) (commands : List Command) → map (plain deadline) commands ≡ tasks_of (record { deadline = deadline; chained = false; row = row }) (asks commands)
+-- where commands aren't chained, each gives a task that isn't chained either, with the deadline `deadline`
+plain_tasks : (deadline : ℕ) (row : Option ℕ) (commands : List Command)
+    → map (plain deadline) commands ≡ tasks_of (record { deadline = deadline; chained = false; row = row; accepted = no_codes }) (asks commands)
 plain_tasks deadline row [] = refl
 plain_tasks deadline row (c ∷ cs) = ap (λ l. plain deadline c ∷ l) (plain_tasks deadline (Some c.target) cs)
 
--- the law: where commands aren't chained, a command text gives each of them with the deadline, by itself
+-- the law: a command text, read as a station's text without chains, gives one task for each command, not chained and with the
+-- caller's deadline
 pub commands_are_plain : CommandsArePlain
 commands_are_plain text commands deadline are =
     record {
@@ -101,6 +108,7 @@ commands_are_plain text commands deadline are =
       nears_are = asked_nears commands;
     }
 
+-- where `a && b` is true, b is
 both_true : (a b : Bool) → (a && b) ≡ true → b ≡ true
 both_true true b e = e
 both_true false b e = cc
@@ -110,12 +118,14 @@ row_is : (row : Option ℕ) (target : ℕ) → goes_on row target ≡ true → r
 row_is None target e = cc
 row_is (Some before) target e = ap Some (eqb-true before target e)
 
--- a mode's row, where it has one, is that of the task before
+-- `before` is the target of the task before, if there is one. Where the row is none or that target, and it is `target`, the
+-- task before is for `target`
 row_before : (row before : Option ℕ) (target : ℕ) → (row ≡ None) ⊎ (row ≡ before) → row ≡ Some target → before ≡ Some target
 row_before row before target (inl none) e = let bad : None ≡ Some target = sym none ∙ e in cc
 row_before row before target (inr same) e = sym same ∙ e
 
--- where the mode's row is none or that of the task before, the tasks of lines are chained within rows
+-- `before` is the target of the task before these lines, if there is one. Where the mode's row is none or that target, each
+-- chained task of the lines follows one for the same target
 rows : (mode : Mode) (before : Option ℕ) (said : List TaskLine) → (mode.row ≡ None) ⊎ (mode.row ≡ before) → AreRows before (tasks_of mode said)
 rows mode before [] h = tt
 rows mode before (says.Command c ∷ later) h = (
@@ -127,13 +137,14 @@ rows mode before (says.Chained ∷ later) h = rows (behind mode says.Chained) be
 rows mode before (says.Unchained ∷ later) h = rows (behind mode says.Unchained) before later (inl refl)
 rows mode before (says.Naming n ∷ later) h = rows mode before later h
 rows mode before (says.Standing n ∷ later) h = rows mode before later h
+rows mode before (says.Accepting cs ∷ later) h = rows (behind mode (says.Accepting cs)) before later h
 
--- giving tasks their places leaves the rows as they are
+-- giving tasks their places changes neither which are chained nor for which target they are, so rows stay rows
 placed_rows : (nears : List Near) (before : Option ℕ) (tasks : List Task) → AreRows before tasks → AreRows before (map (placed nears) tasks)
 placed_rows nears before [] are = tt
 placed_rows nears before (task ∷ later) are = (are.0, placed_rows nears (Some task.command.target) later are.1)
 
--- the law: a chain stays within its row
+-- the law: each chained task stands behind one for the same target
 pub chains_are_rows : ChainsAreRows
 chains_are_rows text deadline chained tasks names nears is =
     rw is.tasks_are (placed_rows nears None (tasks_of (opening deadline chained) is.said) (rows (opening deadline chained) None is.said (inl refl)))

@@ -9,11 +9,12 @@ use Rattle.gc_client.specs.Settlements.{settlement_seen}
 use Rattle.gc_texts.specs.Settlements.{settlement_line, lines_from, ToldPart}
 use Rattle.gc_texts.proofs.SettlementLines.{lines_one, map_one, at_place}
 
--- in front of place i stand i settlements
+-- there are i settlements in front of the one at place i
 front_is : (ss : List Settlement) (i : ℕ) → i < length ss → length (map settlement_seen (take i ss)) ≡ i
 front_is ss i below = length-map (take i ss) settlement_seen ∙ omega (arith, length-take i ss, below)
 
--- where a sink took the lines before one, and then that one, it took the lines through that one
+-- where a sink took the lines of the first i settlements, numbered from `place` on, and then the line of the next one (s), it
+-- took the lines of the first i + 1. It has taken `old` at first, `mid` in between and `new` at the end
 pub lines_next : (place : ℕ) (ss : List Settlement) (i : ℕ) (s : Settlement) (old mid new : Option (List ℕ)) (line : List ℕ) → i < length ss
     → s ≡ get_or ss i s → line ≡ settlement_line (place + i) (settlement_seen s)
     → Appends old mid (lines_from place (map settlement_seen (take i ss))) → Appends mid new line → Appends old new (lines_from place (map settlement_seen (take (i + 1) ss)))
@@ -24,7 +25,8 @@ lines_next place ss i s old mid new line below is text so more =
     ∙ sym (lines_one place front seen) ∙ ap (lines_from place) (sym (map_one (take i ss) s)) ∙ ap (λ xs. lines_from place (map settlement_seen xs)) (sym (at_place ss i s below is).0))
     (Appends-append old mid new _ _ so more)
 
--- where a sink took the lines before one, and then only a front of that one, it took a part of the lines
+-- where a sink took the lines of the first i settlements, numbered from `place` on, and then only the first n bytes of the next
+-- line, it took a part of all lines (`ToldPart`)
 pub lines_part : (place : ℕ) (ss : List Settlement) (i n : ℕ) (s : Settlement) (old mid new : Option (List ℕ)) (line : List ℕ) → i < length ss
     → s ≡ get_or ss i s → line ≡ settlement_line (place + i) (settlement_seen s)
     → Appends old mid (lines_from place (map settlement_seen (take i ss))) → TakesFront mid new n line → ToldPart place (map settlement_seen ss) old new

@@ -1,4 +1,6 @@
--- The lines of a text, one after another.
+-- The lines of a text, one after another. A text is cut into pieces at each LF; `before` is the beginning of the first piece. A
+-- line is a piece without a CR at its end. `Reads` says how far the reading of a text has come. A line that is empty or begins
+-- with `#` is skipped; any other has to have the form of an item. LF is byte 10, and CR byte 13.
 use Rattle.std.proofs.Common.{◌≡◌, ◌≢◌, ◌≤◌, ◌+◌, ℕ, List, [], ◌∷◌, ◌++◌, length, map, Option, Some, None, Bool, true, false, cond, arith, refl, ap, subst, sym, ◌∙◌, ◌==◌, append_assoc, append-nil, length-append, ne_eqb}
 use Rattle.std.specs.Prelude.{filter, not}
 use Rattle.std.proofs.lemmas.List.{length-map}
@@ -10,12 +12,12 @@ abbrev pub lines_left : Option (List ℕ) → List (List ℕ)
 lines_left None = []
 lines_left (Some text) = text_lines text
 
--- how much is left of a text: its bytes and one more
+-- how much is left of a text, as a number that falls with each line: its bytes and one more, or 0 where nothing is left
 abbrev pub much_left : Option (List ℕ) → ℕ
 much_left None = 0
 much_left (Some text) = length text + 1
 
--- a byte that isn't the LF goes into the piece
+-- a byte that isn't LF goes on the first piece
 piece-on : (before bs : List ℕ) (b : ℕ) → b ≢ 10 → text_pieces before (b ∷ bs) ≡ text_pieces (before ++ b ∷ []) bs
 piece-on before bs b other = ap (λ t. cond t (before ∷ text_pieces [] bs) (text_pieces (before ++ b ∷ []) bs)) (ne_eqb b 10 other)
 
@@ -31,7 +33,7 @@ pieces-cut before [] rest lacks = ap (λ x. x ∷ text_pieces [] rest) (sym (app
 pieces-cut before (b ∷ front) rest lacks =
     piece-on before (front ++ 10 ∷ rest) b lacks.0 ∙ pieces-cut (before ++ b ∷ []) front rest lacks.1 ∙ ap (λ x. x ∷ text_pieces [] rest) (append_assoc before (b ∷ []) front)
 
--- one more byte makes at most one more piece
+-- with one more byte b in front, which is a line feed (t) or not, a text has at most one piece more
 few_more :
     (before bs : List ℕ) (b : ℕ) (t : Bool) → length (text_pieces [] bs) ≤ length bs + 1 → length (text_pieces (before ++ b ∷ []) bs) ≤ length bs + 1 →
     length (cond t (before ∷ text_pieces [] bs) (text_pieces (before ++ b ∷ []) bs)) ≤ length (b ∷ bs) + 1
@@ -48,28 +50,30 @@ pub lines-cut : (text front : List ℕ) (rest : Option (List ℕ)) → Cuts 10 t
 lines-cut text front None cut = ap (map without_cr) (ap (text_pieces []) cut.0 ∙ pieces-lacking [] front cut.1)
 lines-cut text front (Some rest) cut = ap (map without_cr) (ap (text_pieces []) cut.0 ∙ pieces-cut [] front rest cut.1)
 
--- lines with their items, and others with theirs, are all of these lines with all of these items
+-- where the lines `xs` have the items `es`, and the lines `ys` the items `fs`, the lines of both lists have the items of both
 pub AreItems-append : {Item : Type 0} (form : Form Item) (xs ys : List (List ℕ)) (es fs : List Item) → AreItems form xs es → AreItems form ys fs → AreItems form (xs ++ ys) (es ++ fs)
 AreItems-append form [] ys [] fs h k = k
 AreItems-append form [] ys (e ∷ es) fs h k = absurd h
 AreItems-append form (x ∷ xs) ys [] fs h k = absurd h
 AreItems-append form (x ∷ xs) ys (e ∷ es) fs h k = (h.0, AreItems-append form xs ys es fs h.1 k)
 
--- how far the reading of a text has come: its lines are those that were read and those that are left
+-- how far the reading of a text has come: `number` of its lines were read, and gave these items, and the others are those of
+-- `left`
 pub record Reads {Item : Type 0} (form : Form Item) (text : List ℕ) (left : Option (List ℕ)) (number : ℕ) (items : List Item) : Type 0 where
   pub read : List (List ℕ)
   pub lines_are : text_lines text ≡ read ++ lines_left left
   pub count : number ≡ length read
   pub items_are : AreItems form (filter is_kept read) items
 
--- a text within the limit has no more lines than a u32 counts
+-- of a text of at most 65,536 bytes at most 65,537 lines are read, so that a u32 counts them
 pub reads_few : {Item : Type 0} (form : Form Item) (text : List ℕ) (left : Option (List ℕ)) (number : ℕ) (items : List Item) → length text ≤ 65536 → Reads form text left number items → number ≤ 65537
 reads_few form text left number items within r =
     let all : length (text_lines text) ≡ length r.read + length (lines_left left) = ap length r.lines_are ∙ length-append r.read (lines_left left) in
     let pieces : length (text_lines text) ≡ length (text_pieces [] text) = length-map (text_pieces [] text) without_cr in
     omega (arith, all, pieces, pieces-few [] text, within, r.count)
 
--- by whether one more line is kept, the kept lines of two lists are still those of both
+-- where the kept lines of two lists (`all`) are `xs` of the first and then `ys` of the second, they are still with one more
+-- line x in front of the first list, kept (`t`) or not
 filter_one :
     (x : List ℕ) (xs ys all : List (List ℕ)) (t : Bool) → all ≡ xs ++ ys →
     cond t (x ∷ all) all ≡ cond t (x ∷ xs) xs ++ ys
@@ -81,11 +85,12 @@ filter-append : (xs ys : List (List ℕ)) → filter is_kept (xs ++ ys) ≡ filt
 filter-append [] ys = refl
 filter-append (x ∷ xs) ys = filter_one x (filter is_kept xs) (filter is_kept ys) (filter is_kept (xs ++ ys)) (is_kept x) (filter-append xs ys)
 
--- the items of one line more: its own, or none
+-- these are the items of one line: none where it is skipped, else the one whose form it has
 abbrev pub LineItems : {Item : Type 0} → Form Item → List ℕ → List Item → Type 0
 LineItems form line items = AreItems form (filter is_kept (line ∷ [])) items
 
--- where the next line gives these items, they are read behind those before
+-- where the reading has come to a line, and that line gives the items `more`, behind it the reading has those before and then
+-- `more`
 pub reads_on : {Item : Type 0} (form : Form Item) (text now line : List ℕ) (rest : Option (List ℕ)) (number : ℕ) (items more : List Item)
     → Reads form text (Some now) number items → Cuts 10 now line rest → LineItems form (without_cr line) more
     → Reads form text rest (number + 1) (items ++ more)
@@ -124,7 +129,7 @@ first_faulty form text now line rest number items r cut kept none =
       before = r.items_are;
     }
 
--- where the next line isn't skipped and has the form of an item, a line has that form, and none before it is faulty
+-- where the next line isn't skipped and has the form of an item, the reading comes to an item with no faulty line before it
 pub next_item : {Item : Type 0} (form : Form Item) (text now line : List ℕ) (rest : Option (List ℕ)) (number : ℕ) (items : List Item)
     → Reads form text (Some now) number items → Cuts 10 now line rest → is_skipped (without_cr line) ≡ false → (e : Item) → form (without_cr line) e
     → BehindAnItem form text
@@ -141,30 +146,37 @@ next_item form text now line rest number items r cut kept e is =
       before = r.items_are;
     }
 
--- one turn of the reading: a line that stands at the front of what is left
+-- one turn of the reading loop: `line` is cut off what is left, `plain` is that line without its CR, and `skipped` whether it
+-- is skipped
 module _
     {Item : Type 0} (form : Form Item) (text : List ℕ) (left : Option (List ℕ)) (now line plain : List ℕ) (rest : Option (List ℕ)) (number : ℕ) (items : List Item) (skipped : Bool)
     (r : Reads form text left number items) (some : left ≡ Some now) (cut : Cuts 10 now line rest) (is_plain : plain ≡ without_cr line) (tested : skipped ≡ is_skipped plain) where
+  -- how far the reading had come before this turn
   stands : Reads form text (Some now) number items
   stands = subst (λ o. Reads form text o number items) some r
 
+  -- a line that tested as not skipped isn't
   not_skipped : skipped ≡ false → is_skipped (without_cr line) ≡ false
   not_skipped isnt = ap is_skipped (sym is_plain) ∙ sym tested ∙ isnt
 
+  -- a skipped line is read, and gives no item
   pub turn_skips : skipped ≡ true → Reads form text rest (number + 1) items
   turn_skips is =
       let empty : LineItems form (without_cr line) [] = skipped_line form (without_cr line) (ap is_skipped (sym is_plain) ∙ sym tested ∙ is) in
       subst (λ es. Reads form text rest (number + 1) es) (append-nil items) (reads_on form text now line rest number items [] stands cut empty)
 
+  -- a line that isn't skipped and has the form of an item is read, and gives that item
   pub turn_reads : (item : Item) (new : List Item) → skipped ≡ false → form plain item → new ≡ items ++ item ∷ [] → Reads form text rest (number + 1) new
   turn_reads item new isnt is grown =
       let own : LineItems form (without_cr line) (item ∷ []) = kept_line form (without_cr line) item (not_skipped isnt) (subst (λ l. form l item) is_plain is) in
       subst (λ es. Reads form text rest (number + 1) es) (sym grown) (reads_on form text now line rest number items (item ∷ []) stands cut own)
 
+  -- a line that isn't skipped and has the form of no item is the first faulty one
   pub turn_fails : skipped ≡ false → ((e : Item) → form plain e → ⊥) → FirstFaulty form text (number + 1)
   turn_fails isnt none =
       first_faulty form text now line rest number items stands cut (not_skipped isnt) (λ e is. none e (subst (λ l. form l e) (sym is_plain) is))
 
+  -- where memory is refused at a line that has the form of an item, no line up to it is faulty
   pub turn_wants : (item : Item) → skipped ≡ false → form plain item → BehindAnItem form text
   turn_wants item isnt is =
       next_item form text now line rest number items stands cut (not_skipped isnt) item (subst (λ l. form l item) is_plain is)

@@ -4,7 +4,7 @@ use Rattle.gc_texts.specs.LineForms.{IsText, FirstFaulty, BehindAnItem}
 use Rattle.gc_texts.specs.Procedures.{IsNumber, IsProcedure}
 use Rattle.gc_texts.specs.declared.commands.Command.{Command}
 
--- `T RPC` or `T RPC PARAMS`
+-- `T RPC` or `T RPC PARAMS`: the target T, and behind one space the procedure's number and its parameters
 pub record IsCommand (line : List ℕ) (command : Command) : Type 0 where
   pub target_text : List ℕ
   pub procedure : List ℕ
@@ -20,6 +20,7 @@ IsCommands text commands = IsText IsCommand text commands
 abbrev pub IsFirstFaultyCommand : List ℕ → ℕ → Type 0
 IsFirstFaultyCommand text n = FirstFaulty IsCommand text n
 
--- a line has the form of a command, and no line before it is faulty
+-- some line has the form of a command, and no line before it is faulty: the reading comes to that line, and may want memory
+-- there
 abbrev pub IsBehindACommand : List ℕ → Type 0
 IsBehindACommand text = BehindAnItem IsCommand text

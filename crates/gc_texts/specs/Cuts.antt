@@ -1,4 +1,4 @@
--- Texts cut at a mark: this project's own.
+-- Texts cut at a mark, which is a byte, as LF between lines or a space between words: this project's own.
 use Rattle.std.specs.Prelude.{◌≡◌, ◌≢◌, ◌==◌, ℕ, List, [], ◌∷◌, ◌++◌, Option, None, Some, if◌then◌else◌}
 
 -- no byte is the mark

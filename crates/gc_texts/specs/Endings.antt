@@ -1,14 +1,17 @@
 -- How a command of a station's cycle ended: this project's own.
-use Rattle.std.specs.Prelude.{ℕ, List, Option, Some, None, option_map, codes}
+use Rattle.std.specs.Prelude.{ℕ, List, [], Option, Some, None, option_map, codes}
 use Rattle.gc_catalogue.specs.declared.answer.Answer.{Answer}
 use Rattle.gc_values.specs.declared.fault.ValueFault.{ValueFault}
+use Rattle.gc_texts.specs.Qualities.{quality_word}
+use Rattle.gc_texts.specs.declared.quality.Quality.{Quality}
 use Rattle.gc_texts.specs.declared.ending.Ending.{Ending}
 use Rattle.gc_texts.specs.declared.ending.Ending.TheVariants as ending
 
 -- how a command of a station's cycle ended
 pub data End : Type 0 where
-  -- its reply came in time, with this line; where both codes are 0, its values read as this answer
-  Answered : (answer : Option Answer) (line : List ℕ) → End
+  -- its reply came in time, with this line, and is an answer of this quality. `answer` is what the reply's values read as, where
+  -- both codes are 0, or where the return code is accepted and the values would read with return code 0
+  Answered : (quality : Quality) (answer : Option Answer) (line : List ℕ) → End
   -- its reply came in time, with this line, whose codes are 0, and whose values have this fault
   Unreadable : (line : List ℕ) (fault : ValueFault) → End
   -- its reply came in time, with this line, and was measured elsewhere than its target stands
@@ -22,9 +25,9 @@ pub data End : Type 0 where
   -- it wasn't sent, because its cycle couldn't begin before the next was due
   Missed : End
 
--- an ending by its bytes
+-- an ending of the code as one of the type above: its answer by its value, and the reply's line by its bytes
 abbrev pub ending_seen : Ending → End
-ending_seen (ending.Answered answer line) = Answered (option_map (λ a. a.now) answer) line.now.items
+ending_seen (ending.Answered quality answer line) = Answered quality (option_map (λ a. a.now) answer) line.now.items
 ending_seen (ending.Unreadable line fault) = Unreadable line.now.items fault
 ending_seen (ending.Elsewhere line) = Elsewhere line.now.items
 ending_seen ending.Late = Late
@@ -34,7 +37,7 @@ ending_seen ending.Missed = Missed
 
 -- the outcome in one word
 abbrev pub word_of : End → List ℕ
-word_of (Answered answer line) = codes "answered"
+word_of (Answered quality answer line) = codes "answered"
 word_of (Unreadable line fault) = codes "unreadable"
 word_of (Elsewhere line) = codes "elsewhere"
 word_of Late = codes "late"
@@ -49,7 +52,17 @@ fault_of _ = None
 
 -- the line of the command's reply, where one came in time
 abbrev pub line_of : End → Option (List ℕ)
-line_of (Answered answer line) = Some line
+line_of (Answered quality answer line) = Some line
 line_of (Unreadable line fault) = Some line
 line_of (Elsewhere line) = Some line
 line_of _ = None
+
+-- the quality of the command's answer, where it was answered
+abbrev pub quality_of : End → Option Quality
+quality_of (Answered quality answer line) = Some quality
+quality_of _ = None
+
+-- the word of a quality in a row; empty where there is none
+abbrev pub quality_text : Option Quality → List ℕ
+quality_text (Some quality) = quality_word quality
+quality_text None = []

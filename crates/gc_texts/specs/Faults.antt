@@ -47,12 +47,14 @@ run_fault_text fault = numbered (run_fault_number fault) ++ fault_detail fault
 abbrev pub fault_line : List ℕ → List ℕ
 fault_line text = codes "geocom: " ++ text ++ codes "\n"
 
--- how the program reports an end, by its status and on its messages: status 0 and nothing, or status 1 and the fault's line
+-- how the program reports the result of a run: status 0 and no message, or status 1 and the line of the fault. `text` gives a
+-- fault's text, and `old` and `new` are the messages before and after
 abbrev pub Tells : {X E : Type 0} → (E → List ℕ) → Result X E → ℕ → Option (List ℕ) → Option (List ℕ) → Type 0
 Tells text (Ok _) status old new = (status ≡ 0) × (new ≡ old)
 Tells text (Err fault) status old new = (status ≡ 1) × Appends old new (fault_line (text fault))
 
--- the end of serving, as the end of a run
+-- the result of serving, as the result of a run: `Ok` as `Ok`, and each fault as the run's fault of the same name. A failed
+-- write keeps how far it came
 abbrev pub end_of_serving : Result Served ServeFault → Result (Unit {0}) RunFault
 end_of_serving (Ok _) = Ok tt
 end_of_serving (Err (serving.Read _)) = Err Read

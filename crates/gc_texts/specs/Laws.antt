@@ -1,5 +1,6 @@
 -- Laws of the texts: this project's own, as the texts are.
 use Rattle.std.specs.Prelude.{◌≡◌, ◌<◌, ◌^◌, ℕ, Bool, true, false, List, [], ◌∷◌, length, map, All, Option, None, Some}
+use Rattle.gc_texts.specs.Codes.{no_codes}
 use Rattle.gc_texts.specs.Commands.{IsCommands}
 use Rattle.gc_texts.specs.Tasks.{IsTasks}
 use Rattle.gc_texts.specs.Troubles.{wanted}
@@ -29,26 +30,28 @@ CommandsAreTasks =
     (text : List ℕ) (commands : List Command) (deadline : ℕ) (chained : Bool) → IsCommands text commands →
     (tasks : List Task) × IsTasks text deadline chained tasks [] [] × (map (λ task. task.command) tasks ≡ commands)
 
--- a command text gives, as a station's text whose commands aren't chained, its commands with the deadline of the caller, each by itself
+-- a command text, read as a station's text without chains, gives one task for each command, in order: with the caller's
+-- deadline, not chained, and without a place
 abbrev pub CommandsArePlain : Type 0
 CommandsArePlain =
     (text : List ℕ) (commands : List Command) (deadline : ℕ) → IsCommands text commands →
-    IsTasks text deadline false (map (λ command. record { command = command; deadline = deadline; chained = false; near = None }) commands) [] []
+    IsTasks text deadline false (map (λ command. record { command = command; deadline = deadline; chained = false; near = None; accepted = no_codes }) commands) [] []
 
 -- each chained task stands behind one for the same target; the task in front of these, where there is one, is for the target `before`
 abbrev pub AreRows : Option ℕ → List Task → Type 0
 AreRows before [] = Unit {0}
 AreRows before (task ∷ later) = (task.chained ≡ true → before ≡ Some task.command.target) × AreRows (Some task.command.target) later
 
--- the first task of a text isn't chained, and each that is stands behind one for the same target
+-- the first task of a text isn't chained, and each chained task stands behind one for the same target
 abbrev pub ChainsAreRows : Type 0
 ChainsAreRows = (text : List ℕ) (deadline : ℕ) (chained : Bool) (tasks : List Task) (names : List Name) (nears : List Near) → IsTasks text deadline chained tasks names nears → AreRows None tasks
 
--- the number of parameters that a trouble gives for a procedure is the catalogue's
+-- `wanted`, the number of parameters that is printed of a procedure, is the catalogue's number of its parameters
 abbrev pub WantedIsTheCatalogues : Type 0
 WantedIsTheCatalogues = (call : Call) → wanted (call_fields call).number ≡ length (call_fields call).values
 
--- what was written as a log line says that moment, that mark and those bytes, and nothing else
+-- a log line reads back: what is written of a moment, a mark and bytes is a log line of these (`written`), and no text is a log
+-- line of two moments, marks or lists of bytes (`once`)
 pub record LogLinesReadBack : Type 0 where
   pub written : (utc : ℕ) (mark : LogMark) (bytes : List ℕ) → utc < 2 ^ 64 → All (λ b. b < 256) bytes → IsLogLine (log_text (stamp_text utc) mark bytes) (stamp_text utc) mark bytes
   pub once : (text one other : List ℕ) (mark sign : LogMark) (bytes more : List ℕ) → IsLogLine text one mark bytes → IsLogLine text other sign more → (one ≡ other) × (mark ≡ sign) × (bytes ≡ more)

@@ -4,6 +4,9 @@ pub mod Procedures
 pub mod Commands
 pub mod Names
 pub mod Nears
+pub mod Codes
+pub mod Qualities
+pub mod Zeroed
 pub mod TaskLines
 pub mod Tasks
 pub mod Texts

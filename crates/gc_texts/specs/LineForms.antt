@@ -4,7 +4,7 @@ use Rattle.gc_texts.specs.declared.fault.RunFault.{RunFault}
 use Rattle.gc_texts.specs.declared.fault.RunFault.TheVariants.{Schedule, Memory, InputTooLong}
 use Rattle.gc_texts.specs.declared.text.TheConstants.{TEXT_LIMIT}
 
--- which lines have the form of an item
+-- which lines have the form of which item
 abbrev pub Form : Type 0 → Type 1
 Form Item = List ℕ → Item → Type 0
 
@@ -59,7 +59,7 @@ pub record FirstFaulty {Item : Type 0} (form : Form Item) (text : List ℕ) (n :
   pub items : List Item
   pub before : AreItems form (filter is_kept front) items
 
--- a line has the form of an item, and no line before it is faulty
+-- some line has the form of an item, and no line before it is faulty: the reading comes to that line, and may want memory there
 pub record BehindAnItem {Item : Type 0} (form : Form Item) (text : List ℕ) : Type 0 where
   pub front : List (List ℕ)
   pub line : List ℕ
@@ -71,7 +71,8 @@ pub record BehindAnItem {Item : Type 0} (form : Form Item) (text : List ℕ) : T
   pub items : List Item
   pub before : AreItems form (filter is_kept front) items
 
--- why a text stands for no items, or none were read: it is too long, else its first line that is faulty, or memory was refused
+-- why the reading of a text gave no items: the text is too long; or else line n is its first faulty one; or else memory was
+-- refused at a line that has the form of an item
 abbrev pub TextFault : {Item : Type 0} → Form Item → List ℕ → RunFault → Type 0
 TextFault form text InputTooLong = TEXT_LIMIT < length text
 TextFault form text (Schedule n) = (length text ≤ TEXT_LIMIT) × FirstFaulty form text n

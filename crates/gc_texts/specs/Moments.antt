@@ -10,8 +10,8 @@ millis_of days hours minutes seconds more = days * 86400000 + hours * 3600000 + 
 abbrev pub digit : ℕ → ℕ
 digit n = 48 + n
 
--- the text of a stamp gives its date, hour, minute, second and millisecond, each in digits of its value; day 0 is 1 January
--- 1970, and each other day is the one after the day before
+-- the text of a stamp gives its date, hour, minute, second and millisecond, each in digits of its value; the date of day 0 is 1
+-- January 1970, and that of each later day is the day after the date of the day before
 pub record StampsAreMoments : Type 0 where
   pub moment : (days hours minutes seconds more : ℕ) → hours < 24 → minutes < 60 → seconds < 60 → more < 1000
       → stamp_text (millis_of days hours minutes seconds more)

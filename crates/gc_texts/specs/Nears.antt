@@ -34,11 +34,11 @@ pub record AreWords (target hz v tolerance : List ℕ) (near : Near) : Type 0 wh
 abbrev pub IsNearText : List ℕ → Near → Type 0
 IsNearText text near = AreWords (before 32 text) (before 32 (behind 32 text)) (before 32 (behind 32 (behind 32 text))) (behind 32 (behind 32 (behind 32 text))) near
 
--- whether these say where a target stands
+-- whether one of these places is the target's
 abbrev pub is_said : ℕ → List Near → Bool
 is_said target nears = list_any (λ near. near.target == target) nears
 
--- where a target stands, if these say it
+-- the first of these places that is the target's, if there is one
 abbrev pub near_of : ℕ → List Near → Option Near
 near_of target [] = None
 near_of target (near ∷ nears) = if near.target == target then Some near else near_of target nears
@@ -58,12 +58,12 @@ asks_direction QuickDist = true
 asks_direction (MeasDistance mode) = true
 asks_direction _ = false
 
--- whether a direction, where there is one, isn't near where a target stands
+-- whether there is a direction, and it isn't near the place where the target stands
 abbrev pub is_away : Near → Option Direction → Bool
 is_away near None = false
 is_away near (Some d) = not (is_near d near.place near.tolerance)
 
--- whether an answer was measured elsewhere than its target stands, where that was said
+-- whether an answer was measured elsewhere than its target stands; false where no place is known of the target
 unfoldable pub is_elsewhere : Option Near → Answer → Bool
 is_elsewhere None answer = false
 is_elsewhere (Some near) answer = is_away near (direction_of answer)

@@ -19,7 +19,7 @@ abbrev pub IsMore : Option (List ℕ) → Type 0
 IsMore None = Unit {0}
 IsMore (Some params) = 0 < length params
 
--- a procedure's number and its parameters, which are a call's
+-- the text is a procedure's number, and behind a space its parameters if there are any, and these make the call
 pub record IsProcedure (text : List ℕ) (call : Call) : Type 0 where
   pub rpc_text : List ℕ
   pub rpc : ℕ

@@ -3,7 +3,7 @@ use Rattle.std.specs.Prelude.{ℕ, zero, suc, ◌+◌, ◌/◌, ◌%◌, ◌==�
 use Rattle.std.specs.Fmt.{decimal}
 use Rattle.gc_texts.specs.declared.stamp.Date.{Date}
 
--- whether a year is a leap year: each fourth one, but of the years that begin a century only each fourth
+-- whether a year is a leap year: one divisible by 4, but of those divisible by 100 only one divisible by 400
 abbrev pub is_leap : ℕ → Bool
 is_leap year = (year % 4 == 0) && (not (year % 100 == 0) || (year % 400 == 0))
 

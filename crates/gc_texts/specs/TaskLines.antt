@@ -1,9 +1,11 @@
 -- The lines of a station's text, and what each says: this project's own.
-use Rattle.std.specs.Prelude.{◌≡◌, ℕ, ◌≤◌, true, List, ◌∷◌, ◌++◌, codes}
+use Rattle.std.specs.Prelude.{◌≡◌, ◌⊎◌, ℕ, ◌≤◌, true, List, ◌∷◌, ◌++◌, codes}
+use Rattle.gc_texts.specs.Codes.{IsFilled, no_codes}
 use Rattle.gc_texts.specs.Commands.{IsCommand}
 use Rattle.gc_texts.specs.Names.{is_name}
 use Rattle.gc_texts.specs.Nears.{IsNearText}
 use Rattle.gc_texts.specs.Procedures.{IsNumber}
+use Rattle.gc_texts.specs.declared.codes.Codes.{Codes}
 use Rattle.gc_texts.specs.declared.name.Name.{Name}
 use Rattle.gc_texts.specs.declared.near.Near.{Near}
 use Rattle.gc_texts.specs.declared.task_line.TaskLine.{TaskLine}
@@ -29,7 +31,18 @@ pub record IsStanding (line : List ℕ) (near : Near) : Type 0 where
   pub line_is : line ≡ codes "near " ++ rest
   pub near_is : IsNearText rest near
 
--- what a line says: a command, a deadline, a mode, a name, or where a target stands
+-- `accept C C ..`: at least one return code and at most 16
+pub record IsList (line : List ℕ) (accepted : Codes) : Type 0 where
+  pub rest : List ℕ
+  pub line_is : line ≡ codes "accept " ++ rest
+  pub listed : IsFilled rest accepted
+
+-- `accept C C ..`, or `accept` alone: which return codes are accepted beside 0, or that none is
+abbrev pub IsAccepting : List ℕ → Codes → Type 0
+IsAccepting line accepted = ((line ≡ codes "accept") × (accepted ≡ no_codes)) ⊎ IsList line accepted
+
+-- what a line says: a command, a deadline, that commands are chained or that they aren't, a name, where a target stands, or which return
+-- codes are accepted
 abbrev pub IsTaskLine : List ℕ → TaskLine → Type 0
 IsTaskLine line (says.Command command) = IsCommand line command
 IsTaskLine line (says.Deadline deadline) = IsDeadline line deadline
@@ -37,3 +50,4 @@ IsTaskLine line says.Chained = line ≡ codes "chained"
 IsTaskLine line says.Unchained = line ≡ codes "unchained"
 IsTaskLine line (says.Naming name) = IsNaming line name
 IsTaskLine line (says.Standing near) = IsStanding line near
+IsTaskLine line (says.Accepting accepted) = IsAccepting line accepted

@@ -1,5 +1,8 @@
--- A station's text, and the tasks, the names and the places of targets that it gives: this project's own.
+-- A station's text, and the tasks, the names and the places of targets that it gives: this project's own. The mode at a line is
+-- what holds for a command there: its deadline, whether commands are chained, and the target of the row that it may continue. A
+-- row is a run of commands for one target, with no line `chained` or `unchained` between them.
 use Rattle.std.specs.Prelude.{◌≡◌, ℕ, ◌+◌, ◌<◌, ◌≤◌, ◌==◌, ◌&&◌, Bool, true, false, not, nat_lt, List, [], ◌∷◌, ◌++◌, length, map, filter, Option, None, Some}
+use Rattle.gc_texts.specs.Codes.{no_codes}
 use Rattle.gc_texts.specs.LineForms.{text_lines, is_kept, AreItems}
 use Rattle.gc_texts.specs.Names.{is_named}
 use Rattle.gc_texts.specs.Nears.{is_said, near_of}
@@ -14,29 +17,32 @@ use Rattle.gc_texts.specs.declared.tasks.Mode.{Mode}
 use Rattle.gc_texts.specs.declared.tasks.Task.{Task}
 use Rattle.gc_texts.specs.declared.text.TheConstants.{TEXT_LIMIT}
 
--- the mode before any line: this deadline, chained or not, and no row
+-- the mode before any line: this deadline, chained or not, no row, and no code that is accepted beside 0
 abbrev pub opening : ℕ → Bool → Mode
-opening deadline chained = record { deadline = deadline; chained = chained; row = None }
+opening deadline chained = record { deadline = deadline; chained = chained; row = None; accepted = no_codes }
 
--- what holds behind a line: a command's row is its target's; a deadline changes the deadline; a line of a mode changes whether commands are
--- chained, and ends the row; and the name or the place of a target changes nothing
+-- the mode behind a line: a command's target is that of the row from then on; a deadline changes the deadline; `chained` and
+-- `unchained` change whether commands are chained, and end the row; `accept` changes which return codes are accepted; and the name or
+-- the place of a target changes nothing
 abbrev pub behind : Mode → TaskLine → Mode
-behind mode (says.Command command) = record { deadline = mode.deadline; chained = mode.chained; row = Some command.target }
-behind mode (says.Deadline deadline) = record { deadline = deadline; chained = mode.chained; row = mode.row }
-behind mode says.Chained = record { deadline = mode.deadline; chained = true; row = None }
-behind mode says.Unchained = record { deadline = mode.deadline; chained = false; row = None }
+behind mode (says.Command command) = record { deadline = mode.deadline; chained = mode.chained; row = Some command.target; accepted = mode.accepted }
+behind mode (says.Deadline deadline) = record { deadline = deadline; chained = mode.chained; row = mode.row; accepted = mode.accepted }
+behind mode says.Chained = record { deadline = mode.deadline; chained = true; row = None; accepted = mode.accepted }
+behind mode says.Unchained = record { deadline = mode.deadline; chained = false; row = None; accepted = mode.accepted }
 behind mode (says.Naming name) = mode
 behind mode (says.Standing near) = mode
+behind mode (says.Accepting accepted) = record { deadline = mode.deadline; chained = mode.chained; row = mode.row; accepted = accepted }
 
--- whether a command for this target continues the row
+-- whether a command for `target` continues the row in front of it, where there is one: that row is for the target `before`
 abbrev pub goes_on : Option ℕ → ℕ → Bool
 goes_on (Some before) target = before == target
 goes_on None target = false
 
--- the task of a line that is a command, and nothing of another line: chained where the mode is and the command continues the row
+-- the task of a line that is a command, as a list of one; no task of another line. It is chained where the mode says so and the
+-- command continues the row. Its place is set later (`placed`)
 abbrev pub task_at : Mode → TaskLine → List Task
 task_at mode (says.Command command) =
-    record { command = command; deadline = mode.deadline; chained = mode.chained && goes_on mode.row command.target; near = None } ∷ []
+    record { command = command; deadline = mode.deadline; chained = mode.chained && goes_on mode.row command.target; near = None; accepted = mode.accepted } ∷ []
 task_at mode _ = []
 
 -- the tasks of these lines, the first of which stands in this mode
@@ -44,7 +50,7 @@ abbrev pub tasks_of : Mode → List TaskLine → List Task
 tasks_of mode [] = []
 tasks_of mode (line ∷ later) = task_at mode line ++ tasks_of (behind mode line) later
 
--- the name of a line, where it gives one
+-- the name that a line gives a target, as a list of one; none of another line
 abbrev pub name_at : TaskLine → List Name
 name_at (says.Naming name) = name ∷ []
 name_at _ = []
@@ -54,7 +60,7 @@ abbrev pub names_of : List TaskLine → List Name
 names_of [] = []
 names_of (line ∷ later) = name_at line ++ names_of later
 
--- where a target stands, if the line says it
+-- the place that a line gives a target, as a list of one; none of another line
 abbrev pub near_at : TaskLine → List Near
 near_at (says.Standing near) = near ∷ []
 near_at _ = []
@@ -64,7 +70,7 @@ abbrev pub nears_of : List TaskLine → List Near
 nears_of [] = []
 nears_of (line ∷ later) = near_at line ++ nears_of later
 
--- a task with where its target stands, if these say it
+-- a task with its target's place, where one of `nears` is of that target
 abbrev pub placed : List Near → Task → Task
 placed nears task = record task { near = near_of task.command.target nears }
 
@@ -85,8 +91,8 @@ pub record AreTaskLines (lines : List (List ℕ)) (said : List TaskLine) : Type 
   pub forms : AreItems IsTaskLine (filter is_kept lines) said
   pub follow : MayFollow [] [] said
 
--- the text gives these tasks, names and places, where this deadline and this mode hold before any line. A place holds for all tasks of its
--- target, wherever its line stands
+-- the text gives these tasks, names and places. Before any line the deadline is `deadline`, and commands are chained where
+-- `chained` says so. A place holds for all tasks of its target, wherever its line stands
 pub record IsTasks (text : List ℕ) (deadline : ℕ) (chained : Bool) (tasks : List Task) (names : List Name) (nears : List Near) : Type 0 where
   pub said : List TaskLine
   pub lines : AreTaskLines (text_lines text) said
@@ -94,7 +100,8 @@ pub record IsTasks (text : List ℕ) (deadline : ℕ) (chained : Bool) (tasks : 
   pub names_are : names ≡ names_of said
   pub nears_are : nears ≡ nears_of said
 
--- line number n, counted from 1, is the first that isn't skipped and has no form, or may not stand behind those before it
+-- line number n, counted from 1, is the first faulty one: it isn't skipped, and it has no form, or has one and may not stand
+-- behind those before it
 pub record IsFirstFaultyTask (text : List ℕ) (n : ℕ) : Type 0 where
   pub front : List (List ℕ)
   pub line : List ℕ
@@ -106,7 +113,8 @@ pub record IsFirstFaultyTask (text : List ℕ) (n : ℕ) : Type 0 where
   pub lines : AreTaskLines front before
   pub faulty : (said : TaskLine) → IsTaskLine line said → may_stand (names_of before) (nears_of before) said ≡ false
 
--- a line has a form and may stand there, and no line before it is faulty
+-- some line has a form and may stand behind the lines before it, none of which is faulty: the reading comes to that line, and may
+-- want memory there
 pub record IsBehindATask (text : List ℕ) : Type 0 where
   pub front : List (List ℕ)
   pub line : List ℕ
@@ -119,7 +127,8 @@ pub record IsBehindATask (text : List ℕ) : Type 0 where
   pub form : IsTaskLine line said
   pub stands : may_stand (names_of before) (nears_of before) said ≡ true
 
--- why a station's text gives no tasks, or none were read: it is too long, else its first line that is faulty, or memory was refused
+-- why the reading of a station's text gave no tasks: the text is too long; or else line n is its first faulty one; or else
+-- memory was refused at a line that isn't faulty
 abbrev pub TaskFault : List ℕ → RunFault → Type 0
 TaskFault text InputTooLong = TEXT_LIMIT < length text
 TaskFault text (Schedule n) = (length text ≤ TEXT_LIMIT) × IsFirstFaultyTask text n

@@ -12,12 +12,12 @@ IsReadFault given InputTooLong = length given ≡ TEXT_LIMIT + 1
 IsReadFault given Memory = length given ≤ TEXT_LIMIT
 IsReadFault given _ = ⊥
 
--- whether the source has failed, after this fault
+-- whether the source has failed when the reading ended with this fault; `failed` is whether it had before
 abbrev pub read_failed : RunFault → Bool → Bool
 read_failed Read failed = true
 read_failed _ failed = failed
 
--- how many reads may have given no byte: the last alone, and only where it was the end
+-- how many reads gave no byte: one where the last of them met the end of the input, else none
 abbrev pub end_reads : Bool → ℕ
 end_reads true = 1
 end_reads false = 0

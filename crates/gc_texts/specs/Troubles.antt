@@ -18,20 +18,21 @@ wanted rpc =
     else (if (rpc == 2008) || (rpc == 2108) then 2 else (if (rpc == 9028) || (rpc == 9037) then 3
     else (if rpc == 2010 then 4 else (if rpc == 9027 then 5 else (if rpc == 5007 then 6 else 0)))))
 
--- the trouble of parameters with a fault: another number of them, or else their spelling
+-- what is told of a procedure's parameters with this fault: how many the procedure wants, where the line has another number of
+-- them; else that their spelling is at fault
 abbrev pub list_trouble : ℕ → ValueFault → Trouble
 list_trouble rpc Count = trouble.Wants rpc (wanted rpc)
 list_trouble rpc TooMany = trouble.Wants rpc (wanted rpc)
 list_trouble rpc _ = trouble.Parameters
 
--- the parameters have a fault, and this is its trouble
+-- the procedure refuses these parameters with some fault, and `t` is what is told of that fault
 pub record IsListTrouble (rpc : ℕ) (params : List ℕ) (t : Trouble) : Type 0 where
   pub fault : ValueFault
   pub refused : IsRefusal rpc params (Parameters fault)
   pub is : t ≡ list_trouble rpc fault
 
--- what is at fault of a procedure's number and its parameters: no procedure has the number, or the parameters have a
--- fault; nothing, where they are a call's
+-- what is at fault in a procedure's number and its parameters: no procedure has the number, or the parameters have a fault, or
+-- nothing is, because they make a call (`NoForm`)
 abbrev pub IsCallTrouble : ℕ → List ℕ → Trouble → Type 0
 IsCallTrouble rpc params (trouble.NoProcedure n) = (n ≡ rpc) × IsRefusal rpc params Unknown
 IsCallTrouble rpc params trouble.NoForm = (call : Call) × IsCall rpc params call
@@ -61,11 +62,14 @@ pub record IsAsked (line : List ℕ) (t : Trouble) : Type 0 where
   pub number : IsNumber (second_word line) rpc 65535
   pub is : IsCallTrouble rpc (words_behind line) t
 
--- which field of a line is at fault; `NoForm` where there is one word, or where number and parameters are a call's
+-- in a line that is known to be faulty, this may be at fault; more than one trouble may fit a line. `Deadline`: the line begins with that
+-- word, so its value is at fault. `NoForm`: the line has one word alone, or its number and its parameters make a call, so that neither of
+-- these is at fault
 abbrev pub IsTrouble : List ℕ → Trouble → Type 0
 IsTrouble line trouble.Deadline = first_word line ≡ codes "deadline"
 IsTrouble line trouble.Name = (first_word line ≡ codes "name") × ((n : ℕ) × IsNumber (second_word line) n 4294967295)
 IsTrouble line trouble.Near = (first_word line ≡ codes "near") × ((n : ℕ) × IsNumber (second_word line) n 4294967295)
+IsTrouble line trouble.Accept = first_word line ≡ codes "accept"
 IsTrouble line trouble.Target =
     ((first_word line ≡ codes "name") × NoNumber (second_word line) 4294967295)
     ⊎ (((first_word line ≡ codes "near") × NoNumber (second_word line) 4294967295) ⊎ NoNumber (first_word line) 4294967295)
@@ -83,6 +87,7 @@ trouble_text trouble.Target = codes "target"
 trouble_text trouble.Deadline = codes "deadline"
 trouble_text trouble.Name = codes "name"
 trouble_text trouble.Near = codes "near"
+trouble_text trouble.Accept = codes "accept"
 trouble_text trouble.NoForm = codes "no form"
 
 -- the line that the program writes of the trouble of a text's line with this number, counted from 1

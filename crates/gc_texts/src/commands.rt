@@ -30,12 +30,13 @@ impl LineForm for CommandForm {
 
     ghost form = { IsCommand };
 
+    // The command that a line is, if it is one.
     fn read(line: &[u8]) -> Option<Command> {
         read_command(line)
     }
 }
 
-// Reads `T RPC` or `T RPC PARAMS`: a target and a call. `None`: the line has no such form.
+// Reads `T RPC` or `T RPC PARAMS`: a target's number, a procedure's number and its parameters. `None`: the line has no such form.
 pub(crate) fn read_command(line: &[u8]) -> Option<Command>
     ensures { MatchOption result ((command : Command) → IsCommand line.now command → ⊥) (λ command. IsCommand line.now command) }
 {
@@ -58,8 +59,8 @@ pub(crate) fn read_command(line: &[u8]) -> Option<Command>
 /// Reads a command text: its commands, in order.
 ///
 /// Refused are a text of more than 65,536 bytes (`InputTooLong`, before any line is looked at), and the first line that has the
-/// form of no command (`Schedule`, with its number counted from 1). `Memory` comes only where a growth was refused, at a line
-/// that is a command.
+/// form of no command (`Schedule`, with its number counted from 1). `Memory` comes only where the list of commands couldn't
+/// grow, at a line that is a command.
 pub fn read_commands(alloc: Global, text: &[u8]) -> Result<Vec<Command>, RunFault>
     ensures found { IfOk result (λ commands. IsCommands text.now commands.items) }
     ensures too_long { (result ≡ Err RunFault.InputTooLong) ↔ (TEXT_LIMIT < length text.now) }

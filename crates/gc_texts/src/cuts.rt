@@ -1,4 +1,4 @@
-//! Texts cut at a mark, as lines at their LF and words at their space.
+//! Texts cut at a mark, which is a byte: lines at an LF, words at a space.
 
 ghost use Rattle.std.specs.Prelude.{◌≡◌, ◌≤◌, length};
 ghost use Rattle.std.specs.Option.{option_copied};

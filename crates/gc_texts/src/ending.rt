@@ -1,8 +1,9 @@
 //! Endings: how a command of a station's cycle ended, and the word of each.
 
 ghost use Rattle.std.specs.Prelude.{◌≡◌, ◌≤◌, length, option_map};
-ghost use Rattle.gc_texts.specs.Endings.{ending_seen, word_of, fault_of, line_of};
+ghost use Rattle.gc_texts.specs.Endings.{ending_seen, word_of, fault_of, line_of, quality_of, quality_text};
 
+use crate::quality::Quality;
 use gc_catalogue::Answer;
 use gc_lines::Line;
 use gc_values::ValueFault;
@@ -10,12 +11,13 @@ use gc_values::ValueFault;
 /// How a command of a station's cycle ended.
 #[derive(Clone, Copy, Debug, PartialEq, Eq)]
 pub enum Ending<'a> {
-    /// Its reply came in time, with this line. Where both codes are 0, its values read, as this answer.
-    Answered(Option<&'a Answer>, &'a Line),
+    /// Its reply came in time, with this line, and has this quality. `Some`: its values read as this answer, with both codes 0,
+    /// or with an accepted return code taken for 0.
+    Answered(Quality, Option<&'a Answer>, &'a Line),
     /// Its reply came in time, with this line, whose codes are 0, and whose values don't read.
     Unreadable(&'a Line, ValueFault),
-    /// Its reply came in time, with this line, whose codes are 0 and whose values read, and have a direction that isn't near where its
-    /// target stands.
+    /// Its reply came in time, with this line, whose codes are 0, or whose return code is an accepted one; its values read, and
+    /// have a direction that isn't near where its target stands.
     Elsewhere(&'a Line),
     /// A reply to it came after it was given up.
     Late,
@@ -28,7 +30,7 @@ pub enum Ending<'a> {
 }
 
 impl<'a> Ending<'a> {
-    /// The word of the ending, as each line, row and object has it.
+    /// The word for the ending, as the records have it: the lines, the rows and the objects of JSON.
     pub fn word(self) -> &'static [u8]
         ensures is { result.now ≡ word_of (ending_seen self.entry) }
         ensures short { length result.now ≤ 16 }
@@ -54,13 +56,34 @@ impl<'a> Ending<'a> {
         }
     }
 
+    /// The quality of the command's answer, where it was answered.
+    pub fn quality(self) -> Option<Quality>
+        ensures { result ≡ quality_of (ending_seen self.entry) }
+    {
+        match self {
+            Ending::Answered(quality, ..) => Some(quality),
+            _ => None,
+        }
+    }
+
+    /// The word for the quality of the command's answer, as rows and objects of JSON have it; empty where it wasn't answered.
+    pub fn quality_text(self) -> &'static [u8]
+        ensures is { result.now ≡ quality_text (quality_of (ending_seen self.entry)) }
+        ensures short { length result.now ≤ 16 }
+    {
+        match self.quality() {
+            Some(quality) => quality.word(),
+            None => b"",
+        }
+    }
+
     /// The line of its reply, where one came in time.
     pub fn line(self) -> Option<&'a Line>
         ensures { option_map (λ line. line.now.items) result ≡ line_of (ending_seen self.entry) }
     {
         match self {
-            Ending::Answered(_, line) | Ending::Unreadable(line, _) => Some(line),
-            // Its codes and its values stand in the row, too.
+            Ending::Answered(_, _, line) | Ending::Unreadable(line, _) => Some(line),
+            // The codes and values of a reply that was measured elsewhere stand in the row, too.
             Ending::Elsewhere(line) => Some(line),
             Ending::Late | Ending::Lost | Ending::Skipped | Ending::Missed => None,
         }

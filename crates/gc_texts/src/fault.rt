@@ -107,7 +107,7 @@ impl RunFault {
     }
 
     /// Writes the line of the fault: the program's name, and the text that `Display` prints.
-    // No clause can speak of what the derive prints, because the derive states no output.
+    // The texts are written out here again: no clause can speak of what `Display` prints, because its derive states no output.
     pub fn tell<E: Write>(self, messages: &mut E) -> io::Result<()>
         ensures { OnOk result (Appends (E.contents messages.old) (E.contents messages.new) (fault_line (run_fault_text self))) }
     {

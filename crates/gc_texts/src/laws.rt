@@ -16,18 +16,19 @@ pub fn tasks_have_one_reading()
     ensures { OneTaskList }
 {}
 
-/// A command text is a station's text, and gives the same commands.
+/// A command text is a station's text, too, and gives the same commands. Where `chained` isn't asked for, each of them is
+/// unchained, has the caller's deadline, no place of its target, and no return code accepted beside 0.
 pub fn commands_are_tasks()
     ensures same { CommandsAreTasks }
     ensures plain { CommandsArePlain }
 {}
 
-/// A task is chained only behind one for the same target; the first is never chained.
+/// A task is chained only where the task directly before it is for the same target. The first is never chained.
 pub fn chains_are_rows()
     ensures { ChainsAreRows }
 {}
 
-/// The number of parameters that a trouble gives for a procedure is the catalogue's.
+/// The number of parameters that is printed of a procedure, where a line has another number of them, is the catalogue's.
 pub fn wanted_is_the_catalogues()
     ensures { WantedIsTheCatalogues }
 {}
@@ -42,20 +43,21 @@ pub fn log_lines_are_printable()
     ensures { LogLinesArePrintable }
 {}
 
-/// Each fault has its number of the table of faults. The two that have a type of their own, a full window and a full scene, have
-/// theirs, 31 and 41, in the clause of their call.
+/// Each fault has the number that the table of faults gives it. A full window and a full scene have types of their own as well:
+/// their numbers, 31 and 41, stand in the contracts of the calls that return them.
 pub fn faults_have_their_numbers()
     ensures { FaultsHaveTheirNumbers }
 {}
 
-/// Each command of a station's text has the deadline of the last line in front of it that says one, or else the caller's. It is
-/// chained exactly where the last line of a mode in front of it, or else the caller, says so, and the command before it is for the
-/// same target, with no line of a mode between the two.
+/// Each command of a station's text has the deadline of the last line `deadline` in front of it, or else the caller's. It is
+/// chained exactly where two things hold: the last line `chained` or `unchained` in front of it says `chained`, or there is
+/// none and the caller says so; and the command before it is for the same target, with no such line between the two.
 pub fn commands_go_out_as_their_lines_say()
     ensures { CommandsGoOutSo }
 {}
 
-/// A line that says where a target stands holds for each command of that target, in front of it and behind it.
+/// A line that says where a target stands holds for each command of that target, whether the command stands before or after the
+/// line.
 pub fn places_hold_for_all_commands_of_a_target()
     ensures { PlacesHoldForAll }
 {}

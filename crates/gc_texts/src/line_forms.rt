@@ -21,7 +21,7 @@ pub trait LineForm {
     /// Which lines have the form of an item.
     ghost form: { List ℕ → Self.Item → Type 0 };
 
-    /// Reads a line. `None`: it has the form of no item.
+    /// Reads a line as an item. `None`: the line has the form of no item.
     fn read(line: &[u8]) -> Option<Self::Item>
         ensures { MatchOption result ((item : Self.Item) → form line.now item → ⊥) (λ item. form line.now item) };
 }
@@ -36,7 +36,8 @@ pub(crate) fn without_cr(line: &[u8]) -> &[u8]
     }
 }
 
-/// The line of a text with this number, counted from 1, as the faults of a text count them; empty where the text has fewer.
+/// Line `number` of a text, without a CR at its end. Lines are counted from 1, as in the faults of a text. Where the text has
+/// fewer lines, the result is empty.
 pub fn line_at(text: &[u8], number: u32) -> &[u8]
     ensures { result.now ≡ line_at text.now number }
 {
@@ -63,8 +64,8 @@ pub(crate) fn is_skipped(line: &[u8]) -> bool
 /// Reads a text: its items, in order.
 ///
 /// Refused are a text of more than 65,536 bytes (`InputTooLong`, before any line is looked at), and the first line that
-/// has the form of no item (`Schedule`, with its number counted from 1). `Memory` comes only where a growth was refused,
-/// at a line that is an item.
+/// has the form of no item (`Schedule`, with its number counted from 1). `Memory` comes only where the list of items couldn't
+/// grow, at a line that is an item.
 pub fn read_items<F: LineForm>(alloc: Global, text: &[u8]) -> Result<Vec<F::Item>, RunFault>
     ensures found { IfOk result (λ items. IsText F.form text.now items.items) }
     ensures too_long { (result ≡ Err RunFault.InputTooLong) ↔ (TEXT_LIMIT < length text.now) }
@@ -76,8 +77,9 @@ pub fn read_items<F: LineForm>(alloc: Global, text: &[u8]) -> Result<Vec<F::Item
     read_lines::<F>(alloc, text)
 }
 
-// For how many more items a list of `count` items makes room, where the bytes `left` of the text aren't read: for one. In front
-// of the first item it is one for each eight bytes, because a line rarely has fewer, and so the list rarely grows again.
+// How many further items the list makes room for, where it holds `count` items and the bytes `left` of the text are unread.
+// An empty list makes room for an item in each eight bytes, because a line rarely has fewer: it rarely grows again. A list
+// that holds items makes room for one more.
 fn room_for(count: usize, left: &[u8]) -> usize
     ensures { 1 ≤ result }
 {

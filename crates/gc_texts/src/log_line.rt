@@ -21,8 +21,8 @@ const LOG_ROOM: usize = 40 + 1 + 2 + 1 + 4 * 514 + 1;
 pub enum LogMark {
     /// `>`: a line that went, without its CR LF.
     Went,
-    /// `>|`: these bytes went, and no CR LF behind them is left out: they end in a line feed without a CR, a close cut them off, or
-    /// they are a part of a line of more than 512 bytes.
+    /// `>|`: these bytes went, and no CR LF behind them is left out: they end in a line feed without a CR, a close cut them off,
+    /// or they are a part of a line of more than 512 bytes.
     WentPart,
     /// `<`: a line that came, without its CR LF.
     Came,
@@ -91,7 +91,7 @@ pub fn append_escaped<const N: usize>(to: &mut ArrayVec<u8, N>, bytes: &[u8])
     }
 }
 
-/// Bytes in the form of a log line, for what quotes them.
+/// Bytes as a log line writes them, for other texts that quote bytes.
 pub fn escaped(bytes: &[u8]) -> ArrayVec<u8, 2056>
     requires { length bytes.now ≤ 514 }
     ensures is { result.items ≡ escaped bytes.now }

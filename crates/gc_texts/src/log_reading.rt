@@ -56,7 +56,7 @@ fn is_printable(text: &[u8]) -> bool
     text.iter().all(|b| 32 <= *b && *b <= 126)
 }
 
-// Reads a mark. `None`: the text is none.
+// Reads a mark. `None`: the text is no mark.
 fn read_mark(text: &[u8]) -> Option<LogMark>
     ensures { MatchOption result ((mark : LogMark) → text.now ≡ mark_text mark → ⊥) (λ mark. text.now ≡ mark_text mark) }
 {
@@ -91,7 +91,8 @@ fn read_bytes(text: &[u8]) -> Option<LogBytes>
     Some(bytes)
 }
 
-// Reads the first byte of a text, and returns it with what stands behind it. `None`: no byte is written so.
+// Reads the byte that a text begins with, as it is or as `\x` and two digits, and returns it with what stands behind it.
+// `None`: the text begins with no byte in the form that a log gives it.
 fn read_byte(text: &[u8]) -> Option<(u8, &[u8])>
     ensures { MatchOption result
         ((b : ℕ) (more : List ℕ) → b < 256 → text.now ≡ escape b ++ more → ⊥)
@@ -109,8 +110,8 @@ fn read_byte(text: &[u8]) -> Option<(u8, &[u8])>
     read_digits(digits)
 }
 
-// Reads the two digits behind `\x`, and returns their byte with what stands behind them. `None`: they are no such digits, or the
-// byte is one that stands as it is.
+// Reads the two digits behind `\x`, and returns their byte with what stands behind them. `None`: there are no two digits of
+// base 16, or they write a byte that a log never writes by digits: printable ASCII but the backslash.
 fn read_digits(text: &[u8]) -> Option<(u8, &[u8])>
     ensures { MatchOption result
         ((b : ℕ) (more : List ℕ) → b < 256 → 92 ∷ 120 ∷ text.now ≡ escape b ++ more → ⊥)
@@ -132,7 +133,7 @@ fn read_digits(text: &[u8]) -> Option<(u8, &[u8])>
     Some((b, more))
 }
 
-// Reads a digit of base 16, in lower case. `None`: the byte is none.
+// Reads a digit of base 16, in lower case. `None`: the byte is no such digit.
 fn read_digit(digit: u8) -> Option<u8>
     ensures { MatchOption result ((n : ℕ) → n < 16 → digit ≡ hex_digit n → ⊥) (λ n. (n < 16) × (digit ≡ hex_digit n)) }
 {

@@ -5,6 +5,7 @@ ghost use Rattle.gc_texts.specs.Nears.{IsDouble, AreWords, IsNearText, is_said, 
 ghost use Rattle.gc_texts.specs.declared.near.Near.{Near};
 ghost use Rattle.gc_values.specs.declared.decimal.Decimal.{Decimal};
 
+use crate::codes::Codes;
 use crate::cuts::{before, behind};
 use crate::procedure::{TARGET_MAX, number_of};
 use gc_catalogue::{Answer, Call};
@@ -21,7 +22,16 @@ pub struct Near {
     pub tolerance: Decimal,
 }
 
-/// Reads a number with a point or without one. `None`: the text is none, or has too many digits.
+/// What is expected of a command's answer.
+#[derive(Clone, Copy, Debug, PartialEq, Eq)]
+pub struct Expected {
+    /// Where the command's target stands, if the text says so.
+    pub near: Option<Near>,
+    /// The return codes that are accepted, beside 0.
+    pub accepted: Codes,
+}
+
+/// Reads a number with a point or without one. `None`: the text is no number, or has too many digits.
 pub fn read_double(text: &[u8]) -> Option<Decimal>
     ensures { MatchOption result ((d : Decimal) → IsDouble text.now d → ⊥) (λ d. IsDouble text.now d) }
 {
@@ -31,7 +41,8 @@ pub fn read_double(text: &[u8]) -> Option<Decimal>
     }
 }
 
-// Reads the words that say where a target stands. `None`: one has no form, or a number lies outside its range.
+// Reads the words that say where a target stands: its number, its horizontal and vertical angle, and the tolerance of both, in
+// radians. `None`: a word is no number, or a number lies outside its range.
 fn read_words(target: &[u8], hz: &[u8], v: &[u8], tolerance: &[u8]) -> Option<Near>
     ensures { MatchOption result ((near : Near) → AreWords target.now hz.now v.now tolerance.now near → ⊥) (λ near. AreWords target.now hz.now v.now tolerance.now near) }
 {
@@ -59,7 +70,8 @@ fn read_words(target: &[u8], hz: &[u8], v: &[u8], tolerance: &[u8]) -> Option<Ne
     })
 }
 
-/// Reads `T HZ V TOLERANCE`. `None`: the text has no such form, or a number lies outside its range.
+/// Reads `T HZ V TOLERANCE`: a target, its horizontal and vertical angle, and the tolerance of both, in radians. `None`: the text
+/// has no such form, or a number lies outside its range.
 pub(crate) fn read_near(text: &[u8]) -> Option<Near>
     ensures { MatchOption result ((near : Near) → IsNearText text.now near → ⊥) (λ near. IsNearText text.now near) }
 {
@@ -73,14 +85,14 @@ pub(crate) fn read_near(text: &[u8]) -> Option<Near>
     )
 }
 
-/// Whether `nears` say where a target stands.
+/// Whether one of `nears` says where this target stands.
 pub(crate) fn is_said(target: u32, nears: &[Near]) -> bool
     ensures { result ≡ is_said target nears.now }
 {
     nears.iter().any(|near| near.target == target)
 }
 
-/// Where a target stands, if `nears` say it.
+/// Where a target stands, by the first of `nears` that is this target's. `None`: none of them is.
 pub(crate) fn near_of(target: u32, nears: &[Near]) -> Option<Near>
     ensures { result ≡ near_of target nears.now }
 {
@@ -104,7 +116,7 @@ fn direction_of(answer: &Answer) -> Option<Direction>
     }
 }
 
-/// Whether the answers of a call have a direction.
+/// Whether the answers of a call have a direction, that is, a horizontal and a vertical angle.
 pub(crate) fn asks_direction(call: &Call) -> bool
     ensures { result ≡ asks_direction call.now }
 {

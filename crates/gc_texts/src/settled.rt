@@ -11,7 +11,7 @@ use gc_lines::{Sink, append, write_whole};
 use itoa::Buffer;
 use std::alloc::AllocError;
 
-/// Appends the lines of settlements, the first of them at place 0. Where memory was refused, a part of them was appended.
+/// Appends the lines of settlements, the first of them at place 0. Where memory was refused, only the first lines were appended.
 pub fn append_settlements(text: &mut Vec<u8>, settlements: &[Settlement]) -> Result<(), AllocError>
     ensures { OnOk result (text.new.items ≡ text.old.items ++ settlement_lines (map settlement_seen settlements.now)) }
 {
@@ -22,7 +22,8 @@ pub fn append_settlements(text: &mut Vec<u8>, settlements: &[Settlement]) -> Res
     Ok(())
 }
 
-// Appends the line of the settlement at a place, which is made in `line`, whatever stood there. It fails where memory was refused.
+// Appends the line of the settlement at a place, which is made in `line`, whatever stood there. It fails where memory was
+// refused.
 fn append_settlement(
     text: &mut Vec<u8>,
     line: &mut ArrayVec<u8, LINE_ROOM>,
@@ -36,7 +37,7 @@ fn append_settlement(
 }
 
 /// Writes the lines of settlements, the first of them at this place, each in one write where the sink takes all of it.
-/// `Output` comes where the sink failed; it has taken a part of them.
+/// `Output` comes where the sink failed; it has then taken a part of these lines.
 pub fn write_settlements<K: Sink>(
     sink: &mut K,
     place: usize,

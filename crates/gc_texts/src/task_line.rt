@@ -1,11 +1,13 @@
 //! The reading of one line of a station's text.
 
 ghost use Rattle.std.specs.Prelude.{◌≡◌, ◌↔◌, ◌++◌, ℕ, List, IsTrue, MatchOption};
-ghost use Rattle.gc_texts.specs.TaskLines.{IsDeadline, IsNaming, IsStanding, IsTaskLine};
+ghost use Rattle.gc_texts.specs.TaskLines.{IsDeadline, IsNaming, IsStanding, IsAccepting, IsTaskLine};
+ghost use Rattle.gc_texts.specs.declared.codes.Codes.{Codes};
 ghost use Rattle.gc_texts.specs.declared.name.Name.{Name};
 ghost use Rattle.gc_texts.specs.declared.near.Near.{Near};
 ghost use Rattle.gc_texts.specs.declared.task_line.TaskLine.{TaskLine};
 
+use crate::codes::{Codes, read_codes};
 use crate::commands::{Command, read_command};
 use crate::cuts::cut_at;
 use crate::name::{Name, is_name, name_of_bytes};
@@ -28,8 +30,10 @@ pub(crate) enum TaskLine {
     Unchained,
     // A target has a name.
     Naming(Name),
-    // A target stands somewhere.
+    // Where a target stands.
     Standing(Near),
+    // The return codes that are accepted of the commands behind it.
+    Accepting(Codes),
 }
 
 // What stands behind a word at the front of a line. `None`: the line doesn't begin with the word.
@@ -90,6 +94,20 @@ fn read_standing(line: &[u8]) -> Option<Near>
     }
 }
 
+// Reads `accept C C ..`: the return codes that are accepted beside 0; no code where the line is `accept` alone. `None`: the
+// line has no such form.
+fn read_accepting(line: &[u8]) -> Option<Codes>
+    ensures { MatchOption result ((codes : Codes) → IsAccepting line.now codes → ⊥) (λ codes. IsAccepting line.now codes) }
+{
+    if is_word(b"accept", line) {
+        return Some(Codes::none());
+    }
+    match behind(b"accept ", line) {
+        Some(rest) => read_codes(rest),
+        None => None,
+    }
+}
+
 // Reads one line of a station's text. `None`: it has no form.
 pub(crate) fn read_task_line(line: &[u8]) -> Option<TaskLine>
     ensures { MatchOption result ((said : TaskLine) → IsTaskLine line.now said → ⊥) (λ said. IsTaskLine line.now said) }
@@ -108,6 +126,9 @@ pub(crate) fn read_task_line(line: &[u8]) -> Option<TaskLine>
     }
     if let Some(near) = read_standing(line) {
         return Some(TaskLine::Standing(near));
+    }
+    if let Some(codes) = read_accepting(line) {
+        return Some(TaskLine::Accepting(codes));
     }
     match read_command(line) {
         Some(command) => Some(TaskLine::Command(command)),

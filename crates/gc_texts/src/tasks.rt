@@ -1,14 +1,20 @@
 //! Tasks: commands of a station's text, with how each goes out and where its target stands.
+//!
+//! A row is a run of commands for one target, with no line `chained` or `unchained` between them. Where commands are chained,
+//! each command of a row but the first is chained to the one before it. A mode is what the lines read so far make hold for the
+//! next command: its deadline, whether commands are chained, the row that it may continue, and the return codes accepted.
 
 ghost use Rattle.std.specs.Prelude.{◌≡◌, ◌<◌, ◌≤◌, ◌↔◌, ◌⊎◌, ◌++◌, ◌==◌, ◌&&◌, ℕ, length, map, Err, None, IfOk, IfErr, OnOk, OnErr};
 ghost use Rattle.std.specs.List.{list_any};
 ghost use Rattle.std.specs.Vec.{vec_capacity, vec_len};
+ghost use Rattle.gc_texts.specs.Codes.{no_codes};
 ghost use Rattle.gc_texts.specs.Names.{name_text};
 ghost use Rattle.gc_texts.specs.Nears.{asks_direction};
 ghost use Rattle.gc_texts.specs.Tasks.{opening, behind, goes_on, task_at, name_at, near_at, placed, may_stand, IsTasks, IsFirstFaultyTask, IsBehindATask, TaskFault};
 ghost use Rattle.gc_texts.specs.declared.fault.RunFault.{RunFault};
 ghost use Rattle.gc_texts.specs.declared.text.TheConstants.{TEXT_LIMIT};
 
+use crate::codes::Codes;
 use crate::commands::Command;
 use crate::cuts::cut_at;
 use crate::fault::RunFault;
@@ -26,10 +32,12 @@ pub struct Task {
     pub command: Command,
     /// How long its request waits before it is given up, in milliseconds.
     pub deadline: u64,
-    /// Whether it goes out only once the command before it was answered with both codes 0 and values that read.
+    /// Whether it goes out only once the command before it was answered well.
     pub chained: bool,
     /// Where its target stands, where the text says so.
     pub near: Option<Near>,
+    /// The return codes that are accepted of its answer, beside 0.
+    pub accepted: Codes,
 }
 
 /// What a station's text gives: what is asked in each cycle, and what the targets are called and where they stand.
@@ -67,19 +75,22 @@ const NAMES_MAX: usize = 64;
 // The most targets of which it is said where they stand.
 const NEARS_MAX: usize = 64;
 
-// What the lines in front of a command make hold for it.
+// What the lines in front of a command make hold for it: the mode there.
 #[derive(Clone, Copy)]
 struct Mode {
     // The deadline, in milliseconds.
     deadline: u64,
-    // Whether a command is chained to the one before it in its row.
+    // Whether commands are chained: `chained` or `unchained`, whichever line came last.
     chained: bool,
-    // The target of the command before it, where its row may go on.
+    // The target of the row that the next command may continue. `None`: the next command begins a row.
     row: Option<u32>,
+    // The return codes that are accepted of commands, beside 0.
+    accepted: Codes,
 }
 
-// What holds behind a line, where `mode` holds in front of it: a command begins or continues a row, a deadline changes the
-// deadline, and a line of a mode changes whether commands are chained, and ends the row.
+// The mode behind a line, where `mode` holds in front of it. Behind a command the row is its target's. A line `deadline` sets the
+// deadline, `chained` and `unchained` set whether commands are chained and end the row, and `accept` sets which return codes are
+// accepted. A name or a place changes nothing.
 fn behind(mode: Mode, said: &TaskLine) -> Mode
     ensures { result ≡ behind mode said.now }
 {
@@ -103,10 +114,15 @@ fn behind(mode: Mode, said: &TaskLine) -> Mode
             ..mode
         },
         TaskLine::Naming(_) | TaskLine::Standing(_) => mode,
+        TaskLine::Accepting(accepted) => Mode {
+            accepted: *accepted,
+            ..mode
+        },
     }
 }
 
-// Whether a command for this target continues the row, in which all commands have one target.
+// Whether a command for this target continues the row, which is one of commands for the target `row`. `None`: there is no row to
+// continue.
 fn goes_on(row: Option<u32>, target: u32) -> bool
     ensures { result ≡ goes_on row target }
 {
@@ -116,8 +132,8 @@ fn goes_on(row: Option<u32>, target: u32) -> bool
     }
 }
 
-// Whether a line may stand behind lines that gave these names and places: a name only where there are fewer than 64 names and its
-// target has none yet, and a place likewise.
+// Whether a line may stand behind lines that gave these names and places. A name may only where there are fewer than 64 names and
+// its target has none yet; a place only where there are fewer than 64 places and its target has none yet; any other line may.
 fn may_stand(names: &Vec<Name>, nears: &Vec<Near>, said: &TaskLine) -> bool
     ensures { result ≡ may_stand names.now.items nears.now.items said.now }
 {
@@ -130,7 +146,8 @@ fn may_stand(names: &Vec<Name>, nears: &Vec<Near>, said: &TaskLine) -> bool
     }
 }
 
-// Appends the task, the name or the place that a line gives, if it gives one. It fails where memory was refused.
+// Appends the task, the name or the place that a line gives, if it gives one. `mode` holds in front of the line. Where the task's
+// target stands is set at the end of the text, by `place_tasks`. It fails where memory was refused.
 fn keep(
     tasks: &mut Vec<Task>,
     names: &mut Vec<Name>,
@@ -152,6 +169,7 @@ fn keep(
                 deadline: mode.deadline,
                 chained,
                 near: None,
+                accepted: mode.accepted,
             });
             Ok(())
         }
@@ -169,7 +187,7 @@ fn keep(
     }
 }
 
-// Sets in each task where its target stands, if `nears` say it.
+// Sets in each task where its target stands: by one of `nears`, or `None` where none of them is for the target.
 fn place_tasks(tasks: &mut Vec<Task>, nears: &[Near])
     ensures { tasks.new.items ≡ map (placed nears.now) tasks.old.items }
 {
@@ -182,8 +200,9 @@ fn place_tasks(tasks: &mut Vec<Task>, nears: &[Near])
 /// otherwise the commands have `deadline`, in milliseconds, and are chained where `chained` says so.
 ///
 /// Refused are a text of more than 65,536 bytes (`InputTooLong`, before any line is looked at), and the first faulty line
-/// (`Schedule`, with its number counted from 1): one that has no form, or gives a target a second name or a second place, or gives a
-/// 65th name or a 65th place. `Memory` comes only where memory ran out at a line that isn't faulty, behind none that is.
+/// (`Schedule`, with its number counted from 1): one that has no form, or gives a target a second name or a second place, or
+/// gives a 65th name or a 65th place. `Memory` comes only where memory ran out at a line that isn't faulty and follows no faulty
+/// one.
 pub fn read_tasks(
     alloc: Global,
     text: &[u8],
@@ -203,6 +222,7 @@ pub fn read_tasks(
         deadline,
         chained,
         row: None,
+        accepted: Codes::none(),
     };
     read_task_lines(alloc, text, opening)
 }
@@ -212,6 +232,7 @@ pub fn read_tasks(
 fn read_task_lines(alloc: Global, text: &[u8], opening: Mode) -> Result<Tasks, RunFault>
     requires short { length text.now ≤ TEXT_LIMIT }
     requires opening { opening.row ≡ None }
+    requires none { opening.accepted ≡ no_codes }
     ensures found { IfOk result (λ all. IsTasks text.now opening.deadline opening.chained all.tasks.items all.names.items all.nears.items) }
     ensures fault { IfErr result (λ e. TaskFault text.now e) }
 {

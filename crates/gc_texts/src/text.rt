@@ -20,8 +20,8 @@ pub fn limits_texts()
 
 /// Reads a text until the input ends, or 65,537 bytes, which are too many.
 ///
-/// `Read` comes where the source failed, `InputTooLong` where it gave more than 65,536 bytes, and `Memory` only where a
-/// growth was refused: behind a read that gave bytes.
+/// `Read` comes where the source failed, `InputTooLong` where it gave more than 65,536 bytes, and `Memory` only where the text
+/// couldn't grow by the bytes that a read gave.
 pub fn read_text<S: Source>(alloc: Global, source: &mut S) -> Result<Vec<u8>, RunFault>
     ensures found { IfOk result (λ text. Consumes (S.remaining source.old) (S.remaining source.new) text.items × (length text.items ≤ TEXT_LIMIT)
         × (S.reads source.new ≤ S.reads source.old + length text.items + end_reads (S.ended source.new))) }

@@ -1,4 +1,4 @@
-//! Troubles: which field of a faulty line of a station's text is at fault.
+//! Troubles: which field of a faulty line of a station's text is at fault, and what is printed of it.
 
 ghost use Rattle.std.specs.Prelude.{◌≡◌, ◌++◌, OnOk, codes};
 ghost use Rattle.std.specs.Io.KnownBytes.{Appends};
@@ -27,10 +27,12 @@ pub enum Trouble {
     Target,
     /// The deadline is no number from 1 to 86400000.
     Deadline,
-    /// The name has no form, its target has one, or 64 targets have.
+    /// The name has no form, its target has a name already, or 64 targets have names.
     Name,
-    /// The place has no form or lies outside its range, its target has one, or 64 targets have.
+    /// The place has no form or lies outside its range, its target has a place already, or 64 targets have places.
     Near,
+    /// A word behind `accept` is no code from 1 to 65535, or there are more than 16.
+    Accept,
     /// The line has the form of nothing.
     NoForm,
 }
@@ -57,6 +59,7 @@ impl Trouble {
             Trouble::Deadline => writeln!(messages, "deadline"),
             Trouble::Name => writeln!(messages, "name"),
             Trouble::Near => writeln!(messages, "near"),
+            Trouble::Accept => writeln!(messages, "accept"),
             Trouble::NoForm => writeln!(messages, "no form"),
         }
     }
@@ -77,7 +80,7 @@ fn wanted(rpc: u16) -> u8
     }
 }
 
-// The trouble of a procedure's number and its parameters; `NoForm` where they are a call's.
+// What is at fault in a procedure's number and its parameters. `NoForm`: nothing, because they make a call.
 fn call_trouble(rpc: u16, params: &[u8]) -> Trouble
     ensures { IsCallTrouble rpc params.now result }
 {
@@ -93,7 +96,7 @@ fn call_trouble(rpc: u16, params: &[u8]) -> Trouble
     }
 }
 
-// The trouble of a procedure's parameters that have this fault.
+// What is told of a procedure's parameters that have this fault: how many it wants, or that their spelling is at fault.
 fn list_trouble(rpc: u16, fault: ValueFault) -> Trouble
     ensures { result ≡ list_trouble rpc fault }
 {
@@ -103,8 +106,9 @@ fn list_trouble(rpc: u16, fault: ValueFault) -> Trouble
     }
 }
 
-/// Which field of a line is at fault, where the line is a faulty one of a station's text. `NoForm` comes also for a command and
-/// for a line of a mode that aren't faulty.
+/// Which field of a line is at fault, where the line is a faulty one of a station's text. A line that begins with `deadline`,
+/// `name`, `near` or `accept` is at fault in its target or in what it sets. Any other line is taken for a command, and its first
+/// field that doesn't read is at fault. Some lines that aren't faulty give `NoForm`, too: a command, `chained` and `unchained`.
 pub fn trouble_of(line: &[u8]) -> Trouble
     ensures { IsTrouble line.now result }
 {
@@ -124,6 +128,9 @@ pub fn trouble_of(line: &[u8]) -> Trouble
             Some(_) => Trouble::Near,
             None => Trouble::Target,
         };
+    }
+    if is_word(b"accept", first) {
+        return Trouble::Accept;
     }
     if rest.is_empty() {
         return Trouble::NoForm;

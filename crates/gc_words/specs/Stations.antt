@@ -2,7 +2,7 @@
 use Rattle.std.specs.Prelude.{ℕ, true}
 use Rattle.gc_rows.specs.declared.record.Form.{Form}
 use Rattle.gc_rows.specs.declared.record.Form.TheVariants.{Lines, Csv, Columns, Json}
-use Rattle.gc_words.specs.declared.station.Station.{Station}
+use Rattle.gc_words.specs.declared.settings.Settings.{Settings}
 
 -- the form of rows that go into a file: the one that was asked for, or comma-separated values
 abbrev pub form_of_rows : Form → Form
@@ -12,9 +12,9 @@ form_of_rows Columns = Columns
 form_of_rows Json = Json
 
 -- a station with its records as rows of a file, in `form_of_rows`, and without a header, which the file has already
-abbrev pub appended : Station → Station
+abbrev pub appended : Settings → Settings
 appended station = record station { layout = record station.layout { form = form_of_rows station.layout.form; headed = true } }
 
 -- a station as a run that began at this moment
-abbrev pub begun_at : ℕ → Station → Station
+abbrev pub begun_at : ℕ → Settings → Settings
 begun_at run station = record station { layout = record station.layout { run = run } }

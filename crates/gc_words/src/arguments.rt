@@ -1,12 +1,13 @@
-//! The arguments of subcommands as tables, and the loops that hand them to clap. A default stands in its row alone: clap fills it in.
+//! The arguments of subcommands as tables, and the loops that hand them to clap. A default stands in its row alone: clap fills it
+//! in.
 
 use clap::builder::ValueParser;
 use clap::{Arg, ArgAction, ArgMatches, Command};
 use gc_links::{Place, place_of};
 use std::alloc::{AllocError, Global};
 
-/// What an argument takes: nothing, a text, or a number from one bound to the other, which is read as `i64` or as `u64`. A positional
-/// argument is a text without a name in front.
+/// What an argument takes: nothing, a text, or a number from one bound to the other, which is read as `i64` or as `u64`. A
+/// positional argument is a text without a name in front.
 #[derive(Clone, Copy)]
 pub enum Takes {
     Positional,
@@ -66,7 +67,7 @@ pub const SCENE: Argument<'static> = Argument {
     ..FLAG
 };
 
-/// A subcommand with the arguments of a table.
+/// A subcommand for clap with this name, help and arguments.
 // The arguments are made first: the proof of a `Command` that is alive across a `?` costs much.
 pub fn command_of<'a>(
     alloc: Global,

@@ -3,8 +3,8 @@
 use crate::arguments::{Argument, FLAG, PLACE, Takes, command_of};
 use crate::help::STATION;
 use crate::layout::Layout;
+use crate::settings::Settings;
 use crate::site::LOG_BYTES;
-use crate::station::Station;
 use clap::{ArgMatches, Command};
 use gc_rows::Form;
 use std::alloc::{AllocError, Global};
@@ -145,7 +145,8 @@ pub struct Choice {
     pub every: u64,
     /// How many cycles are measured.
     pub cycles: u64,
-    /// The quiet time: for a new connection within a run, and the pause before one.
+    /// For how long nothing has to come over a new connection within a run before anything is sent on it, and how long the pause
+    /// before such a connection is.
     pub quiet: u64,
     /// How many times in a row it connects anew.
     pub retries: u32,
@@ -153,10 +154,10 @@ pub struct Choice {
     pub watch: Watch,
 }
 
-/// What the options say, apart from those that name files. `None`: a number that has a default is missing, which no clause
-/// of clap's excludes.
-pub fn station_of(matches: &ArgMatches) -> Option<Station> {
-    Some(Station {
+/// What the options say, apart from those that name files. `None`: a number is missing, though it has a default; clap fills it
+/// in, but no clause of clap's says so.
+pub fn station_of(matches: &ArgMatches) -> Option<Settings> {
+    Some(Settings {
         layout: Layout {
             form: form_of(matches),
             headed: false,

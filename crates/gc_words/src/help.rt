@@ -114,13 +114,15 @@ pub const STATION: &str =
 begin with # are skipped. Other lines say how the commands behind them go out, what a target is called, and where it stands:
   deadline MS   1 to 86400000: how long each waits before it is given up
   chained       commands for one target that follow one another are a chain: each but the first waits for the one before it to
-                be answered well: with both codes 0, values that read, and not elsewhere. Where it isn't, or the connection was
-                closed since, the rest of the chain is skipped
+                be answered well: with both codes 0 and values that read, or an accepted return code, and not elsewhere. Where
+                it isn't, or the connection was closed since, the rest of the chain is skipped
   unchained     each goes out by itself
   name T TEXT   1 to 64 bytes, for all rows of target T; the first is none of = + - @
   near T HZ V TOLERANCE
                 where target T stands, in radians, for all rows of T: a direction measured further away, in either angle,
                 is told as elsewhere
+  accept C C .. up to 16 return codes from 1 to 65535 that are accepted: such an answer is a warning, and its chain goes on;
+                accept alone: none
 
 Each is asked once in each cycle, and each gets a line as it ends, which begins with the moment:
   answered      its reply came before its deadline
@@ -129,7 +131,8 @@ Each is asked once in each cycle, and each gets a line as it ends, which begins 
   lost          no reply came, and none will be taken
   skipped       it wasn't sent: the one before it in its chain wasn't answered well
   missed        it wasn't sent: its cycle couldn't begin before the next was due
-  elsewhere     its reply came before its deadline, with both codes 0, and its direction isn't near where its target stands
+  elsewhere     its reply came before its deadline, with both codes 0 or an accepted one, and its direction isn't near where
+                its target stands
 
 A request that is given up keeps its id, and holds up no other. The connection is closed and made anew where it ends or
 fails, and where something waits and no reply came for twice the longest deadline. Ids go on then. At the start, and where

@@ -5,13 +5,13 @@ mod arguments;
 mod choice;
 pub mod help;
 mod layout;
+mod settings;
 mod site;
-mod station;
 mod version;
 
 pub use arguments::{Argument, FLAG, PLACE, SCENE, Takes, command_of, named_place};
 pub use choice::{Choice, Watch, station_command, station_of};
 pub use layout::Layout;
+pub use settings::Settings;
 pub use site::{LogPlace, Recording, Site, log_of, recording_of};
-pub use station::Station;
 pub use version::VERSION;

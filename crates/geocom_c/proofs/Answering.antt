@@ -1,4 +1,6 @@
--- What a beginning hears of bytes, one frame further.
+-- What a beginning hears of bytes: the frame that the first line feed ends, and then those of the bytes that are left. A frame
+-- is what a line feed makes of the bytes before it. The word is the ids of the beginning's eight null procedures, and `left`
+-- those of them that aren't answered yet. `HeardTo` says that all bytes but some were heard.
 use Rattle.std.proofs.Common.{◌≡◌, ℕ, ◌+◌, ◌≤◌, ◌<◌, List, [], ◌∷◌, ◌++◌, length, map, take, drop, Some, None, refl, sym, ap, ◌∙◌, arith}
 use Rattle.std.specs.List.{position, filter_map}
 use Rattle.std.proofs.lemmas.List.{drop_all, length-drop}
@@ -11,7 +13,7 @@ use Rattle.geocom_c.specs.Beginning.{anew, left_behind, left_by_all, left_past}
 use Rattle.geocom_c.specs.Rest.{IsRest}
 use Rattle.geocom_c.specs.declared.rest.GeocomRest.{GeocomRest}
 
--- the frames of bytes are heard one after the other
+-- hearing the lines of the frames f and `fs` is hearing f, and then the lines of `fs`
 past_first : (left : List ℕ) (f : Frame) (fs : List Frame) → left_by_all left (filter_map line_in (f ∷ fs)) ≡ left_by_all (left_past left f) (filter_map line_in fs)
 past_first left (Line line) fs = refl
 past_first left Cleared fs = refl
@@ -29,7 +31,9 @@ some_answers left rest bytes at e =
     sym (ap (λ ps. left_by_all left (filter_map line_in (map frame_of ps))) (cut_some rest bytes at e).0
     ∙ past_first left (frame_of (rest ++ take at bytes)) (map frame_of (pieces_behind [] (drop (at + 1) bytes))))
 
--- some of the bytes were heard, and those that are left come to what all of them come to
+-- all of `bytes` but `more` were heard, after the bytes r since the last line feed, while the ids `word` weren't answered. Now
+-- `rest` has the bytes since the last line feed, and `left` is the ids that aren't answered; from there the bytes `more` come
+-- to what all of `bytes` come to
 pub record HeardTo (r bytes word : List ℕ) (rest : GeocomRest) (left more : List ℕ) : Type 0 where
   pub now : List ℕ
   pub is : IsRest rest now
@@ -58,7 +62,7 @@ heard_some r bytes word rest left more at e n is same =
       behind = ap (rest_behind []) n ∙ sym (cut_some r bytes at e).1;
     }
 
--- where some of the bytes were heard, and then some more, all of these were heard
+-- where all bytes but `more` were heard, and then all of `more` but `end`, all bytes but `end` were heard
 pub heard_on : (r bytes word : List ℕ) (rest new : GeocomRest) (left more after end : List ℕ) (f : HeardTo r bytes word rest left more)
     → HeardTo f.now more left new after end → HeardTo r bytes word new after end
 heard_on r bytes word rest new left more after end f g = record { now = g.now; is = g.is; same = g.same ∙ f.same; behind = g.behind ∙ f.behind }
@@ -70,15 +74,15 @@ heard_to_end r bytes word rest left more f none = (sym (ap (rest_behind f.now) n
 
 -- Of how many null procedures are answered.
 
--- behind eight answers no id of the beginning is left
+-- after eight answers no id of the beginning is left
 pub is_begun : (a : ℕ) → 8 ≤ a → drop a the_word ≡ []
 is_begun a le = drop_all a the_word le
 
--- behind fewer than eight answers some are left
+-- after fewer than eight answers some id is left
 pub not_begun : (a : ℕ) → a < 8 → drop a the_word ≡ [] → ⊥
 not_begun a lt e = let n = length-drop a the_word in let none : length (drop a the_word) ≡ 0 = ap length e in absurd (omega (arith, lt, n, none))
 
--- where none is left, eight were answered
+-- where no id is left after `a` answers, there were at least eight
 pub begun_at : (a : ℕ) → drop a the_word ≡ [] → 8 ≤ a
 begun_at a e = let n = length-drop a the_word in let none : length (drop a the_word) ≡ 0 = ap length e in omega (arith, n, none)
 

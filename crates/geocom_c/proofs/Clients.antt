@@ -8,14 +8,15 @@ use Rattle.gc_catalogue.specs.declared.fault.CallFault.TheVariants.{Unknown, Par
 use Rattle.gc_client.specs.Rule.{Windowed}
 use Rattle.geocom_c.specs.declared.header.TheConstants.{WINDOW_FULL, NO_CLIENT, NOT_BEGUN}
 
--- a client of the same width is the other one with its own ids
+-- where client d has the width of client c, d is c with the ids of d
 pub same_width : (c d : Windowed) → d.width ≡ c.width → d ≡ record c { ids = d.ids }
 same_width c d e = ap (λ w. let x : Windowed = record { width = w; ids = d.ids } in x) e
 
+-- two values are equal where `Some` of the one equals `Some` of the other
 pub from_some : {A : Type 0} (x y : A) → Some x ≡ Some y → x ≡ y
 from_some x y e = cc
 
--- where a fault can only be that of a full window, it isn't that of no client
+-- where a fault n other than 0 can only be that of a full window, it isn't that of no client
 pub full_alone : (n : ℕ) → (n ≢ 0 → n ≡ WINDOW_FULL) → n ≡ NO_CLIENT → ⊥
 full_alone n either e = let f : n ≡ WINDOW_FULL = either (λ z. (cc)) in cc
 
@@ -36,14 +37,16 @@ no_refusal_astray e f = absurd (omega (arith, f, refusal_below e))
 pub other : NOT_BEGUN ≡ NO_CLIENT → ⊥
 other e = absurd (omega (arith, e))
 
+-- a fault isn't a success
 pub never_ok : {A E : Type 0} (e : E) (x : A) → Err e ≡ Ok x → ⊥
 never_ok e x f = cc
 
--- what two writes, one behind the other, leave as it was
+-- two writes turn `old` into `between`, and that into `new`: where the first leaves all behind the first n bytes, and the
+-- second all behind the first n + k, both leave all behind the first n + k
 pub twice_untouched : (old between new : List ℕ) (n k count : ℕ) → count ≡ n + k → drop n between ≡ drop n old → drop (n + k) new ≡ drop (n + k) between → drop count new ≡ drop count old
 twice_untouched old between new n k count e f g =
     ap (λ m. drop m new) e ∙ g ∙ sym (drop-drop k n between) ∙ ap (drop k) f ∙ drop-drop k n old ∙ ap (λ m. drop m old) (sym e)
 
--- a line stands in front where more was appended behind it
+-- where t is a line, and u is t with `more` behind it, u begins with that line
 pub front_of : (line t u more : List ℕ) → t ≡ line → u ≡ t ++ more → take (length line) u ≡ line
 front_of line t u more e f = ap (take (length line)) (f ∙ ap (λ x. x ++ more) e) ∙ take-append-le (length line) line more (omega arith) ∙ take_all (length line) line (omega arith)

@@ -1,4 +1,7 @@
--- What calls come to is what a client comes to over the steps among the events that they are.
+-- Calls on a state are events; and the calls bring the client to where its rule brings it over the steps among these events. A
+-- course is what a client has sent and settled so far, and the client after that; a step is a send, a line heard, a moment told
+-- or a restart. The word is the ids of a beginning's null procedures, and `left` those of them that aren't answered. `Leads`
+-- says that events lead from one course to another, and `Over` that calls do, by their events.
 use Rattle.std.proofs.Common.{◌≡◌, ℕ, List, [], ◌∷◌, ◌++◌, map, Option, Some, None, refl, sym, ap, subst, ◌∙◌, inl, inr, append_assoc, arith}
 use Rattle.std.proofs.lemmas.Bool.{le-ltb}
 use Rattle.std.proofs.lemmas.List.{append-nil}
@@ -16,7 +19,8 @@ use Rattle.geocom_c.specs.Steps.{Event, Came, Went, AreEvents, AreInTurn, IsOver
 use Rattle.geocom_c.specs.declared.following.Step.{Step}
 use Rattle.geocom_c.specs.declared.following.Step.TheVariants.{Send, Begin, Feed, Expire, Restart}
 
--- These events lead from one course to another, and from what isn't answered to what isn't answered behind them.
+-- the events `front` lead from course x to course y, and from the ids `left` of the word that aren't answered to the ids
+-- `after`; `es` stands for any events after these
 record Leads (width : ℕ) (x y : Course) (left after : List ℕ) (front : List Event) : Type 0 where
   turns : (es : List Event) → AreInTurn after es → AreInTurn left (front ++ es)
   reached : (es : List Event) → course width x (steps_among (front ++ es)) ≡ course width y (steps_among es)
@@ -48,12 +52,12 @@ leads_both width x y z left between after front later f g =
       behind = λ es. ap (λ l. left_among left l) (append_assoc front later es) ∙ f.behind (later ++ es) ∙ g.behind es;
     }
 
--- a client that has begun stays so, whatever lines come
+-- where no id of the word is left, none is left after any lines
 stays_begun : (lines : List (List ℕ)) → left_by_all [] lines ≡ []
 stays_begun [] = refl
 stays_begun (line ∷ lines) = stays_begun lines
 
--- a begin leads to the ids that aren't answered behind its bytes
+-- a begin leads to the ids that aren't answered after its bytes
 leads_begin : (width : ℕ) (x : Course) (left rest bytes : List ℕ) → Leads width x x left (left_behind left rest bytes) (begins_by left rest bytes)
 leads_begin width x [] rest bytes = subst (λ l. Leads width x x [] l []) (sym (stays_begun (lines_behind rest bytes))) (leads_none width x [])
 leads_begin width x (asked ∷ later) rest bytes =
@@ -101,10 +105,11 @@ idle_lines width x (line ∷ lines) idle = ap (λ y. course width y (map one.Hea
 leads_idle : (width : ℕ) (x y : Course) (left : List ℕ) → y ≡ x → Leads width x y left left []
 leads_idle width x y left same = subst (λ (z : Course). Leads width x z left left []) (sym same) (leads_none width x left)
 
+-- a list with an element isn't empty
 never_left : (asked : ℕ) (later : List ℕ) → asked ∷ later ≡ [] → ⊥
 never_left asked later e = cc
 
--- a client that hasn't begun is a new one
+-- as long as some id is left, so that the client hasn't begun, it is a new one
 abbrev IsIdle : Course → List ℕ → Type 0
 IsIdle x left = (left ≡ [] → ⊥) → x.client ≡ fresh
 
@@ -140,7 +145,7 @@ record Over (width : ℕ) (s : Stage) (calls : List Step) (t : Stage) : Type 0 w
   reached : t.reached ≡ course width s.reached (steps_among events)
   left : t.left ≡ left_among s.left events
 
--- calls that lead from one stage to another are events that do
+-- calls that lead from stage s to stage t are events that lead from s to t (`Over`)
 as_events : (width : ℕ) (s : Stage) (calls : List Step) (t : Stage) → IsIdle s.reached s.left → CallsReach width s calls t → Over width s calls t
 as_events width s [] t idle f = record { events = []; are = refl; turns = tt; reached = ap (λ (x : Stage). x.reached) f; left = ap (λ (x : Stage). x.left) f }
 as_events width s (Send target deadline procedure params ∷ calls) t idle (inl f) =
@@ -218,13 +223,13 @@ only_events left rest (Feed bytes ∷ calls) es fs f g =
 only_events left rest (Expire now ∷ calls) es fs f g = f.1 ∙ ap (λ later. goes_by left (one.Expire now ∷ []) ++ later) (only_events left rest calls f.0 g.0 f.2 g.2) ∙ sym g.1
 only_events left rest (Restart ∷ calls) es fs f g = f.1 ∙ ap (λ later. goes_by left (one.Restart ∷ []) ++ later) (only_events (anew left) [] calls f.0 g.0 f.2 g.2) ∙ sym g.1
 
--- the law: all calls on a state are events, and lead where these lead
+-- the law: any calls on a state are one list of events, and bring the client to where its rule brings it over these
 pub over_events : (width : ℕ) (calls : List Step) (t : Stage) → CallsReach width opened calls t → IsOverEvents width calls t
 over_events width calls t f =
     let it = as_events width opened calls t (λ no. refl) f in
     record { events = it.events; are = it.are; only = λ others are. only_events the_word [] calls others it.events are it.are; turns = it.turns; reached = it.reached; left = it.left }
 
--- what was settled, and what waits, are the sends that weren't refused
+-- after any calls, what was settled and what waits are, one for one and in order, the sends that weren't refused
 pub follows_one_for_one : (width : ℕ) (steps : List Step) (t : Stage) → CallsReach width opened steps t → IsOneForOne t.reached
 follows_one_for_one width steps t f =
     let it = over_events width steps t f in

@@ -1,4 +1,4 @@
--- Calls of which the laws speak, computed.
+-- Calls of which the laws speak, computed: they meet each premise of the laws, so that these aren't about nothing.
 use Rattle.std.proofs.Common.{◌≡◌, ◌⊎◌, ℕ, [], ◌∷◌, None, inl, inr, refl, lit≤, arith}
 use Rattle.std.specs.Prelude.{codes, take, drop}
 use Rattle.std.specs.Fmt.{digits}
@@ -23,7 +23,7 @@ use Rattle.geocom_c.specs.FieldWitness.{AreInField, SomeCallsAreInField, moves}
 number : IsCall 5003 [] InstrumentNo
 number = record { number = refl; values = record { items = []; split = (0, refl); read = tt } }
 
--- a reply with id 0 alone isn't the word
+-- a reply with id 0 alone, as what is under way, doesn't have the word, whose first id is 6
 not_alone : {A : Type 0} → (◌≡◌ {A = ℕ} 6 0 × A) ⊎ ⊥ → ⊥
 not_alone (inl f) = absurd (omega (arith, f.0))
 not_alone (inr f) = f

@@ -1,4 +1,4 @@
--- Frames that are fed.
+-- Frames that are fed to a client: what a line feed makes of the bytes before it.
 use Rattle.std.proofs.Common.{◌≡◌, ℕ, ◌-◌, List, Bool, true, false, length, take, sym, ap, ◌∙◌, subst}
 use Rattle.std.specs.Prelude.{if◌then◌else◌, nat_lt}
 use Rattle.gc_lines.specs.declared.frame.Frame.{Frame}
@@ -13,7 +13,7 @@ use Rattle.geocom_c.specs.declared.rest.GeocomRest.{GeocomRest}
 use Rattle.geocom_c.specs.declared.settled.GeocomSettlement.{GeocomSettlement}
 use Rattle.geocom_c.specs.declared.state.GeocomClient.{GeocomClient}
 
--- none of the three frames that a line feed makes is `More`
+-- a frame that is chosen among `Overlong`, `Cleared` and l isn't `More`, if l isn't
 pick : (a b : Bool) (l : Frame) → (l ≡ More → ⊥) → (if a then (if b then Overlong else l) else Cleared) ≡ More → ⊥
 pick false b l other e = let bad : Cleared ≡ More = e in cc
 pick true true l other e = let bad : Overlong ≡ More = e in cc
@@ -35,7 +35,7 @@ with_rest s r c old new is rest =
       under_way = rest;
     }
 
--- what was fed stays so with another number of used bytes
+-- what was fed is as `IsFed` says still with an equal frame g in place of f, and another number of used bytes
 pub fed_used : (c : Windowed) (f g : Frame) (r q : GeocomHeard) (records : List GeocomSettlement) (text : List ℕ) (used : ℕ) → f ≡ g
     → q ≡ record r { used = used } → IsFed c f r records text → IsFed c g q records text
 fed_used c f g r q records text used e same is =

@@ -1,4 +1,6 @@
--- Bytes that are fed, one frame further.
+-- Bytes that are fed: the client hears the frame that the first line feed ends, and then those of the bytes that are left. A
+-- frame is what a line feed makes of the bytes before it; a course is what a client has sent and settled so far, and the client
+-- after that; `rest` is the bytes since the last line feed. `FedTo` says that all bytes but some were fed to a state.
 use Rattle.std.proofs.Common.{◌≡◌, ◌≢◌, ℕ, ◌+◌, Bool, true, false, eqb, eq-eqb, arith, length, Option, List, [], ◌∷◌, ◌++◌, map, take, drop, Some, None, refl, sym, ap, subst, ◌∙◌}
 use Rattle.std.specs.List.{position, filter_map}
 use Rattle.std.proofs.lemmas.Bool.{eqb-true}
@@ -16,21 +18,21 @@ use Rattle.geocom_c.specs.Sending.{Sent, IsSent}
 use Rattle.geocom_c.specs.Following.{hearing, FedTo}
 use Rattle.geocom_c.specs.declared.state.GeocomClient.{GeocomClient}
 
--- the course behind a frame
+-- the course after a frame
 abbrev pub past : ℕ → Course → Frame → Course
 past width x (Line line) = goes width x (one.Hear line.items)
 past width x Cleared = x
 past width x Overlong = x
 past width x More = x
 
--- the client behind a frame is that of the course behind it
+-- the client after a frame is that of the course after it
 pub behind_past : (width : ℕ) (x : Course) (f : Frame) → behind (record { width = width; ids = x.client }) f ≡ record { width = width; ids = (past width x f).client }
 behind_past width x (Line line) = refl
 behind_past width x Cleared = refl
 behind_past width x Overlong = refl
 behind_past width x More = refl
 
--- the frames of bytes are heard one after the other
+-- hearing the lines of the frames f and `fs` is hearing f, and then the lines of `fs`
 frame_first : (width : ℕ) (x : Course) (f : Frame) (fs : List Frame) → course width x (map one.Hear (filter_map line_in (f ∷ fs))) ≡ course width
     (past width x f) (map one.Hear (filter_map line_in fs))
 frame_first width x (Line line) fs = refl
@@ -53,7 +55,7 @@ some_heard width x rest bytes at e =
     sym (ap (λ ps. course width x (map one.Hear (filter_map line_in (map frame_of ps)))) (cut_some rest bytes at e).0
     ∙ frame_first width x (frame_of (rest ++ take at bytes)) (map frame_of (pieces_behind [] (drop (at + 1) bytes))))
 
--- behind the first line feed the bytes before it count no more
+-- the bytes since the last line feed are the same where the bytes through the first line feed are left out
 pub some_left : (rest bytes : List ℕ) (at : ℕ) → position is_line_feed bytes ≡ Some at → rest_behind [] (drop (at + 1) bytes) ≡ rest_behind rest bytes
 some_left rest bytes at e = sym (cut_some rest bytes at e).1
 
@@ -81,12 +83,12 @@ fed_some width x rest bytes state used at e n s =
       behind = ap (λ m. rest_behind [] (drop m bytes)) n ∙ some_left rest bytes at e;
     }
 
--- where some of the bytes were fed, and then some more, all of these were fed
+-- where all bytes but `left` were fed, and then all of `left` but `end`, all bytes but `end` were fed
 pub fed_on : (width : ℕ) (x : Course) (rest bytes left end : List ℕ) (state new : GeocomClient) (f : FedTo width x rest bytes state left)
     → FedTo width f.reached f.now left new end → FedTo width x rest bytes new end
 fed_on width x rest bytes left end state new f g = record { reached = g.reached; now = g.now; stands = g.stands; same = g.same ∙ f.same; behind = g.behind ∙ f.behind }
 
--- a line feed is there or not
+-- what follows both where no place is found and where some place is found holds (`o` is the place, if one is found)
 pub either : {P : Type 0} (o : Option ℕ) → (o ≡ None → P) → ((at : ℕ) → o ≡ Some at → P) → P
 either None f g = f refl
 either (Some at) f g = g at refl
@@ -94,6 +96,7 @@ either (Some at) f g = g at refl
 -- where all bytes were used, none is left
 pub nothing_left : (bytes : List ℕ) (used : ℕ) → used ≡ length bytes → drop used bytes ≡ []
 nothing_left bytes used e = ap (λ n. drop n bytes) e ∙ none bytes where
+  -- a list has nothing behind as many elements as it has
   none : (xs : List ℕ) → drop (length xs) xs ≡ []
   none [] = refl
   none (x ∷ xs) = none xs
@@ -107,19 +110,20 @@ fed_all width x rest bytes left state f none =
     subst (λ (y : Course). StandsFor state (record { width = width; ids = y.client }) (rest_behind rest bytes)) same
     (subst (λ (r : List ℕ). StandsFor state (record { width = width; ids = f.reached.client }) r) behind f.stands)
 
--- behind a send, taken or refused by the rule, the state stands for the course that goes on with it
+-- after a send, taken or refused by the rule, the state stands for the course that goes on with it
 pub sent_course : (width : ℕ) (x : Course) (rest : List ℕ) (call : Call) (target : ℕ) (o : Option (Sending ById)) (sent : Sent)
     → StandsFor sent.old (record { width = width; ids = x.client }) rest → IsSent (record { width = width; ids = x.client }) rest call o sent
     → StandsFor sent.new (record { width = width; ids = (sent_on x target call o).client }) rest
 sent_course width x rest call target None sent s is = subst (λ (t : GeocomClient). StandsFor t (record { width = width; ids = x.client }) rest) (sym is.1) s
 sent_course width x rest call target (Some q) sent s is = is.1
 
--- a number is another, or not
+-- what follows both where two numbers are equal and where they aren't holds
 pub decided : {P : Type 0} (n m : ℕ) → (n ≡ m → P) → (n ≢ m → P) → P
 decided {P} n m f g = elim (eqb n m) as (λ v. eqb n m ≡ v → P) [
   | true ↦ λ e. f (eqb-true n m e)
   | false ↦ λ e. g (λ same. let t = eq-eqb n m same in clash t e)
 ] refl where
+  -- a test isn't both true and false
   clash : {b : Bool} → b ≡ true → b ≡ false → ⊥
   clash e f = let bad = sym e ∙ f in cc
 

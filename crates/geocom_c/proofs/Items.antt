@@ -1,4 +1,5 @@
--- Items that stand in a text.
+-- Items, as texts of values, that stand in a text: at a place, which is an offset and a length in bytes. `total` is how many
+-- bytes items have together.
 use Rattle.std.proofs.Common.{◌≡◌, ℕ, zero, suc, ◌+◌, ◌<◌, ◌≤◌, List, [], ◌∷◌, ◌++◌, length, take, drop, replicate, get_or, refl, ap, ◌∙◌, arith, inl, inr, length-append}
 use Rattle.std.proofs.lemmas.List.{take_all, take-append-le}
 use Rattle.std.specs.List.{flat_map}
@@ -16,7 +17,7 @@ total_turn [] k lt = absurd (omega (arith, lt))
 total_turn (i ∷ items) zero lt = omega arith
 total_turn (i ∷ items) (suc k) lt = omega (arith, total_turn items k (omega (arith, lt)))
 
--- the first items have no more bytes than all
+-- the first k items have no more bytes than all
 pub total_first : (items : List (List ℕ)) (k : ℕ) → total (take k items) ≤ total items
 total_first [] zero = omega arith
 total_first [] (suc k) = omega arith
@@ -33,12 +34,12 @@ pieces_total (p ∷ pieces) (i ∷ items) are =
     let n = ap length is.piece_is in
     omega (arith, n, length-append (replicate is.before 32) (i ++ replicate is.behind 32), length-append i (replicate is.behind 32), pieces_total pieces items are.2)
 
--- items have no more bytes than they have with a comma before each
+-- texts have no more bytes than the same texts with a comma (44) before each
 flat_total : (ts : List (List ℕ)) → total ts ≤ length (flat_map (λ (u : List ℕ). 44 ∷ u) ts)
 flat_total [] = omega arith
 flat_total (t ∷ ts) = omega (arith, flat_total ts, length-append (44 ∷ t) (flat_map (λ (u : List ℕ). 44 ∷ u) ts))
 
--- items have no more bytes than they have joined by commas
+-- texts have no more bytes than the same texts joined by commas
 joined_total : (ts : List (List ℕ)) → total ts ≤ length (joined ts)
 joined_total [] = omega arith
 joined_total (t ∷ ts) = omega (arith, flat_total ts, length-append t (flat_map (λ (u : List ℕ). 44 ∷ u) ts))
@@ -74,7 +75,7 @@ items_length [] (v ∷ vs) are = absurd are
 items_length (i ∷ items) [] are = absurd are
 items_length (i ∷ items) (v ∷ vs) are = omega (arith, items_length items vs are.1)
 
--- behind the length of a first text stands the second
+-- of two texts joined, the second is left where as many bytes are dropped as the first has
 drop_exact : (t u : List ℕ) → drop (length t) (t ++ u) ≡ u
 drop_exact [] u = refl
 drop_exact (x ∷ t) u = drop_exact t u

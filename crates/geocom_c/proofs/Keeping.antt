@@ -1,4 +1,6 @@
--- What is kept of a line under way, as more of it comes.
+-- What is kept of a line that no line feed has ended yet, as more of it comes: at most 514 bytes, the first 513 and the last
+-- one so far. A frame is what a line feed makes of the bytes before it. `GoAlike` says of two texts that the same frame comes
+-- of them, however both go on.
 use Rattle.std.proofs.Common.{◌≡◌, ◌≢◌, ℕ, zero, suc, ◌+◌, ◌-◌, ◌<◌, ◌≤◌, List, [], ◌∷◌, ◌++◌, length, take, get_or, All, refl, sym, subst, ap, ap₂, ◌∙◌, arith, append_assoc, length-append, if◌then◌else◌, ◌==◌}
 use Rattle.std.specs.Prelude.{slice_set}
 use Rattle.std.proofs.lemmas.List.{length-take, append-nil, get_or-take, take_more_set}
@@ -13,16 +15,16 @@ use Rattle.gc_lines.proofs.Keeping.{take-append, last-append}
 abbrev pub last_of : List ℕ → ℕ
 last_of t = get_or t (length t - 1) 0
 
--- what a line feed makes of more than 513 bytes depends on the last alone
+-- which frame a line feed makes of more than 513 bytes depends on the last of them alone (13 is CR)
 long_frame : (t : List ℕ) → 513 < length t → frame_of t ≡ (if last_of t == 13 then Overlong else Cleared)
 long_frame t h = rw (lt-ltb 0 (length t) (omega (arith, h)), lt-ltb 512 (length t - 1) (omega (arith, h))) refl
 
--- bytes with the same last byte have the same one behind the same further bytes
+-- two texts with the same last byte still have the same one when the same bytes are added to both
 last_same : (t u more : List ℕ) → last_of t ≡ last_of u → last_of (t ++ more) ≡ last_of (u ++ more)
 last_same t u [] e = ap last_of (append-nil t) ∙ e ∙ sym (ap last_of (append-nil u))
 last_same t u (b ∷ bs) e = last-append t (b ∷ bs) (omega arith) ∙ sym (last-append u (b ∷ bs) (omega arith))
 
--- the first 513 bytes and the last stand for more than 513
+-- of more than 513 bytes the first 513 and the last make the same frame as all of them, whatever bytes come next
 pub cut_same : (t : List ℕ) (more : List ℕ) → 513 < length t → frame_of ((take 513 t ++ last_of t ∷ []) ++ more) ≡ frame_of (t ++ more)
 cut_same t more h =
     let u = take 513 t ++ last_of t ∷ [] in
@@ -32,15 +34,16 @@ cut_same t more h =
     ∙ ap (λ b. if b == 13 then Overlong else Cleared) (last_same u t more l)
     ∙ sym (long_frame (t ++ more) (omega (arith, h, length-append t more)))
 
--- however both go on, the same frame comes of them
+-- the same bytes added to both of these texts make the same frame, whatever they are
 abbrev pub GoAlike : List ℕ → List ℕ → Type 0
 GoAlike t rest = (more : List ℕ) → frame_of (t ++ more) ≡ frame_of (rest ++ more)
 
--- where the bytes kept and those that came go on alike, they still do with a piece behind both
+-- where `GoAlike` holds of the bytes kept, `t`, and those that came, `rest`, it holds of both with the piece p behind them
 pub alike_all : (t p rest : List ℕ) → GoAlike t rest → GoAlike (t ++ p) (rest ++ p)
 alike_all t p rest same more = ap frame_of (append_assoc t p more) ∙ same (p ++ more) ∙ sym (ap frame_of (append_assoc rest p more))
 
--- where they go on alike, and with a piece are more than 513, they still do where the first 513 and the last are kept
+-- where `GoAlike` holds of the bytes kept, `t`, and those that came, `rest`, and `t` and the piece p are more than 513 bytes:
+-- it holds of the first 513 of these and the last, and of `rest` and p
 pub alike_cut : (t p rest : List ℕ) → 513 < length (t ++ p) → GoAlike t rest → GoAlike (take 513 (t ++ p) ++ last_of (t ++ p) ∷ []) (rest ++ p)
 alike_cut t p rest h same more = cut_same (t ++ p) more h ∙ alike_all t p rest same more
 
@@ -51,22 +54,24 @@ shorter (suc k) zero xs le = absurd (omega (arith, le))
 shorter (suc k) (suc n) [] le = refl
 shorter (suc k) (suc n) (x ∷ xs) le = ap (λ ys. x ∷ ys) (shorter k n xs (omega (arith, le)))
 
--- the part of a piece for which there is room decides the first 513 bytes
+-- the first 513 bytes of `t` and then the piece p are known from the n bytes of p for which there is room
 filled : (t p : List ℕ) (n : ℕ) → length t ≤ 514 → n ≡ 514 - length t → n ≤ length p → take 513 (t ++ take n p) ≡ take 513 (t ++ p)
 filled t p n short room fits = take-append 513 t (take n p) ∙ ap (λ xs. take 513 t ++ xs) (shorter (513 - length t) n p (omega (arith, room))) ∙ sym (take-append 513 t p)
 
--- what holds of all items holds of the first
+-- what holds of all items holds of the first k
 all_of_take : (P : ℕ → Type 0) (k : ℕ) (xs : List ℕ) → All P xs → All P (take k xs)
 all_of_take P k xs all i d lt =
     let n = length-take k xs in
     subst P (sym (get_or-take k xs i d (omega (arith, lt, n)))) (all i d (omega (arith, lt, n)))
 
+-- a property of x is one of each item of the list of x alone
 all_one : (P : ℕ → Type 0) (x : ℕ) → P x → All P (x ∷ [])
 all_one P x is zero d lt = is
 all_one P x is (suc k) d lt = absurd (omega (arith, lt))
 
 module _ (bytes t p rest : List ℕ) (n f : ℕ) (is : n ≡ length t) (clean : All (λ b. b ≢ 10) t) (cleanly : All (λ b. b ≢ 10) p) (same : GoAlike t rest) where
-  -- all of a piece was kept
+  -- where all of the piece `p` was kept, its f bytes after the n bytes `t` that were kept before, what is kept stands for all
+  -- bytes that came since the last line feed, `rest` and then `p`
   pub all_rest : n + f ≤ 514 → take (n + f) bytes ≡ t ++ p → IsRest (record { length = n + f; bytes = bytes }) (rest ++ p)
   all_rest short text =
       record {
@@ -74,7 +79,8 @@ module _ (bytes t p rest : List ℕ) (n f : ℕ) (is : n ≡ length t) (clean : 
         same = λ more. ap (λ u. frame_of (u ++ more)) text ∙ alike_all t p rest same more;
       }
 
-  -- a part of a piece was kept, and its last byte
+  -- where the first f bytes of the piece `p` were kept, as many as there was room for, and its last byte in the last place,
+  -- what is kept stands for all bytes that came since the last line feed, `rest` and then `p`
   pub cut_rest : (last : ℕ) → n ≤ 514 → f ≡ 514 - n → f < length p → take (n + f) bytes ≡ t ++ take f p → 513 < length bytes → last ≡ last_of p
       → IsRest (record { length = n + f; bytes = slice_set bytes 513 last }) (rest ++ p)
   cut_rest last short room more text within e =

@@ -9,6 +9,7 @@ use Rattle.gc_lines.proofs.Cutting.{goes_on}
 -- a byte at which the search stops is a line feed
 is_feed : (b : ℕ) → goes_on b ≡ false → b ≡ 10
 is_feed b e = eqb-true b 10 (flip (is_line_feed b) e) where
+  -- where the negation of a test doesn't hold, the test does
   flip : (v : Bool) → not v ≡ false → v ≡ true
   flip true e = refl
   flip false e = cc
@@ -16,6 +17,7 @@ is_feed b e = eqb-true b 10 (flip (is_line_feed b) e) where
 -- a byte at which the search goes on is no line feed
 no_feed : (b : ℕ) → goes_on b ≡ true → b ≢ 10
 no_feed b e same = clash (is_line_feed b) e (eq-eqb b 10 same) where
+  -- a test and its negation don't both hold
   clash : (v : Bool) → not v ≡ true → v ≡ true → ⊥
   clash true e t = cc
   clash false e t = cc

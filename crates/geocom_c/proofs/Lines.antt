@@ -25,7 +25,7 @@ own_line line call back e =
 pub never_bad : (line : List ℕ) (call : Call) (f : LineFault) → request_at line ≡ Err f → IsLineOf line call → ⊥
 never_bad line call f e is = let both : Ok is.fields ≡ Err f = sym (request_again line is.fields is.is_request) ∙ e in cc
 
--- where a line reads, and is a call's, what is read is that call's
+-- where a line reads as the fields r, and is a line of the call, r has no id, and is that call's number and parameters
 pub read_same : (line : List ℕ) (call : Call) (r : RequestFields) → request_at line ≡ Ok r → IsLineOf line call → (r.id ≡ None) × IsCall r.rpc r.params call
 read_same line call r e is =
     let both : Ok is.fields ≡ Ok r = sym (request_again line is.fields is.is_request) ∙ e in

@@ -1,4 +1,6 @@
--- Each answer of a run is its own request's.
+-- Each answer of a run is its own request's: it settled that request, and the instrument made it on executing that request. A
+-- part is a run with what was under way when it began; `ends` is the instrument, `Good` the states that it may be in, and
+-- `kept` the reply that it keeps.
 use Rattle.std.proofs.Common.{◌≡◌, ℕ, zero, suc, ◌<◌, ◌≤◌, List, [], ◌∷◌, ◌++◌, map, length, drop, refl, arith}
 use Rattle.std.specs.Prelude.{Option, Some, slice_get}
 use Rattle.std.specs.List.{AllByRecursion}
@@ -19,12 +21,12 @@ all_of_places : {A : Type 0} (P : A → Type 0) (xs : List A) → ((m : ℕ) (x 
 all_of_places P [] f = tt
 all_of_places P (x ∷ xs) f = (f 0 x refl, all_of_places P xs (λ m y e. f (suc m) y e))
 
--- where all items have something, and that gives something else, all have that, too
+-- where P gives Q for each item, and P holds of all items, Q does
 pub all_weaker : {A : Type 0} (P Q : A → Type 0) → ((x : A) → P x → Q x) → (xs : List A) → AllByRecursion P xs → AllByRecursion Q xs
 all_weaker P Q f [] h = tt
 all_weaker P Q f (x ∷ xs) h = (f x h.0, all_weaker P Q f xs h.1)
 
--- what holds of all items of two lists holds of all of both together
+-- what holds of all items of two lists holds of all items of the lists joined
 pub all_joined : {A : Type 0} (P : A → Type 0) (xs ys : List A) → AllByRecursion P xs → AllByRecursion P ys → AllByRecursion P (xs ++ ys)
 all_joined P [] ys f g = g
 all_joined P (x ∷ xs) ys f g = (f.0, all_joined P xs ys f.1 g)
@@ -35,7 +37,7 @@ within [] m x e = cc
 within (y ∷ xs) zero x e = omega arith
 within (y ∷ xs) (suc m) x e = omega (arith, within xs m x e)
 
--- a place behind the first k items is one of the whole list, at k or behind it
+-- a place after the first k items is one of the whole list, at k or after it
 behind_first : {A : Type 0} (k m : ℕ) (xs : List A) (x : A) → slice_get (drop k xs) m ≡ Some x → (n : ℕ) × (k ≤ n) × (slice_get xs n ≡ Some x)
 behind_first zero m xs x e = (m, omega arith, e)
 behind_first {A} (suc k) m [] x e = (let bad : m < length {A = A} [] = within {A = A} [] m x e in absurd (omega (arith, bad)))
@@ -69,7 +71,8 @@ module _ {State : Type 0} (width : ℕ) (ends : Ends State) (Good : State → Ty
         made_on = f.made_on m x line command e is;
       }
 
-  -- so is each answer behind the null procedures
+  -- each answer that a run settled, after the eight null procedures, is its own request's, in the list that begins with this
+  -- run
   pub own_here : (p : Part State) (ps : List (Part State)) → IsFaithful width ends (leaves (begun_at width ends p)) p.run.moves Good kept
       → AllByRecursion (IsOwnAnswer width ends Good kept (p ∷ ps)) (drop 8 (world width ends p).wire.settled)
   own_here p ps f = all_of_places (IsOwnAnswer width ends Good kept (p ∷ ps)) (drop 8 (world width ends p).wire.settled)
@@ -99,5 +102,6 @@ module _ {State : Type 0} (width : ℕ) (ends : Ends State) (Good : State → Ty
   pub none_answered : (ps : List (Part State)) (lost_ones : List Pending) → AllByRecursion (IsOwnAnswer width ends Good kept ps) (map lost lost_ones)
   none_answered ps [] = tt
   none_answered ps (p ∷ lost_ones) = ((λ line is. absurd (clash line is)), none_answered ps lost_ones) where
+    -- lost is no answer
     clash : (line : List ℕ) → Lost ≡ Answered line → ⊥
     clash line e = cc

@@ -1,4 +1,8 @@
--- Run after run: what calls that are runs settle, and whose the answers are.
+-- Run after run: what calls that are runs settle, and whose the answers are. A run is the turns of a beginning and then the
+-- moves of the field, and a part is a run with what was under way when it began. The word is the ids of a beginning's eight
+-- null procedures, and `left` those of them that aren't answered. `ends` is the instrument, `Good` the states that it may be
+-- in, and `kept` the reply that it keeps. `Turned` says which events a beginning's turns are, `Begins` and `Passes` that a run
+-- has begun cleanly, and `Holds` what the law promises of runs.
 use Rattle.std.proofs.Common.{◌≡◌, ℕ, ◌≤◌, false, List, [], ◌∷◌, ◌++◌, map, drop, Option, Some, None, refl, sym, ◌∙◌, ap, subst, append_assoc}
 use Rattle.std.proofs.lemmas.List.{append-nil}
 use Rattle.std.specs.List.{AllByRecursion}
@@ -29,7 +33,7 @@ use Rattle.geocom_c.proofs.Owning.{all_joined, all_weaker, later_own, none_answe
 
 -- A course with the client of another, which settled these before.
 
--- course x is course y with these settlements in front
+-- course x is course y with the settlements `old` in front: the same client, and settlements that are `old` and then those of y
 record Behind (old : List Settlement) (x y : Course) : Type 0 where
   settled : x.settlements ≡ old ++ y.settlements
   client : x.client ≡ y.client
@@ -60,7 +64,7 @@ behind_all : (width : ℕ) (old : List Settlement) (steps : List Step) (x y : Co
 behind_all width old [] x y h = h
 behind_all width old (step ∷ steps) x y h = behind_all width old steps _ _ (behind_step width old x y step h)
 
--- the course over steps, and others behind them, is that over the others from where the first lead
+-- the course over the steps `first` and then `later` is that over `later` from where `first` lead
 course_append : (width : ℕ) (first later : List Step) (x : Course) → course width x (first ++ later) ≡ course width (course width x first) later
 course_append width [] later x = refl
 course_append width (step ∷ first) later x = course_append width first later (goes width x step)
@@ -72,6 +76,7 @@ steps_went : (steps : List Step) (es : List Event) → steps_among (map Went ste
 steps_went [] es = refl
 steps_went (step ∷ steps) es = ap (λ l. step ∷ l) (steps_went steps es)
 
+-- a list with an element isn't empty
 over_none : (asked : ℕ) (later : List ℕ) → asked ∷ later ≡ [] → ⊥
 over_none asked later e = cc
 
@@ -85,7 +90,8 @@ no_restart : (asked : ℕ) (later : List ℕ) (steps : List Step) (es : List Eve
 no_restart asked later [] es h = over_none asked later h.0
 no_restart asked later (step ∷ steps) es h = over_none asked later h.0
 
--- moves of the field change nothing in that a client has begun
+-- events that come in their turn after moves of the field, of a client that has begun, come in their turn without these moves,
+-- too
 went_on : {State : Type 0} (ms : List (Move State)) (es : List Event) → AreInTurn [] (map Went (seen ms) ++ es) → AreInTurn [] es
 went_on [] es h = h
 went_on (Sends target call deadline ∷ ms) es h = went_on ms es h.1
@@ -97,7 +103,7 @@ went_on (field.Anew ∷ ms) es h = went_on ms es h
 went_on (field.Changes state ∷ ms) es h = went_on ms es h
 went_on (Joins line ∷ ms) es h = went_on ms es h
 
--- moves of the field leave no id of a beginning unanswered
+-- moves of the field, of a client that has begun, change nothing in which ids aren't answered after further events
 went_left : {State : Type 0} (ms : List (Move State)) (es : List Event) → left_among [] (map Went (seen ms) ++ es) ≡ left_among [] es
 went_left [] es = refl
 went_left (Sends target call deadline ∷ ms) es = went_left ms es
@@ -110,7 +116,8 @@ went_left (field.Changes state ∷ ms) es = went_left ms es
 went_left (Joins line ∷ ms) es = went_left ms es
 
 module _ {State : Type 0} (width : ℕ) (ends : Ends State) where
-  -- The events of a beginning: they have no step, and leave what the turns leave.
+  -- the events `front` go with turns of a beginning that lead from s to `after`: they have no step of the client, and leave of
+  -- the word what the turns leave
   record Turned (s after : Model State) (front : List Event) : Type 0 where
     turns : (es : List Event) → AreInTurn s.left (front ++ es) → AreInTurn after.left es
     left : (es : List Event) → left_among s.left (front ++ es) ≡ left_among after.left es
@@ -168,12 +175,12 @@ module _ {State : Type 0} (width : ℕ) (ends : Ends State) where
       }
 
   module _ (Good : State → Type 0) (kept : State → Option KeptReply) (is : IsAnInstrument ends Good kept) (narrow : width ≤ 7) where
-    -- where all requests under way are the eighth null procedure, so are their lines
+    -- where all requests under way, marked as old or not, are the eighth null procedure, so are they without the marks
     clean_up : (xs : List (Aged Request)) → Each (λ x. (x.old ≡ false) × (x.line ≡ eighth)) xs → Each (λ x. x ≡ eighth) (map (λ x. x.line) xs)
     clean_up [] h = tt
     clean_up (x ∷ xs) h = (h.0.1, clean_up xs h.1)
 
-    -- where all replies under way have id 7, so have their lines
+    -- where all replies under way, marked as old or not, have id 7, so have they without the marks
     clean_down : (xs : List (Aged (List ℕ))) → Each (λ x. (x.old ≡ false) × (heard x.line ≡ Some 7)) xs → Each (λ line. heard line ≡ Some 7) (map (λ x. x.line) xs)
     clean_down [] h = tt
     clean_down (x ∷ xs) h = (h.0.1, clean_down xs h.1)
@@ -184,7 +191,7 @@ module _ {State : Type 0} (width : ℕ) (ends : Ends State) where
       lines : AreLines Good (left_if width ends [] (stood width ends u r) r.moves)
       may : MayBegin (left_if width ends [] (stood width ends u r) r.moves)
 
-    -- a run among lines that may begin, all of whose null procedures are answered, has begun so
+    -- where the word isn't under way, a run whose null procedures are all answered has begun as `Begins` says
     begins_own : (u : UnderWay State) (r : Run State) → AreLines Good u → MayBegin u → AreTurns ends Good kept r.turns (begins u)
         → ArePossible ends Good kept (by_ids width ends) r.moves (ids_begun (leaves (stood width ends u r))) → (stood width ends u r).left ≡ [] → Begins u r
     begins_own u r lines may ts possible e =
@@ -199,13 +206,16 @@ module _ {State : Type 0} (width : ℕ) (ends : Ends State) where
           may = rows_have_not (on_line (behind width ends (leaves s) r.moves).wire) (runs_leave_rows ends Good kept is width narrow (leaves s) is_clean r.moves possible);
         }
 
+    -- where this run has begun, it has begun cleanly, and is faithful
     abbrev OwnPart : Part State → Type 0
     OwnPart p = IsOwnIf width ends Good kept (begun_at width ends p).left (begun_at width ends p) p.run.moves
 
+    -- each of these answers is its own request's
     abbrev OwnAll : List (Part State) → List Settlement → Type 0
     OwnAll ps ss = AllByRecursion (IsOwnAnswer width ends Good kept ps) ss
 
-    -- what holds of runs, where these are their events
+    -- what holds of runs (`ps`) and their events: the library settles and leaves what the runs do, each of its answers is its
+    -- own request's, and each run that has begun is faithful
     record Holds (ps : List (Part State)) (events : List Event) : Type 0 where
       settled : (course width begun (steps_among events)).settlements ≡ settled_over width ends ps
       client : (course width begun (steps_among events)).client ≡ client_over width ends ps
@@ -213,7 +223,7 @@ module _ {State : Type 0} (width : ℕ) (ends : Ends State) where
       own : OwnAll ps (settled_over width ends ps)
       each : AllByRecursion OwnPart ps
 
-    -- what holds of the last run, begun or not
+    -- `Holds` is true of the last run alone, begun or not (`left` is the ids that it left unanswered)
     last_holds : (p : Part State) (left : List ℕ) → (begun_at width ends p).left ≡ left → AreLines Good p.before → MayBegin p.before → AreTurns ends Good kept p.run.turns (begins p.before)
         → ArePossible ends Good kept (by_ids width ends) p.run.moves (ids_begun (leaves (begun_at width ends p)))
         → AreInTurn the_word (events_of width ends (begins p.before) p.run.turns ++ map Went (seen p.run.moves))
@@ -253,13 +263,13 @@ module _ {State : Type 0} (width : ℕ) (ends : Ends State) where
           each = (subst (λ l. IsOwnIf width ends Good kept l s p.run.moves) (sym e) tt, tt);
         }
 
-    -- a run behind which the client restarts has begun
+    -- a run after which the client restarts has begun, and the events after that restart, `rest`, come in their turn
     record Passes (p : Part State) (rest : List Event) : Type 0 where
       begins : Begins p.before p.run
       done : (begun_at width ends p).left ≡ []
       turns : AreInTurn the_word rest
 
-    -- a restart comes in its turn only behind a run that has begun
+    -- a restart comes in its turn only after a run that has begun
     passes : (p : Part State) (left : List ℕ) (rest : List Event) → (begun_at width ends p).left ≡ left → AreLines Good p.before → MayBegin p.before
         → AreTurns ends Good kept p.run.turns (begins p.before)
         → ArePossible ends Good kept (by_ids width ends) p.run.moves (ids_begun (leaves (begun_at width ends p)))
@@ -275,7 +285,7 @@ module _ {State : Type 0} (width : ℕ) (ends : Ends State) where
         let turn = (turned_all p.run.turns (begins p.before)).turns (map Went (seen p.run.moves) ++ Went Restart ∷ rest) h in
         absurd (no_restart asked later (seen p.run.moves) rest (subst (λ l. AreInTurn l (map Went (seen p.run.moves) ++ Went Restart ∷ rest)) e turn))
 
-    -- what holds of later runs holds of one more in front of them
+    -- where a run has begun and a restart follows (`Passes`), and `Holds` is true of the later runs, it is true of all of them
     passed_holds : (p next : Part State) (others : List (Part State)) (rest : List Event) → Passes p rest → Holds (next ∷ others) rest
         → Holds (p ∷ next ∷ others) (events_of width ends (begins p.before) p.run.turns ++ (map Went (seen p.run.moves) ++ Went Restart ∷ rest))
     passed_holds p next others rest pass more =
@@ -319,7 +329,7 @@ module _ {State : Type 0} (width : ℕ) (ends : Ends State) where
           each = (subst (λ l. IsOwnIf width ends Good kept l s p.run.moves) (sym e) pass.begins.own, more.each);
         }
 
-    -- what holds of all runs, one after the other
+    -- `Holds` is true of all runs, one after the other, where the word isn't under way at first
     all_hold : (rs : List (Run State)) (u : UnderWay State) → AreLines Good u → MayBegin u → ArePossibleRuns width ends Good kept u rs
         → AreInTurn the_word (events_over width ends u rs) → Holds (parts width ends u rs) (events_over width ends u rs)
     all_hold [] u lines may possible h = record { settled = refl; client = refl; left = refl; own = tt; each = tt }
@@ -334,7 +344,8 @@ module _ {State : Type 0} (width : ℕ) (ends : Ends State) where
         passed_holds p (record { before = after; run = next }) (parts width ends (left_by_run width ends after next) others) (events_over width ends after (next ∷ others)) pass
         (all_hold (next ∷ others) after now again possible.1 pass.turns)
 
-    -- the law: what holds of calls that are these runs
+    -- the law: where the calls on a state are the events of these runs, over lines among which a run may begin, they are as
+    -- `AreOwn` says: each answer is its own request's
     pub owned : (calls : List call.Step) (t : Stage) → CallsReach width opened calls t → (u : UnderWay State) → AreLines Good u → MayBegin u
         → (rs : List (Run State)) → AreEvents the_word [] calls (events_over width ends u rs) → ArePossibleRuns width ends Good kept u rs
         → AreOwn width ends Good kept (parts width ends u rs) t

@@ -1,4 +1,5 @@
--- Two lists side by side, one element further.
+-- Two lists side by side, one element further. `FirstAre Is xs ys`: the first items of `xs` go with those of `ys`, one for one,
+-- where an item of `xs` and one of `ys` "go together" if `Is` holds of them.
 use Rattle.std.proofs.Common.{◌≡◌, ℕ, zero, suc, ◌<◌, ◌≤◌, Bool, List, [], ◌∷◌, ◌++◌, length, take, refl, subst, arith}
 use Rattle.std.specs.Prelude.{Some, slice_get, slice_set}
 use Rattle.gc_catalogue.specs.declared.call.Call.{Call}
@@ -6,11 +7,11 @@ use Rattle.gc_client.specs.declared.pending.Pending.{Pending}
 use Rattle.geocom_c.specs.FirstAre.{FirstAre}
 
 module _ {A B : Type 0} (Is : A → B → Type 0) where
-  -- no item goes with the front of any list
+  -- `FirstAre` holds of any list and of no items
   pub first_none : (xs : List A) → FirstAre Is xs []
   first_none xs = tt
 
-  -- one more item was read
+  -- where the first items of `xs` go with `ys`, and the next one goes with y, the first ones go with `ys` and then y
   pub first_more : (xs : List A) (ys : List B) (x : A) (y : B) → FirstAre Is xs ys → slice_get xs (length ys) ≡ Some x → Is x y → FirstAre Is xs (ys ++ y ∷ [])
   first_more [] [] x y are e is = cc
   first_more (a ∷ xs) [] x y are e is = let same : x ≡ a = cc in (subst (λ z. Is z y) same is, tt)
@@ -25,7 +26,8 @@ module _ {A B : Type 0} (Is : A → B → Type 0) where
   first_at (a ∷ xs) (b ∷ ys) zero x y are e f = let s : a ≡ x = cc in let t : b ≡ y = cc in subst (λ z. Is z y) s (subst (λ z. Is a z) t are.0)
   first_at (a ∷ xs) (b ∷ ys) (suc k) x y are e f = first_at xs ys k x y are.1 e f
 
-  -- one more item was written
+  -- where the first items of `xs` go with the first k of `ys`, and an item that goes with item k of `ys` is written to place k
+  -- of `xs`, the first items of `xs` go with the first k + 1 of `ys`
   pub first_written : (xs : List A) (ys : List B) (k : ℕ) (x : A) (y : B) → FirstAre Is xs (take k ys) → k < length xs → slice_get ys k ≡ Some y → Is x y
       → FirstAre Is (slice_set xs k x) (take (suc k) ys)
   first_written [] ys k x y are lt f is = absurd (omega (arith, lt))
@@ -33,19 +35,19 @@ module _ {A B : Type 0} (Is : A → B → Type 0) where
   first_written (a ∷ xs) (b ∷ ys) zero x y are lt f is = let t : y ≡ b = cc in (subst (λ z. Is x z) t is, tt)
   first_written (a ∷ xs) (b ∷ ys) (suc k) x y are lt f is = (are.0, first_written xs ys k x y are.1 (omega (arith, lt)) f is)
 
-  -- there are no more of the second than of the first
+  -- where `FirstAre` holds, the second list has no more items than the first
   pub first_fewer : (xs : List A) (ys : List B) → FirstAre Is xs ys → length ys ≤ length xs
   first_fewer xs [] are = omega arith
   first_fewer [] (b ∷ ys) are = absurd are
   first_fewer (a ∷ xs) (b ∷ ys) are = omega (arith, first_fewer xs ys are.1)
 
--- where each pair that is one way (`Is`) is another way (`Be`), too, so are the lists
+-- where `Is` implies `Be`, `FirstAre Is` implies `FirstAre Be`
 pub first_map : {A B : Type 0} (Is Be : A → B → Type 0) → ((x : A) (y : B) → Is x y → Be x y) → (xs : List A) (ys : List B) → FirstAre Is xs ys → FirstAre Be xs ys
 first_map Is Be step xs [] are = tt
 first_map Is Be step [] (b ∷ ys) are = absurd are
 first_map Is Be step (a ∷ xs) (b ∷ ys) are = (step a b are.0, first_map Is Be step xs ys are.1)
 
--- a request is what its fields are
+-- a request with the same target, call, deadline and `given_up` as p is p
 pub same_pending : (p : Pending) (target : ℕ) (call : Call) (deadline : ℕ) (given_up : Bool) → target ≡ p.target → Some call ≡ Some p.call → deadline ≡ p.deadline → Some given_up ≡ Some p.given_up
     → Some (record { target = target; call = call; deadline = deadline; given_up = given_up }) ≡ Some p
 same_pending p target call deadline given_up a b d e =

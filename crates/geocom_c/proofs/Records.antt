@@ -1,4 +1,4 @@
--- Records of settlements.
+-- Records of settlements, as the library writes them for C: numbers, and places in a text.
 use Rattle.std.proofs.Common.{◌≡◌, ℕ, zero, suc, ◌≤◌, Bool, true, false, List, [], ◌∷◌, ◌++◌, length, map, Some, None, Ok, Err, Option, Result, refl, sym, subst, ap, ◌∙◌, arith, if◌then◌else◌}
 use Rattle.std.specs.Prelude.{slice_get, IsOk}
 use Rattle.std.proofs.lemmas.List.{length-take, take-append-le}
@@ -36,7 +36,8 @@ few_values (answer.Angles hz v) = omega arith
 few_values (answer.Measured hz v d) = omega arith
 few_values (answer.MeasuredMode hz v d m) = omega arith
 
--- the record of a reply whose text was written has its reading
+-- the record r of a reply, whose line was written to the text (`IsTold`), has what the reply says (`HasReading`): numbers for
+-- its kind and code, and the places of its values in the text
 pub has_reading : (r : GeocomSettlement) (text line : List ℕ) (count : ℕ) (call : Call) (reply : ReplyFields) (reading : Reading)
     → IsTold text count r.places line → IsReply line reply → IsReading call reply reading → IsKind reading r.reading r.code
     → (r.reading ≡ 1 → r.items ≡ count) → ((n : ℕ) → r.reading ≡ suc (suc n) → r.items ≡ 0) → HasReading r text reply.params reading
@@ -46,7 +47,7 @@ has_reading r text line count call reply (Refused rc) told is reads kind some no
 has_reading r text line count call reply (ComFault rc) told is reads kind some none = (kind.0, kind.1, none 1 kind.0)
 has_reading r text line count call reply (Unreadable e) told is reads kind some none = (kind.0, kind.1, none 2 kind.0)
 
--- a record still has its reading as more stands behind the text
+-- a record still has its reading as more stands after the text
 more_reading : (r : GeocomSettlement) (text more params : List ℕ) (reading : Reading) → HasReading r text params reading → HasReading r (text ++ more) params reading
 more_reading r text more params (Value a) has =
     let are = has.2 in (
@@ -65,7 +66,7 @@ more_reading r text more params (Refused rc) has = has
 more_reading r text more params (ComFault rc) has = has
 more_reading r text more params (Unreadable e) has = has
 
--- a record still says how its request ended as more stands behind the text
+-- a record still says how its request ended as more stands after the text
 more_outcome : (text more : List ℕ) (r : GeocomSettlement) (call : Call) (o : Rule.Outcome) → HasOutcome r text call o → HasOutcome r (text ++ more) call o
 more_outcome text more r call (Rule.Answered line) is =
     let n = ap length is.front in
@@ -82,27 +83,28 @@ more_outcome text more r call (Rule.Answered line) is =
 more_outcome text more r call Rule.Late is = is
 more_outcome text more r call Rule.Lost is = is
 
--- a record still is one of its settlement as more stands behind the text
+-- a record still is one of its settlement as more stands after the text
 pub more_record : (text more : List ℕ) (r : GeocomSettlement) (s : Settlement) → IsRecord text r s → IsRecord (text ++ more) r s
 more_record text more r s is = record { target = is.target; procedure = is.procedure; outcome = more_outcome text more r s.call s.outcome is.outcome }
 
--- no line but the one that came answers
+-- the outcome of a request that a line settles, late (b) or answered, is by no other line
 met_by : (p : Pending) (line : List ℕ) (b : Bool) → IsBy line (if b then Rule.Late else Rule.Answered line)
 met_by p line true = tt
 met_by p line false = refl
 
--- what a line settles is answered by no other line
+-- no other line than this one answers what it settles
 settle_by : (k : ℕ) (line : List ℕ) (ps : List Pending) → AreBy line (settle k line ps)
 settle_by k line [] = tt
 settle_by zero line (p ∷ ps) = (met_by p line p.given_up, tt)
 settle_by (suc k) line (p ∷ ps) = (tt, settle_by k line ps)
 
--- what a client settles by a line with the id of place k, whether a request waits there (true) or none does, no other line answers
+-- no other line than this one answers what a client settles by it, where it has the id of place k, whether a request waits
+-- there (b) or not
 chosen_by : (c : ById) (line : List ℕ) (k : ℕ) (b : Bool) → AreBy line (id_settled c line k b).settlements
 chosen_by c line k true = settle_by k line c.waiting
 chosen_by c line k false = tt
 
--- of what a client settles by a line, nothing is answered by another line
+-- no other line than this one answers what a client settles by it
 pub hears_by : (c : ById) (line : List ℕ) (id : Option ℕ) → AreBy line (hears c line id).settlements
 hears_by c line None = tt
 hears_by c line (Some id) = chosen_by c line (place_in c id) _
@@ -113,27 +115,29 @@ by_at line [] k s are e = cc
 by_at line (a ∷ ss) zero s are e = let same : a ≡ s = cc in subst (λ (x : Settlement). IsBy line x.outcome) same are.0
 by_at line (a ∷ ss) (suc k) s are e = by_at line ss k s are.1 e
 
--- each of the settlements that are lost is lost
+-- each settlement of requests that are lost says that its request is lost
 pub lost_at : (ps : List Pending) (k : ℕ) (s : Settlement) → slice_get (map lost ps) k ≡ Some s → s.outcome ≡ Rule.Lost
 lost_at [] k s e = cc
 lost_at (p ∷ ps) zero s e = let same : lost p ≡ s = cc in sym (ap (λ (x : Settlement). x.outcome) same)
 lost_at (p ∷ ps) (suc k) s e = lost_at ps k s e
 
--- a reply that fits has the kind of a line that settled
+-- a reply whose id is that of a request that waits has the kind 1, of a line that settled, and the number 0
 pub settling : (c : ById) (r : Result ReplyFields LineFault) → fits c (id_in r) ≡ true → (1 ≡ line_kind r (fits c (id_in r))) × (0 ≡ number_in r)
 settling c (Ok reply) e = (rw e refl, refl)
 settling c (Err f) e = absurd (clash e) where
+  -- false isn't true
   clash : false ≡ true → ⊥
   clash e = cc
 
--- a reply that doesn't fit has the kind of a stray
+-- a reply whose id is that of no request that waits has the kind 2, of a stray, and the number 0
 pub straying : (c : ById) (r : Result ReplyFields LineFault) → IsOk r → fits c (id_in r) ≡ false → (2 ≡ line_kind r (fits c (id_in r))) × (0 ≡ number_in r)
 straying c (Ok reply) ok e = (rw e refl, refl)
 straying c (Err f) ok e = absurd (clash ok) where
+  -- false isn't true
   clash : false ≡ true → ⊥
   clash e = cc
 
--- a line that is no reply has the kind and the number of its fault
+-- a line that is no reply has the kind 3, and the number of its fault
 pub unread : (c : ById) (r : Result ReplyFields LineFault) (f : LineFault) → r ≡ Err f → (3 ≡ line_kind r (fits c (id_in r))) × (fault_number f ≡ number_in r)
 unread c (Ok reply) f e = cc
 unread c (Err g) f e = (refl, let same : g ≡ f = cc in ap fault_number (sym same))

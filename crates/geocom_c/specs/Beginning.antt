@@ -9,31 +9,31 @@ use Rattle.gc_client.specs.Rule.{heard}
 use Rattle.geocom_c.specs.Rest.{lines_behind}
 use Rattle.geocom_c.specs.declared.answers.GeocomBeginning.{GeocomBeginning}
 
--- what isn't answered of a word behind these lines, which are heard in order: a line that doesn't answer is dropped, and so
--- is each behind the last answer
+-- what isn't answered of a word after these lines, which are heard in order: a line that doesn't answer is dropped, and so
+-- is each after the last answer
 abbrev pub left_by_all : List ℕ → List (List ℕ) → List ℕ
 left_by_all left [] = left
 left_by_all left (line ∷ lines) = left_by_all (left_by left (heard line)) lines
 
--- what isn't answered of a word behind these bytes: each line that they end, with the bytes since the last line feed, is
+-- what isn't answered of a word after these bytes: each line that they end, with the bytes since the last line feed, is
 -- heard
 abbrev pub left_behind : List ℕ → List ℕ → List ℕ → List ℕ
 left_behind left rest bytes = left_by_all left (lines_behind rest bytes)
 
--- what isn't answered of a word behind a frame
+-- what isn't answered of a word after a frame
 abbrev pub left_past : List ℕ → Frame → List ℕ
 left_past left (Line line) = left_by left (heard line.items)
 left_past left Cleared = left
 left_past left Overlong = left
 left_past left More = left
 
--- the line that goes out, by whether a reply is still waited for and by the ids that aren't answered: none while one is, or once the client
--- has begun
+-- the line that goes out, where `after` are the ids that aren't answered: none while a reply is still waited for (`true`), or
+-- once all ids are answered
 abbrev pub given_if : Bool → List ℕ → Option (List ℕ)
 given_if true after = None
 given_if false after = asks after
 
--- the line that goes out behind these bytes, by the ids that aren't answered before and behind them. Without bytes it is the null
+-- the line that goes out after these bytes, by the ids that aren't answered before and after them. Without bytes it is the null
 -- procedure that is asked for, the first time or again; where one was answered, it is the next one; else, and once the client has
 -- begun, none goes out
 abbrev pub given : List ℕ → List ℕ → List ℕ → Option (List ℕ)
@@ -45,7 +45,7 @@ abbrev pub IsGiven : Option (List ℕ) → GeocomBeginning → List ℕ → Type
 IsGiven None told room = told.count ≡ 0
 IsGiven (Some line) told room = (told.count ≡ length (with_end line)) × (take told.count room ≡ with_end line)
 
--- what isn't answered of the word behind a restart: all of it for a client that had begun; for one that hadn't, what wasn't
+-- what isn't answered of the word after a restart: all of it for a client that had begun; for one that hadn't, what wasn't
 -- answered before
 abbrev pub anew : List ℕ → List ℕ
 anew [] = the_word

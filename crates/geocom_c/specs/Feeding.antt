@@ -1,4 +1,4 @@
--- What a frame is for a client, this project's own.
+-- What a frame that is fed comes to for a client, this project's own: its kind, what it settles, and what is told of it.
 use Rattle.std.specs.Prelude.{◌≡◌, ◌<◌, ◌≤◌, ℕ, Bool, true, false, List, [], length, take, Result, Ok, Err}
 use Rattle.gc_lines.specs.declared.fault.LineFault.{LineFault}
 use Rattle.gc_lines.specs.Faults.{fault_number}
@@ -51,7 +51,7 @@ settled_by c Cleared = []
 settled_by c Overlong = []
 settled_by c More = []
 
--- the client behind a frame
+-- the client after a frame
 abbrev pub behind : Windowed → Frame → Windowed
 behind c (Line line) = record c { ids = (hears c.ids line.items (heard line.items)).client }
 behind c Cleared = c

@@ -36,12 +36,14 @@ old = codes "%R1P,0,0:0,654321"
 abbrev pub before : {State : Type 0} → State → UnderWay State
 before state = record { up = []; down = old ∷ []; state = state }
 
--- these are handed to the beginning as the replies to its null procedures, and then these calls are made
+-- the calls by which each of these lines is handed to the beginning, as a reply to a null procedure; and then the calls
+-- `later`. An address is (0, 0) here, as it doesn't matter
 abbrev pub begin_calls : List (List ℕ) → List Step → List Step
 begin_calls [] later = later
 begin_calls (reply ∷ replies) later = Begin (record { ref_ptr = (0, 0); now = with_end reply }) ∷ begin_calls replies later
 
--- the calls: the beginning with these replies, two commands, a moment, these two lines as their replies, a restart, and a beginning anew
+-- the calls: a first one of the beginning without bytes, then one with the old reply and one with each of these replies; two
+-- commands; a moment; the lines `one` and `other` as the replies to the commands; a restart; and a beginning anew
 abbrev pub calls : List (List ℕ) → List ℕ → List ℕ → List Step
 calls replies one other =
     Begin (record { ref_ptr = (0, 0); now = [] })
@@ -62,7 +64,7 @@ beginning = Asks ∷ Comes ∷ drop 1 eight
 abbrev pub moves : {State : Type 0} → List ℕ → List ℕ → List (Move State)
 moves one other = Sends 7 InstrumentNo 9 ∷ Sends 8 InstrumentNo 9 ∷ Tells 5 ∷ OnLine Up_deliver ∷ OnLine Up_deliver ∷ field.Comes one ∷ field.Comes other ∷ []
 
--- the runs of the field for these calls: one with these moves, and behind the restart one that has only asked
+-- the runs of the field for these calls: one with these moves, and after the restart one that has only asked
 abbrev pub runs : {State : Type 0} → List ℕ → List ℕ → List (Run State)
 runs one other = record { turns = beginning; moves = moves one other } ∷ record { turns = Asks ∷ []; moves = [] } ∷ []
 

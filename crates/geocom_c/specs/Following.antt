@@ -13,12 +13,14 @@ use Rattle.geocom_c.specs.declared.state.GeocomClient.{GeocomClient}
 use Rattle.geocom_c.specs.declared.following.Step.{Step}
 use Rattle.geocom_c.specs.declared.following.Step.TheVariants.{Send, Begin, Feed, Expire, Restart}
 
--- the client hears each line that bytes end, in order
+-- the course of a client that hears, in order, each line that these bytes end, where `rest` came before them since the last
+-- line feed
 abbrev pub hearing : ℕ → Course → List ℕ → List ℕ → Course
 hearing width x rest bytes = course width x (map one.Hear (lines_behind rest bytes))
 
--- no part of a promise: some of the bytes were fed, and the state stands for a client that makes of those left what the client before makes
--- of all
+-- no part of a promise: a client of the course `x`, with the bytes `rest` since the last line feed, was fed all of `bytes` but
+-- the last ones, `left`. The state stands for the client as it is then. If that client hears `left`, too, it comes to the same
+-- as a client of the course `x` that hears all of `bytes`
 pub record FedTo (width : ℕ) (x : Course) (rest bytes : List ℕ) (state : GeocomClient) (left : List ℕ) : Type 0 where
   pub reached : Course
   pub now : List ℕ
@@ -42,8 +44,9 @@ pub record IsAt (width : ℕ) (s : Stage) (state : GeocomClient) : Type 0 where
   pub stands : StandsFor state (record { width = width; ids = s.reached.client }) s.rest
   pub left : left_of state ≡ s.left
 
--- over these calls, in order, the client comes from one stage to another. A send goes out only once it has begun; a begin hears lines, which
--- are no lines of the client's; a restart of a client that has begun has it begin anew
+-- over these calls, in order, the client comes from the stage s to the stage t. A send goes out only once the client has begun;
+-- the lines of a begin are heard by the beginning, and not by the client; a restart of a client that has begun has it begin
+-- anew
 abbrev pub CallsReach : ℕ → Stage → List Step → Stage → Type 0
 CallsReach width s [] t = t ≡ s
 CallsReach width s (Send target deadline procedure params ∷ steps) t =
@@ -54,7 +57,8 @@ CallsReach width s (Feed bytes ∷ steps) t = CallsReach width (record s { reach
 CallsReach width s (Expire now ∷ steps) t = CallsReach width (record s { reached = goes width s.reached (one.Expire now) }) steps t
 CallsReach width s (Restart ∷ steps) t = CallsReach width (record { reached = goes width s.reached one.Restart; rest = []; left = anew s.left }) steps t
 
--- no part of a promise: the state is at a stage from which the calls that are left come to what all of them come to
+-- no part of a promise: the state is at some stage. Whatever the calls `later`, which are left, come to from that stage, all
+-- the calls `steps` come to from the stage s
 pub record Reached (width : ℕ) (s : Stage) (steps : List Step) (state : GeocomClient) (later : List Step) : Type 0 where
   pub stage : Stage
   pub at : IsAt width stage state

@@ -1,7 +1,8 @@
--- What holds of calls on a state where there is an instrument at the other end, this project's own: each answer that the library books is
--- the instrument's to that very request, from the first one on. What may happen meanwhile is the field's: a line of many connections that keeps
--- order, loses lines whole and repeats a line directly behind it, and an instrument that may start anew and change by itself at any moment. What
--- is under way when the client begins may be anything, but for the word of a beginning. No clock has a part in it.
+-- What holds of calls on a state where there is an instrument at the other end, this project's own: each answer that the
+-- library books is the instrument's to that very request, from the first one on. What may happen meanwhile is the field's: a
+-- line of many connections that keeps order, loses lines whole and repeats a line directly after it, and an instrument that may
+-- start anew and change by itself at any moment. What is under way when the client begins may be anything, but for the word of
+-- a beginning. No clock has a part in it.
 use Rattle.std.specs.Prelude.{◌≡◌, ℕ, ◌≤◌, List, [], Option, Some, slice_get}
 use Rattle.std.specs.List.{AllByRecursion}
 use Rattle.gc_client.specs.Beginning.{IsSubsequence, the_word}
@@ -21,7 +22,8 @@ use Rattle.geocom_c.specs.Runs.{Part, ArePossibleRuns, begun_at, client_over, ev
 use Rattle.geocom_c.specs.Steps.{AreEvents, IsOverEvents}
 use Rattle.geocom_c.specs.declared.following.Step.{Step}
 
--- for every width, all calls on a state are events, and lead where these lead
+-- for every width: any calls on a state are one list of events, and bring the client to where its rule brings it over these
+-- events
 abbrev pub CallsAreEvents : Type 0
 CallsAreEvents = (width : ℕ) (calls : List Step) (t : Stage) → CallsReach width opened calls t → IsOverEvents width calls t
 
@@ -30,8 +32,9 @@ abbrev pub MayBegin : {State : Type 0} → UnderWay State → Type 0
 MayBegin u = IsSubsequence the_word (ids_under_way u) → ⊥
 
 module _ {State : Type 0} (width : ℕ) (ends : Ends State) (Good : State → Type 0) (kept : State → Option KeptReply) where
-  -- where an answer comes from: it settled request m of a run, which has its target and its call and is none of the eight null procedures; and
-  -- the instrument made this line on executing that very request
+  -- where the answer `line` of settlement `s` comes from, over the runs `ps`: it settled request m of run k, which has the
+  -- settlement's target and call, and is none of the eight null procedures; and the instrument made this line on executing that
+  -- very request
   pub record IsItsOwn (ps : List (Part State)) (s : Settlement) (line : List ℕ) : Type 0 where
     pub k : ℕ
     pub part : Part State
@@ -53,12 +56,14 @@ module _ {State : Type 0} (width : ℕ) (ends : Ends State) (Good : State → Ty
   abbrev pub IsOwnAnswer : List (Part State) → Settlement → Type 0
   IsOwnAnswer ps s = (line : List ℕ) → s.outcome ≡ Answered line → IsItsOwn ps s line
 
-  -- what holds of calls that are these runs
+  -- what holds of calls that are the events of these runs, and that bring the client to the stage t
   pub record AreOwn (ps : List (Part State)) (t : Stage) : Type 0 where
-    -- the library settles what the world's client settled, and stands where that stands; so the lines that it writes have the same ids
+    -- the library settles what the world's client settles, and its client ends in the same state; so the lines that it writes
+    -- have the same ids
     pub settled : t.reached.settlements ≡ settled_over width ends ps
     pub client : t.reached.client ≡ client_over width ends ps
-    -- and its beginning stands where that of the last run does; so its null procedures have the same ids, too
+    -- the ids that the library's beginning has unanswered are those that the last run has; so its null procedures have the same
+    -- ids, too
     pub left : t.left ≡ left_over width ends ps
     -- each answer is its own request's
     pub own : AllByRecursion (IsOwnAnswer ps) t.reached.settlements
@@ -84,8 +89,8 @@ SimulatorsAnswersAreTheirOwn =
     (rs : List (Run State)) → AreEvents the_word [] calls (events_over width ends u rs) → ArePossibleRuns width ends IsFittingState kept_of u rs →
     AreOwn width ends IsFittingState kept_of (parts width ends u rs) t
 
--- behind a run that measured, or over a line with nothing under way: as long as fewer than six runs in a row ended while they began, the next
--- one may begin
+-- after a run that measured, or over a line with nothing under way: as long as fewer than six runs in a row ended while they
+-- began, the next one may begin
 abbrev pub FewKilledMayBegin : Type 0 → Type 0
 FewKilledMayBegin State =
     (ends : Ends State) (kept : State → Option KeptReply) → IsAnInstrument ends AnyState kept →

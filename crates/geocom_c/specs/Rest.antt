@@ -13,11 +13,12 @@ pub record IsCut (r : GeocomRest) : Type 0 where
   pub short : r.length ≤ 514
   pub unended : All (λ b. b ≢ 10) (kept r)
 
--- these bytes came since the last line feed: however they go on, the next line feed makes of them what it makes of those kept
+-- the bytes `rest` came since the last line feed: whatever follows, the next line feed makes the same frame of the kept bytes
+-- as of `rest`
 pub record IsRest (r : GeocomRest) (rest : List ℕ) : Type 0 where
   pub cut : IsCut r
   pub same : (more : List ℕ) → frame_of (kept r ++ more) ≡ frame_of (rest ++ more)
 
--- the lines that bytes end, behind those since the last line feed
+-- the lines that bytes end, after those since the last line feed
 abbrev pub lines_behind : List ℕ → List ℕ → List (List ℕ)
 lines_behind rest bytes = filter_map line_in (map frame_of (pieces_behind rest bytes))

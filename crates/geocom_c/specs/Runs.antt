@@ -1,5 +1,6 @@
--- What the library's client does over a line, this project's own: run after run, each from one beginning to the next. A run begins by its null
--- procedures, among whatever is under way by then, and then sends. Behind a restart the next run begins among what the run before it left.
+-- What the library's client does over a line, this project's own: run after run, each from one beginning to the next. A run
+-- begins by its null procedures, among whatever is under way by then, and then sends. After a restart the next run begins among
+-- what the run before it left.
 use Rattle.std.specs.Prelude.{ℕ, List, [], ◌∷◌, ◌++◌, map, drop, Option}
 use Rattle.gc_client.specs.Beginning.{the_word}
 use Rattle.gc_client.specs.OneForOne as one
@@ -57,11 +58,11 @@ module _ {State : Type 0} (width : ℕ) (ends : Ends State) where
 
   -- Runs, one after the other.
 
-  -- where the beginning of a run stood at its end
+  -- the state of a run's beginning, once that is over or the run was ended while it began
   abbrev pub begun_at : Part State → Model State
   begun_at p = stood width ends p.before p.run
 
-  -- the world behind a run
+  -- the world after a run
   abbrev pub world : Part State → World ById State
   world p = behind width ends (leaves (begun_at p)) p.run.moves
 
@@ -75,7 +76,7 @@ module _ {State : Type 0} (width : ℕ) (ends : Ends State) where
   parts u [] = []
   parts u (r ∷ rs) = record { before = u; run = r } ∷ parts (left_by_run width ends u r) rs
 
-  -- what happens is possible, in the beginning of each run and behind it. Whether it has begun by then is no premise
+  -- what happens is possible, in the beginning of each run and after it. Whether it has begun by then is no premise
   abbrev pub ArePossibleRuns : (State → Type 0) → (State → Option KeptReply) → UnderWay State → List (Run State) → Type 0
   ArePossibleRuns Good kept u [] = Unit {0}
   ArePossibleRuns Good kept u (r ∷ rs) =
@@ -89,7 +90,7 @@ module _ {State : Type 0} (width : ℕ) (ends : Ends State) where
   settled_if [] w = drop 8 w.wire.settled
   settled_if (asked ∷ later) w = []
 
-  -- what the library settles at the restart behind a run: what waits, as lost, if the run has begun, else nothing
+  -- what the library settles at the restart after a run: what waits, as lost, if the run has begun, else nothing
   abbrev pub lost_if : List ℕ → World ById State → List Settlement
   lost_if [] w = map lost w.client.waiting
   lost_if (asked ∷ later) w = []
@@ -100,18 +101,18 @@ module _ {State : Type 0} (width : ℕ) (ends : Ends State) where
   settled_over (p ∷ []) = settled_if (begun_at p).left (world p)
   settled_over (p ∷ next ∷ others) = (settled_if (begun_at p).left (world p) ++ lost_if (begun_at p).left (world p)) ++ settled_over (next ∷ others)
 
-  -- the client behind a run, which is new where the run hasn't begun
+  -- the client after a run, which is new where the run hasn't begun
   abbrev pub client_if : List ℕ → World ById State → ById
   client_if [] w = w.client
   client_if (asked ∷ later) w = fresh
 
-  -- the client behind runs: that behind the last one
+  -- the client after runs: that after the last one
   abbrev pub client_over : List (Part State) → ById
   client_over [] = fresh
   client_over (p ∷ []) = client_if (begun_at p).left (world p)
   client_over (p ∷ next ∷ others) = client_over (next ∷ others)
 
-  -- the ids of a beginning that aren't answered behind runs: those of the last one
+  -- the ids of a beginning that aren't answered after runs: those of the last one
   abbrev pub left_over : List (Part State) → List ℕ
   left_over [] = the_word
   left_over (p ∷ []) = (begun_at p).left

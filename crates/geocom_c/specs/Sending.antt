@@ -9,7 +9,7 @@ use Rattle.geocom_c.specs.declared.answers.GeocomCount.{GeocomCount}
 use Rattle.geocom_c.specs.declared.header.TheConstants.{WINDOW_FULL}
 use Rattle.geocom_c.specs.declared.state.GeocomClient.{GeocomClient}
 
--- the state and the room for the line before and behind a send, and what the send returned
+-- the state and the room for the line before and after a send, and what the send returned
 pub record Sent : Type 0 where
   pub old : GeocomClient
   pub new : GeocomClient

@@ -57,21 +57,21 @@ steps_among (Asked ∷ events) = steps_among events
 steps_among (Came line ∷ events) = steps_among events
 steps_among (Went step ∷ events) = step ∷ steps_among events
 
--- the ids that aren't answered behind a step: all of them if it is a restart, and else none
+-- the ids that aren't answered after a step: all of them if it is a restart, and else none
 abbrev pub left_by_step : one.Step → List ℕ
 left_by_step (one.Send target call deadline) = []
 left_by_step (one.Hear line) = []
 left_by_step (one.Expire now) = []
 left_by_step one.Restart = the_word
 
--- the ids that aren't answered behind these events
+-- the ids that aren't answered after these events
 abbrev pub left_among : List ℕ → List Event → List ℕ
 left_among left [] = left
 left_among left (Asked ∷ events) = left_among left events
 left_among left (Came line ∷ events) = left_among (left_by left (heard line)) events
 left_among left (Went step ∷ events) = left_among (left_by_step step) events
 
--- no step of the client comes before all of the word is answered, at first and behind each restart
+-- no step of the client comes before all of the word is answered, at first and after each restart
 abbrev pub AreInTurn : List ℕ → List Event → Type 0
 AreInTurn left [] = Unit {0}
 AreInTurn left (Asked ∷ events) = AreInTurn left events

@@ -1,4 +1,4 @@
-//! What a call returns, in plain fields.
+//! What a call of the C library returns, in plain fields.
 
 ghost use Rattle.std.specs.Prelude.{◌≡◌, ◌↔◌};
 ghost use Rattle.geocom_c.specs.declared.header.TheConstants.{MORE};

@@ -54,7 +54,7 @@ fn hear_line(rest: &mut GeocomRest, beginning: &mut Beginning, bytes: &[u8]) -> 
     }
 }
 
-// Uses all bytes: hands each line that they end to the beginning, which drops those behind the eighth answer.
+// Uses all bytes: hands each line that they end to the beginning, which drops those after the eighth answer.
 fn hear_all(rest: &mut GeocomRest, beginning: &mut Beginning, bytes: &[u8])
     requires { IsCut rest.old }
     ensures { (r : List ℕ) → IsRest rest.old r
@@ -113,7 +113,7 @@ fn is_waiting(bytes: &[u8], before: u8, after: u8) -> bool
 /// eighth is answered, `has_begun` is 1, and requests go out.
 ///
 /// Call it without bytes for the first line, and again where nothing came in time: it gives the same line again. Where bytes came, and
-/// answered nothing, `count` is 0: read on. All bytes are used; what comes behind the eighth answer is dropped, too. Once the
+/// answered nothing, `count` is 0: read on. All bytes are used; what comes after the eighth answer is dropped, too. Once the
 /// client has begun, the call gives no line, and drops what it is handed: then bytes go to `geocom_client_feed`.
 ///
 /// Faults: 62, `line` has fewer than 514 bytes; 63, the state is no client's. After a fault nothing has changed.

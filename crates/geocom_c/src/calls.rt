@@ -56,7 +56,7 @@ fn put_targets(targets: &mut [u32], due: &[u32])
 }
 
 /// Gives up each request whose deadline is at most `now`, and writes the targets of those that weren't given up before,
-/// `count` of them. What stands behind these stays.
+/// `count` of them. What stands after these stays.
 ///
 /// Faults: 62, `targets` has fewer than seven places; 63, the state is no client's. After a fault nothing has changed.
 #[unsafe(no_mangle)]

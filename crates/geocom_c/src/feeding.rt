@@ -133,8 +133,8 @@ fn feed(
 /// Takes bytes as they come, through the first line feed, and writes a record for each request that the line settles.
 ///
 /// `used` says how many bytes were used: those through the first line feed, or all where there is none. Where some are left,
-/// call again with these. A line settles at most seven requests. One that settles stands at the front of `text`, and behind it
-/// the items of its parameters. One that doesn't writes nothing. Behind the `count` records nothing is written.
+/// call again with these. A line settles at most seven requests. Where it settles any, it is written to the front of `text`,
+/// with the items of its parameters after it; else nothing is written. After the `count` records nothing is written.
 ///
 /// Faults: 62, `settlements` has fewer than seven places or `text` fewer than 1024 bytes; 63, the state is no client's.
 /// After a fault nothing has changed, and nothing was used.
@@ -175,7 +175,7 @@ pub extern "C" fn geocom_client_feed(
     }
 }
 
-// How many null procedures count as answered behind a restart: none where the client had begun, else those that were.
+// How many null procedures count as answered after a restart: none where the client had begun, else those that were.
 fn answered_anew(answered: u8) -> u8
     ensures left { drop result the_word ≡ anew (drop answered the_word) }
     ensures within { result ≤ 8 }
@@ -187,9 +187,10 @@ fn answered_anew(answered: u8) -> u8
     answered
 }
 
-/// Settles all requests that wait as lost, in order, and writes a record for each: `count` of them, and nothing behind these. The next
-/// id is 0, the bytes of a line that hasn't ended are forgotten, and the width stays. A client that had begun has to begin again
-/// (`geocom_client_begin`). One that hadn't goes on with the null procedure that it was at, so it may be restarted any number of times.
+/// Settles all requests that wait as lost, in order, and writes a record for each: `count` of them, and nothing after these.
+/// The next id is 0, the bytes of a line that hasn't ended are forgotten, and the width stays. A client that had begun has to
+/// begin again (`geocom_client_begin`). One that hadn't goes on with the null procedure that it was at, so it may be restarted
+/// any number of times.
 ///
 /// Faults: 62, `settlements` has fewer than seven places; 63, the state is no client's. After a fault nothing has changed.
 #[unsafe(no_mangle)]

@@ -117,8 +117,8 @@ fn step_at<'a>(steps: &[Step<'a>], k: usize) -> Step<'a>
 }
 
 /// Makes a client of this width, and then these calls, each with ample room. Whatever the calls are, the state stands for the
-/// client that the rule makes of them, for the bytes that came since the last line feed, and for how far its beginning came. What was settled, and behind it
-/// the requests that wait, are the sends that weren't refused, in order, each once.
+/// client that the rule makes of them, for the bytes that came since the last line feed, and for how far its beginning came.
+/// What was settled, and after it the requests that wait, are the sends that weren't refused, in order, each once.
 pub fn follow(state: &mut GeocomClient, width: u8, steps: &[Step<'_>])
     ensures { IsWidth width → (t : Stage) × CallsReach width opened steps.now t × IsAt width t state.new × IsOneForOne t.reached }
 {

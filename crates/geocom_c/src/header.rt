@@ -1,5 +1,5 @@
-//! The numbers that `library/include/geocom.h` has too. Each of the constants has there the same name behind `GEOCOM_`, but
-//! for the faults, which are listed in its head.
+//! The numbers that `library/include/geocom.h` has too. Each of the constants has there the same name with `GEOCOM_` in front,
+//! but for the faults, which are listed in its head.
 
 ghost use Rattle.std.specs.Prelude.{◌≡◌};
 ghost use Rattle.gc_values.specs.declared.fault.ValueFault.{ValueFault};
@@ -32,18 +32,18 @@ pub const NO_ROOM: u32 = 62;
 /// Bytes that stand for no client: a state that `geocom_client_init` never made, or that was written over.
 pub const NO_CLIENT: u32 = 63;
 
-/// The client hasn't begun: `geocom_client_begin` hasn't heard the eighth answer, at first or behind a restart.
+/// The client hasn't begun: `geocom_client_begin` hasn't heard the eighth answer, at first or after a restart.
 pub const NOT_BEGUN: u32 = 67;
 
 // Outcomes: how a request ended.
 
-/// A reply answered it.
+/// A reply answered the request.
 pub const ANSWERED: u8 = 1;
 
-/// Its reply came after it was given up.
+/// The reply came after the request was given up.
 pub const LATE: u8 = 2;
 
-/// No reply to it came before that of a later request, or before a restart.
+/// No reply came before that to a later request, or before a restart.
 pub const LOST: u8 = 3;
 
 // Readings: what an answer says.

@@ -11,20 +11,21 @@ pub fn calls_are_events()
 {}
 
 /// For any instrument, which may start anew and change by itself at any time, and over any number of connections: each answer
-/// that the library books was made by the instrument on executing that very request, from the first one on. What is settled,
-/// and the client behind it, are those of the field. When the client was made anything may have been under way, but for the
-/// ids 6 5 4 3 2 1 0 7 in this order.
+/// that the library books was made by the instrument on executing that very request, from the first one on. The library
+/// settles what the client of the field settles, and comes to the same state. When the client was made, anything may have been
+/// under way, but for the ids 6 5 4 3 2 1 0 7 in this order.
 pub fn answers_are_their_own<State>()
     ensures { AnswersAreTheirOwn State }
 {}
 
-/// The law of `answers_are_their_own` for the simulator, in any state that fits.
+/// The law of `answers_are_their_own` for the simulator, in any state whose values lie in their types.
 pub fn simulators_answers_are_their_own()
     ensures { SimulatorsAnswersAreTheirOwn }
 {}
 
-/// Where the first client finds under way no more than a client that had begun leaves, or nothing, the ids 6 5 4 3 2 1 0 7
-/// aren't under way in this order behind any clients, as long as fewer than six of them in a row ended while they began.
+/// Clients follow each other over one line, and each may end at any moment. Where the first finds nothing under way, or what a
+/// client that had begun may leave, the ids 6 5 4 3 2 1 0 7 are never under way in this order when the next one begins, as long
+/// as fewer than six in a row end while they begin.
 pub fn few_killed_may_begin<State>()
     ensures { FewKilledMayBegin State }
 {}

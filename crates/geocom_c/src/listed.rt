@@ -1,4 +1,4 @@
-//! The text of an answer: the line at its front, and behind it the items of its parameters, each where its place says.
+//! The text of an answer: the line at its front, and after it the items of its parameters, each where its place says.
 
 ghost use Rattle.std.specs.Prelude.{◌≡◌, ◌≤◌, ◌+◌, ◌++◌, ℕ, List, length};
 ghost use Rattle.arrayvec.specs.ArrayVec.{array_vec_len};
@@ -27,7 +27,7 @@ pub(crate) const NOWHERE: GeocomItem = GeocomItem {
     length: 0,
 };
 
-// A line with the items of its parameters behind it, how many these are, and where they stand.
+// A line with the items of its parameters after it, how many these are, and where they stand.
 #[derive(Drop)]
 pub(crate) struct Told {
     pub text: ArrayVec<u8, TEXT_ROOM>,
@@ -69,7 +69,7 @@ fn list(told: &mut Told, params: &[u8])
     }
 }
 
-// A line, with the items of its parameters behind it where it is a reply.
+// A line, with the items of its parameters after it where it is a reply.
 pub(crate) fn tell(line: &Line) -> Told
     ensures { IsTold result.text.items result.items result.places line.now.items }
 {

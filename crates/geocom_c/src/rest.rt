@@ -8,7 +8,7 @@ ghost use Rattle.geocom_c.specs.Rest.{kept, IsCut, IsRest};
 
 use gc_lines::{Assembler, Frame};
 
-// How many bytes are kept: a line of 512, its CR, and the last of those behind.
+// How many bytes are kept: a line of 512, its CR, and the last byte that came after these.
 const KEPT: usize = 514;
 
 /// The bytes since the last line feed: all of them, or of more than 514 the first 513 and the last.

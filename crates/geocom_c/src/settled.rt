@@ -120,7 +120,7 @@ pub(crate) fn put_records(records: &mut [GeocomSettlement], settled: &[Settlemen
     }
 }
 
-// Writes the records of requests that are lost to the front of `records`.
+// Writes to the front of `records` a record for each of these requests, which are lost.
 pub(crate) fn put_lost(records: &mut [GeocomSettlement], settled: &[Settlement])
     requires room { length settled.now ≤ length records.old }
     requires lost { (ps : List Pending) × (map settlement_seen settled.now ≡ map lost ps) }

@@ -134,7 +134,7 @@ fn read_place(place: &GeocomWaiting) -> Option<Pending>
     })
 }
 
-// The bytes of a line, and zeros behind them.
+// The bytes of a line, and zeros after them.
 fn padded(line: &Line) -> [u8; 512]
     ensures { take (length line.now.items) result ≡ line.now.items }
 {

@@ -96,6 +96,14 @@ class Servers:
             cursor.execute(query, given)
             return cursor.fetchall()
 
+    def order(self, *statements):
+        """Has the database carry these out."""
+        import psycopg2
+
+        with closing(psycopg2.connect(self.where(), connect_timeout=5)) as base, base, base.cursor() as cursor:
+            for statement in statements:
+                cursor.execute(statement)
+
     def end_base(self, how=signal.SIGINT):
         self.end(self.base, how)
 

@@ -3,6 +3,8 @@
 import csv
 import os
 import random
+import sqlite3
+from contextlib import closing
 from dataclasses import dataclass
 from pathlib import Path
 from typing import Callable
@@ -111,7 +113,7 @@ def test_one_bad_file_stops_no_other(servers, folder, note):
 
 def test_reads_columns_by_name(servers, folder):
     """A column that is needed and missing is told in one line; further ones, another order, and rows of an earlier version, which
-    have no run and no moment of sending, change nothing."""
+    have no run, no moment of sending and no quality, change nothing."""
     path, base = folder / "columns.csv", folder / "columns.db"
     path.write_bytes((",".join(column for column in COLUMNS if column != "rc") + "\n").encode())
     commands = [one.command(path, "--once") for one in followers(servers, base)]
@@ -126,10 +128,31 @@ def test_reads_columns_by_name(servers, folder):
         for fields in csv.reader(line.decode().rstrip("\n") for line in rows):
             table.writerow(["x", *reversed(fields), "2.25", ""])
     earlier = folder / "earlier.csv"
-    earlier.write_bytes(b"".join(line.split(b",", 2)[2] for line in [HEAD, *rows]))
+    earlier.write_bytes(b"".join(line.split(b",", 2)[2].rsplit(b",", 1)[0] + b"\n" for line in [HEAD, *rows]))
     for other in later, earlier:
         for follower in followers(servers, base)[:2]:
             messages_of(follower.command(other, "--once"))
         expect_sqlite(base, other)
         expect_postgres(servers, other)
         messages_of(tool("plot", other, folder / other.stem))
+
+
+def test_goes_on_in_databases_of_an_earlier_version(servers, folder):
+    """A table without a quality gets that column, and its view then has the values of warnings."""
+    path, base = folder / "old.csv", folder / "old.db"
+    path.write_bytes(HEAD)
+    commands = [one.command(path, "--once") for one in followers(servers, base)[:2]]
+    for command in commands:
+        messages_of(command)
+    # The view of the other version has all rows.
+    older = ["DROP VIEW measured", "ALTER TABLE record DROP COLUMN quality"]
+    with closing(sqlite3.connect(base)) as table:
+        for statement in [*older, "CREATE VIEW measured AS SELECT source, line FROM record"]:
+            table.execute(statement)
+    view = servers.ask("SELECT pg_get_viewdef('measured')")[0][0]
+    servers.order(*older, "CREATE VIEW measured AS " + view[: view.index("WHERE")])
+    path.write_bytes(HEAD + b"".join(first_rows(300)))
+    for command in commands:
+        messages_of(command)
+    expect_sqlite(base, path)
+    expect_postgres(servers, path)

@@ -1,5 +1,6 @@
 """Chains: no target is measured where the telescope points at another one, and no value is booked that doesn't read."""
 
+import csv
 import re
 import time
 
@@ -7,7 +8,8 @@ import pytest
 
 from far_end import CLOSES, closes, good, loses, standing
 from measuring import STAMP, finished, measuring, outcomes_of
-from records import counts_line
+from programs import PATIENCE, Run
+from records import COLUMNS_HEAD, counts_line
 
 PRISMS = b"7 9027 0.5,1.5,0,1,0\n7 17017 2\n8 9027 2.25,1.625,0,1,0\n8 17017 2\n"
 SHORT = "--deadline 300 --quiet 300"
@@ -165,6 +167,52 @@ def test_behind_unreadable_values(program, width):
             rows, _ = finished(run)
             assert outcomes_of(rows) == [(7, 2107, "unreadable"), (7, 2011, "skipped"), (8, 2107, "answered"), (8, 2011, "answered")]
             assert far.asked() == [2107, 2107, 2011], "what was asked"
+
+
+# What answers each measurement of a text that accepts 1283 and 1284 until its last row, behind the colon; the quality of the row, its
+# distance, and the outcome of the command behind it.
+ACCEPTED = [
+    (b"0,2.25,1.6,110.5", "ok", "110.5", "answered"),
+    (b"1283,2.25,1.6,110.5", "warning", "110.5", "answered"),
+    (b"1284,2.25", "warning", "", "answered"),
+    (b"1284", "warning", "", "answered"),
+    (b"1285,2.25,1.6,110.5", "refused", "", "skipped"),
+    (b"1283,2.25,1.6,110.5", "refused", "", "skipped"),
+]
+
+
+@pytest.mark.title("accepted return codes, width {width}")
+@pytest.mark.parametrize("width", [1, 7])
+def test_accepted(program, width):
+    """Behind an answer with an accepted return code the next command of its row goes out, and its values stand in the columns; behind any
+    other code it doesn't, and they don't."""
+    given = iter(ACCEPTED)
+
+    def answers(request):
+        return request.reply(next(given)[0]) if request.rpc == 2108 else good(request)
+
+    lines = [b"%d 2108 1000,1\n%d 2011\n" % (target, target) for target in range(len(ACCEPTED))]
+    text = b"accept 1283 1284\n" + b"".join(lines[:-1]) + b"accept\n" + lines[-1]
+    with standing(answers) as far:
+        with Run([program, "station", far.port, "--columns", *SHORT.split(), "--width", width], text) as run:
+            assert run.status(PATIENCE) == 0, run.messages()
+            rows = list(csv.DictReader(run.output().decode().splitlines()))
+    assert list(rows[0]) == COLUMNS_HEAD.decode().strip().split(","), "the columns"
+    measured, behind = rows[::2], rows[1::2]
+    found = [(row["quality"], row["distance_m"], after["outcome"]) for row, after in zip(measured, behind)]
+    assert found == [one[1:] for one in ACCEPTED], "the rows"
+    assert [row["rc"] for row in measured] == [one[0].split(b",")[0].decode() for one in ACCEPTED], "the codes"
+
+
+@pytest.mark.title("an accepted answer of another place")
+def test_accepted_elsewhere(program):
+    """`near` looks at an accepted answer, too."""
+    text = b"near 7 0.5 1.5 0.01\naccept 1283\n7 2107 0\n7 2107 0\n"
+    given = iter([b"1283,2.5,1.5", b"1283,0.5,1.5"])
+    with standing(lambda request: request.reply(next(given) if request.rpc else b"0")) as far:
+        with measuring(program, far.port, f"{SHORT} --unchained", text) as run:
+            rows, _ = finished(run)
+            assert [(row["outcome"], row["quality"]) for row in rows] == [("elsewhere", ""), ("answered", "warning")], "the rows"
 
 
 @pytest.mark.title("the counts, one of each outcome")

@@ -15,11 +15,11 @@ from dataclasses import dataclass
 
 from line_log import WHILE
 from measuring import START, STAMP, counts_of
-from records import COLUMNS, OUTCOMES, UNSENT, moment
+from records import COLUMNS, GOOD, OUTCOMES, UNSENT, moment
 from tagging import tagged
 
 # What a row has of a reply.
-OF_REPLY = ["fault", "rc_com", "rc", "values"]
+OF_REPLY = ["fault", "rc_com", "rc", "values", "quality"]
 ECHOES = "the line sends back what goes out"
 # What may be told, at most once a minute of each kind.
 SIGNS = [
@@ -133,7 +133,7 @@ def faults_of_row(plan, row, cycle, place, number):
 
 
 def is_well(row):
-    return (row["outcome"], row["rc_com"], row["rc"]) == ("answered", "0", "0")
+    return row["quality"] in GOOD
 
 
 def faults_of_chain(row, before, number, number_before, log):

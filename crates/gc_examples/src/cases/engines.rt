@@ -12,6 +12,7 @@ use std::io;
 pub struct Engines;
 
 impl Player for Engines {
+    // Sets a run up as the case says, and plays it.
     fn play(&self, rt: &HostRuntime, case: &Case<'_>, wrong: &mut Told) -> io::Result<()> {
         let mut setup = Setup::unset(rt.alloc());
         match setup.take(case) {
@@ -22,7 +23,8 @@ impl Player for Engines {
     }
 }
 
-// Runs a set-up, and where it gives no sizes of pieces also with the input in others, and tells what came.
+// Runs a set-up, and tells what came. Where the set-up gives no sizes of pieces, the input comes in other pieces, too
+// (`differing`), and what differs then is told behind the end.
 fn play_setup(alloc: Global, case: &Case<'_>, setup: &Setup, wrong: &mut Told) {
     let whole = setup.run(alloc, setup.sizes.as_slice());
     let otherwise = if setup.sizes.is_empty() {
@@ -33,7 +35,8 @@ fn play_setup(alloc: Global, case: &Case<'_>, setup: &Setup, wrong: &mut Told) {
     whole.tell(alloc, case, otherwise, wrong);
 }
 
-/// In which pieces the input came to something else than whole: in single bytes, or, with `is_each`, cut in two somewhere. Empty: in none.
+/// In which pieces the input comes to something else than `whole`, which it came to in one piece: in single bytes, or, where
+/// `is_each` asks for it, cut in two somewhere. Empty: in none.
 pub fn differing(alloc: Global, setup: &Setup, whole: &Came, is_each: bool) -> &'static str {
     if !setup.is_same_single(alloc, whole) {
         return ", and otherwise in single bytes";

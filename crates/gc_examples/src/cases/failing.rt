@@ -1,5 +1,7 @@
-//! A port that fails at its call k, for each k from 0 until a run ends well. A case has the engine, its input and the port; it expects
-//! how many calls in a row came to what. `a part` is the first k bytes of what is written in all, and `byte +` one byte more with each.
+//! A port that fails at its call k, for each k from 0 until a run ends well. A case has the engine, its input and the port. It
+//! expects groups of such runs in a row that came to the same: how many they are, how they ended, and what was written. There
+//! `a part` stands for the first k bytes of what a run without a fault writes, and `byte +` for a number of bytes that is 0 in
+//! the first run of a group and one more in each further one.
 
 use crate::cases::engines::push_single;
 use crate::cases::outcome::{Came, End};
@@ -14,10 +16,11 @@ pub struct Failing;
 // No run has so many calls.
 const CALLS: u64 = 1000;
 
-// Under which keys a case has what its calls came to, one group of calls after the other.
+// The keys under which a case has its groups, in their order.
 const KEYS: [&str; 5] = ["first", "second", "third", "fourth", "fifth"];
 
 impl Player for Failing {
+    // Sets a run up as the case says, with the input in single bytes, and plays it with a port that fails at each call in turn.
     fn play(&self, rt: &HostRuntime, case: &Case<'_>, wrong: &mut Told) -> io::Result<()> {
         let mut setup = Setup::unset(rt.alloc());
         match take_single(case, &mut setup) {
@@ -34,7 +37,7 @@ fn take_single(case: &Case<'_>, setup: &mut Setup) -> Result<(), AllocError> {
     push_single(&mut setup.sizes, setup.input.as_slice())
 }
 
-// Runs a set-up for each k until it ends well, and tells the groups of calls that came to the same.
+// Runs a set-up with its port failing at call k, for each k until a run ends well, and tells the groups of runs.
 fn play_calls(alloc: Global, case: &Case<'_>, setup: &mut Setup, wrong: &mut Told) {
     let whole = setup.run(alloc, &[]);
     let mut groups = Groups::new(alloc);
@@ -74,7 +77,7 @@ fn tell_output(came: &Came, whole: &Came, port: &str, k: u64, output: &mut Told)
     }
 }
 
-// Tells what a call came to, at this place among the calls that came to the same.
+// Tells what the run with a failing call came to. `place` is the run's place in its group, counted from 0.
 fn tell_call(end: &End, output: &Told, place: u64, text: &mut Told) {
     text.told(&end.text);
     match end.bytes {
@@ -86,7 +89,7 @@ fn tell_call(end: &End, output: &Told, place: u64, text: &mut Told) {
     text.told(output);
 }
 
-// Calls in a row that came to the same, and how many groups were before.
+// The group of runs in a row that came to the same, by its text and their count, and how many groups were before it.
 #[derive(Drop)]
 struct Groups {
     before: usize,
@@ -95,6 +98,7 @@ struct Groups {
 }
 
 impl Groups {
+    // No group yet.
     fn new(alloc: Global) -> Groups {
         Groups {
             before: 0,
@@ -137,6 +141,7 @@ impl Groups {
         }
     }
 
+    // Tells the group, and compares it with what the case has under the group's key.
     fn tell(&self, alloc: Global, case: &Case<'_>, wrong: &mut Told) {
         let mut told = Told::new(alloc);
         told.counted(&self.count, " calls: ");
@@ -144,7 +149,7 @@ impl Groups {
         case.tell_told(KEYS.get(self.before).copied().unwrap_or("?"), &told, wrong);
     }
 
-    // Tells the last group, and nothing for each key behind it, so that none is missed.
+    // Tells the last group, and nothing for each later key, so that none is missed.
     fn finish(&mut self, alloc: Global, case: &Case<'_>, wrong: &mut Told) {
         self.close(alloc, case, wrong);
         for key in KEYS.iter().skip(self.before) {

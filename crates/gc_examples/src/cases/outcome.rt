@@ -34,7 +34,7 @@ impl Came {
         }
     }
 
-    /// Whether a run came to the same, in however many writes.
+    /// Whether another run ended in the same way and wrote the same bytes, in however many writes.
     pub fn is(&self, other: &Came) -> bool {
         self.end.is(&other.end)
             && self.output.bytes.as_slice() == other.output.bytes.as_slice()
@@ -46,7 +46,7 @@ impl Came {
         self.end.is_done() && self.output.bytes.as_slice() == output
     }
 
-    /// Whether so many bytes were written first, and they are these.
+    /// Whether `front` is the first `count` bytes of what was written.
     pub fn begins_with(&self, front: &[u8], count: u64) -> bool {
         front.len() as u64 == count && self.output.bytes.starts_with(front)
     }
@@ -74,6 +74,7 @@ fn tell_writes(alloc: Global, case: &Case<'_>, sizes: &[usize], wrong: &mut Told
 }
 
 impl End {
+    // No end yet.
     fn new(alloc: Global) -> End {
         End {
             text: Told::new(alloc),
@@ -86,13 +87,14 @@ impl End {
         self.text.as_bytes().starts_with(b"done")
     }
 
+    // Whether both runs ended in the same way. False where memory ran out for the text of `self`.
     fn is(&self, other: &End) -> bool {
         !self.text.is_lacking()
             && self.text.as_bytes() == other.text.as_bytes()
             && self.bytes == other.bytes
     }
 
-    // Tells the text, with the bytes, and what stands behind it.
+    // Tells the text, with the bytes if there are any, and `otherwise` behind them.
     fn tell(&self, alloc: Global, case: &Case<'_>, otherwise: &str, wrong: &mut Told) {
         let mut told = Told::new(alloc);
         told.told(&self.text);
@@ -103,7 +105,7 @@ impl End {
         case.tell_told("end", &told, wrong);
     }
 
-    // The end of a run whose write fell short, behind so many lines and bytes.
+    // Takes the end of a run whose write fell short: so many lines went out whole, and so many bytes of the next.
     fn fall_short(&mut self, replies: u64, bytes: usize) {
         self.text.titled("fault 43 reply ", &replies);
         self.bytes = Some(bytes);

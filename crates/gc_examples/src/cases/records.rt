@@ -4,10 +4,10 @@
 ghost use Rattle.std.specs.Prelude.{◌≤◌, length};
 
 use gc_cases::{Case, Player, Told, bytes_of};
-use gc_catalogue::{Call, Reading, decode_answer};
+use gc_catalogue::{Answer, Call, Reading, decode_answer};
 use gc_lines::{Line, ToWriter, read_reply};
 use gc_rows::{Form, When, write_head, write_record};
-use gc_texts::{Command, Ending, Stamp, read_commands};
+use gc_texts::{Command, Ending, Quality, Stamp, read_commands, reading_as_zero};
 use gc_values::ValueFault;
 use std::alloc::Global;
 use std::io;
@@ -16,6 +16,7 @@ use std::io;
 pub struct Records;
 
 impl Player for Records {
+    // Writes the record of a case, and compares it with what the case has under `is`.
     fn play(&self, rt: &HostRuntime, case: &Case<'_>, wrong: &mut Told) -> io::Result<()> {
         let mut written = Told::new(rt.alloc());
         match form_of(case.value("form")) {
@@ -27,6 +28,7 @@ impl Player for Records {
     }
 }
 
+// The form of records that a word names.
 fn form_of(word: &str) -> Option<Form> {
     match word {
         "lines" => Some(Form::Lines),
@@ -77,7 +79,8 @@ fn write_ending(
     let name = name.get(..64).unwrap_or(name);
     let line = line_of(reply);
     let reading = reading_of(&command.call, &line);
-    let ending = ending_of(case.value("ending"), &reading, &line);
+    let zeroed = reading_as_zero(&command.call, &line);
+    let ending = ending_of(case.value("ending"), &reading, &zeroed, &line);
     if name.len() <= 64 {
         put_record(form, &when_of(case), name, command, ending, written);
     }
@@ -144,8 +147,14 @@ fn reading_of(call: &Call, line: &Line) -> Reading {
     }
 }
 
-// How a command ended; where no word says it, as its reply reads.
-fn ending_of<'a>(word: &str, reading: &'a Reading, line: &'a Line) -> Ending<'a> {
+// How a command ended; where no word says it, as its reply reads. `zeroed` is what the reply says with return code 0, as one does
+// whose return code is accepted.
+fn ending_of<'a>(
+    word: &str,
+    reading: &'a Reading,
+    zeroed: &'a Reading,
+    line: &'a Line,
+) -> Ending<'a> {
     match word {
         "late" => Ending::Late,
         "lost" => Ending::Lost,
@@ -153,11 +162,27 @@ fn ending_of<'a>(word: &str, reading: &'a Reading, line: &'a Line) -> Ending<'a>
         "missed" => Ending::Missed,
         "spelling" => Ending::Unreadable(line, ValueFault::Spelling),
         "elsewhere" => Ending::Elsewhere(line),
-        "unread" => Ending::Answered(None, line),
+        "unread" => Ending::Answered(quality_of(reading), None, line),
+        "accepted" => Ending::Answered(Quality::Warning, answer_in(zeroed), line),
         _ => match reading {
-            Reading::Value(answer) => Ending::Answered(Some(answer), line),
-            Reading::Refused(_) | Reading::ComFault(_) => Ending::Answered(None, line),
             Reading::Unreadable(fault) => Ending::Unreadable(line, *fault),
+            _ => Ending::Answered(quality_of(reading), answer_in(reading), line),
         },
+    }
+}
+
+// The quality of an answer whose reply says this, where no return code is accepted beside 0.
+fn quality_of(reading: &Reading) -> Quality {
+    match reading {
+        Reading::Value(_) | Reading::Unreadable(_) => Quality::Fine,
+        Reading::Refused(_) | Reading::ComFault(_) => Quality::Refused,
+    }
+}
+
+// The answer in what a reply says.
+fn answer_in(reading: &Reading) -> Option<&Answer> {
+    match reading {
+        Reading::Value(answer) => Some(answer),
+        _ => None,
     }
 }

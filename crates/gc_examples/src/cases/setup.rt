@@ -63,6 +63,7 @@ pub struct Setup {
     pub width: u64,
 }
 
+// The engine that a word names, and `Engine::None` where it names none.
 fn engine_of(word: &str) -> Engine {
     match word {
         "exec" => Engine::Exec,
@@ -100,6 +101,7 @@ fn push_sizes(sizes: &mut Vec<usize>, text: &str) -> Result<(), AllocError> {
     Ok(())
 }
 
+// Appends a size so many times.
 fn push_times(sizes: &mut Vec<usize>, times: &str, size: &str) -> Result<(), AllocError> {
     let size = size.parse::<usize>().unwrap_or(0);
     for _ in 0..times.parse::<u64>().unwrap_or(0) {
@@ -156,6 +158,7 @@ impl Setup {
         push_all(&mut self.input, case.value("behind"))
     }
 
+    // Takes the sizes of the input's pieces, what the link gives and in which pieces, and the scene.
     fn take_bytes(&mut self, case: &Case<'_>) -> Result<(), AllocError> {
         push_sizes(&mut self.sizes, case.value("sizes"))?;
         push_all(&mut self.link, case.value("link"))?;
@@ -163,6 +166,8 @@ impl Setup {
         push_all(&mut self.scene, case.value("scene"))
     }
 
+    // Takes the numbers: of reads that are allowed, of calls that each port answers, of bytes that a write takes; and those of
+    // a drill.
     fn take_numbers(&mut self, case: &Case<'_>) {
         self.allowed = small_number(case, "allowed", u32::MAX);
         self.answers.input = case.number("reads", u64::MAX);
@@ -175,7 +180,8 @@ impl Setup {
         self.width = case.number("width", 7);
     }
 
-    /// Lets a port fail at its call k.
+    /// Lets a port fail at its call k, counted from 0. The port `allowed` stands for the number of reads that are allowed. For an
+    /// unknown port the input fails at once.
     pub fn fail_at(&mut self, port: &str, k: u64) {
         match port {
             "input" => self.answers.input = k,
@@ -197,14 +203,14 @@ impl Setup {
         if self.width == 1 { 1 } else { 7 }
     }
 
-    /// Whether the input comes to the same in single bytes.
+    /// Whether the input in single bytes comes to `whole`, which it came to in one piece.
     pub fn is_same_single(&self, alloc: Global, whole: &Came) -> bool {
         let mut ones = Vec::new(alloc);
         push_single(&mut ones, self.input.as_slice()).is_ok()
             && self.comes_to(alloc, ones.as_slice(), whole)
     }
 
-    /// Whether the input comes to the same cut in two at each place.
+    /// Whether the input, cut in two, comes to `whole` at each place of the cut.
     pub fn is_same_cut(&self, alloc: Global, whole: &Came) -> bool {
         for place in 0..self.input.len() {
             if !self.comes_to(alloc, &[place], whole) {
@@ -214,7 +220,7 @@ impl Setup {
         true
     }
 
-    // Whether the input in pieces of these sizes comes to the same.
+    // Whether the input in pieces of these sizes comes to `whole`.
     fn comes_to(&self, alloc: Global, sizes: &[usize], whole: &Came) -> bool {
         self.run(alloc, sizes).is(whole)
     }
@@ -229,6 +235,7 @@ impl Setup {
         came
     }
 
+    // Runs the engine over this source, and takes how it ended and what it wrote into `came`.
     fn run_on(&self, alloc: Global, source: &mut PieceSource<'_>, came: &mut Came) {
         match self.engine {
             Engine::Exec | Engine::Check | Engine::CheckLog => self.answer(source, came),
@@ -244,6 +251,7 @@ impl Setup {
         came.end.serve(end);
     }
 
+    // Runs that engine, and returns how it ended.
     fn answer_to(
         &self,
         source: &mut PieceSource<'_>,
@@ -273,6 +281,7 @@ impl Setup {
         came.end.run(end);
     }
 
+    // Runs that engine, and returns how it ended.
     fn play_to(
         &self,
         alloc: Global,

@@ -8,7 +8,8 @@ use std::alloc::{AllocError, Global};
 /// The most bytes of a line under way, with CR LF.
 const MOST_BYTES: usize = 514;
 
-/// The events with each delivery in single bytes: as many as are still to go, or one where nothing is under way.
+/// These events, with deliveries of one byte in place of each delivery of a line: as many as the line still has bytes to go, or
+/// one where no line is under way. `world` plays the events, to see how far a line is.
 pub fn in_single_bytes(
     alloc: Global,
     world: &Worlds,
@@ -19,6 +20,7 @@ pub fn in_single_bytes(
     Ok(pieces)
 }
 
+// Appends these events, each delivery in single bytes.
 fn push_all(
     alloc: Global,
     world: &Worlds,
@@ -31,6 +33,7 @@ fn push_all(
     Ok(())
 }
 
+// Appends an event: a delivery in single bytes, and any other event as it is.
 fn push_event(
     alloc: Global,
     world: &Worlds,
@@ -44,12 +47,13 @@ fn push_event(
     }
 }
 
+// Appends an event as it is.
 fn push(event: Event, pieces: &mut Vec<Event>) -> Result<(), AllocError> {
     pieces.push(event)?;
     Ok(())
 }
 
-// Bytes go over until no part of a line has gone in their direction.
+// Appends `byte`, the delivery of one byte, until no line is half delivered in its direction.
 fn deliver(
     alloc: Global,
     world: &Worlds,
@@ -65,7 +69,7 @@ fn deliver(
     Ok(())
 }
 
-// Whether behind these events no part of a line has gone in the direction of this byte.
+// Whether after these events the direction of `byte` is at the start of a line.
 fn is_whole(
     alloc: Global,
     world: &Worlds,

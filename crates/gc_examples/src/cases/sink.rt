@@ -5,7 +5,7 @@ ghost use Rattle.std.specs.Prelude.{None};
 use gc_lines::{PortFailed, Sink};
 use std::alloc::Global;
 
-/// Takes up to `most` bytes of each write, and fails behind `answers` of them.
+/// Takes up to `most` bytes of each write, and fails after `answers` of them.
 #[derive(Drop)]
 pub struct Taking {
     pub bytes: Vec<u8>,
@@ -28,7 +28,7 @@ impl Taking {
     }
 }
 
-// Keeps the first of these bytes, and says how many, 0 where no memory was found.
+// Keeps the first `most` of these bytes, and how many bytes came, and returns how many were kept: 0 where no memory was found.
 fn store(kept: &mut Vec<u8>, sizes: &mut Vec<usize>, most: usize, bytes: &[u8]) -> usize {
     let taken = bytes.get(..most).unwrap_or(bytes);
     let is_stored = kept.extend_from_slice(taken).is_ok();
@@ -43,6 +43,7 @@ impl Sink for Taking {
 
     ghost failed = { λ s. s.failed };
 
+    // Takes the first bytes, `most` at most. It fails after `answers` writes, and where no memory is found.
     fn write(&mut self, bytes: &[u8]) -> Result<usize, PortFailed> {
         if self.failed || self.answers == 0 {
             self.failed = true;

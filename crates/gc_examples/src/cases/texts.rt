@@ -1,5 +1,5 @@
-//! Cases of texts. A text is read, and what it gives is told; so are a line of a log, the trouble of a line, a place, and how a fault is
-//! printed.
+//! Cases of texts. A text is read, and what it gives is told; so are a line of a log, the trouble of a line, a place, and how a
+//! fault is printed.
 
 use gc_cases::{Case, Player, Told, bytes_of};
 use gc_engines::read_schedule;
@@ -17,6 +17,7 @@ use std::io;
 pub struct Texts;
 
 impl Player for Texts {
+    // Plays the text that a case spells.
     fn play(&self, rt: &HostRuntime, case: &Case<'_>, wrong: &mut Told) -> io::Result<()> {
         match bytes_of(rt.alloc(), case.value("text")) {
             Ok(text) => play_text(rt.alloc(), case, text.as_slice(), wrong),
@@ -26,6 +27,8 @@ impl Player for Texts {
     }
 }
 
+// Compares what the text reads as with the case's value under `is`; and where the case has a value under `of`, which names a
+// target, also the name of that target. What differs goes to `wrong`.
 fn play_text(alloc: Global, case: &Case<'_>, text: &[u8], wrong: &mut Told) {
     let mut is = Told::new(alloc);
     read(alloc, case, text, &mut is);
@@ -71,6 +74,7 @@ fn commands(alloc: Global, text: &[u8], is: &mut Told) {
     }
 }
 
+// Tells each command in a line: its target and its call.
 fn tell_commands(commands: &[Command], is: &mut Told) {
     for command in commands {
         is.counted(&command.target, " ");
@@ -87,6 +91,7 @@ fn schedule(alloc: Global, text: &[u8], is: &mut Told) {
     }
 }
 
+// Tells each event in a line.
 fn tell_events(events: &[Event], is: &mut Told) {
     for event in events {
         is.debug(event);
@@ -94,7 +99,7 @@ fn tell_events(events: &[Event], is: &mut Told) {
     }
 }
 
-// Reads a station's text, in whose front the deadline and the mode of the case hold.
+// Reads a station's text. Until a line says otherwise, its commands have the deadline and the mode that the case gives.
 fn tasks_of(alloc: Global, case: &Case<'_>, text: &[u8]) -> Result<Tasks, RunFault> {
     let deadline = u64::from(count(case, "deadline"));
     read_tasks(alloc, text, deadline, case.has("mode", "chained"))
@@ -108,15 +113,18 @@ fn tasks(alloc: Global, case: &Case<'_>, text: &[u8], is: &mut Told) {
     }
 }
 
+// Tells each task in a line, and then how many names there are.
 fn tell_tasks(tasks: &[Task], names: usize, is: &mut Told) {
     for task in tasks {
         tell_task(task, is);
         tell_near(task, is);
+        tell_accepted(task, is);
         is.text("\n");
     }
     is.counted(&names, " names");
 }
 
+// Tells the target, the procedure and the deadline of a task, and whether it is chained.
 fn tell_task(task: &Task, is: &mut Told) {
     is.display(&task.command.target);
     is.titled(" ", &task.command.call.number());
@@ -124,11 +132,21 @@ fn tell_task(task: &Task, is: &mut Told) {
     is.either(task.chained, " chained", "");
 }
 
+// Tells where the target of a task stands, if the text says it, and within which tolerance.
 fn tell_near(task: &Task, is: &mut Told) {
     if let Some(near) = task.near {
         is.titled(" near ", &near.place.hz);
         is.titled(" ", &near.place.v);
         is.titled(" ", &near.tolerance);
+    }
+}
+
+// Tells the return codes that are accepted beside 0.
+fn tell_accepted(task: &Task, is: &mut Told) {
+    for code in &task.accepted.codes {
+        if *code != 0 {
+            is.titled(" accepting ", code);
+        }
     }
 }
 
@@ -139,6 +157,7 @@ fn tell_name(alloc: Global, case: &Case<'_>, text: &[u8], wrong: &mut Told) {
     case.tell_told("name", &name, wrong);
 }
 
+// Tells the name of the target that stands under `of`, or the fault of the text.
 fn name_of(alloc: Global, case: &Case<'_>, text: &[u8], name: &mut Told) {
     match tasks_of(alloc, case, text) {
         Ok(all) => name.bytes(all.name_of(count(case, "of"))),
@@ -169,6 +188,7 @@ fn log_line(line: &[u8], is: &mut Told) {
     }
 }
 
+// Tells the moment, the mark and the bytes of a line of a log, with spaces between.
 fn tell_log_line(line: &LogLine<'_>, is: &mut Told) {
     is.escaped(line.moment);
     is.text(" ");
@@ -184,7 +204,7 @@ fn log(text: &[u8], is: &mut Told) {
     }
 }
 
-// Writes that line, and says whether the write failed.
+// Writes the line that a log has of this text, and says whether the write failed.
 fn put_log(text: &[u8], written: &mut Vec<u8>) -> bool {
     let mut bytes = LogBytes::new();
     for byte in text {
@@ -203,6 +223,7 @@ fn fault(case: &Case<'_>, is: &mut Told) {
     }
 }
 
+// Tells the fault's number, what `Display` prints of it, and the line that `tell` writes.
 fn tell_fault(fault: RunFault, is: &mut Told) {
     is.counted(&fault.number(), "\n");
     is.counted(&fault, "\n");

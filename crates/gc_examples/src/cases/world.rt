@@ -32,6 +32,7 @@ impl Worlds {
         }
     }
 
+    // Adds the line of an event to the schedule.
     fn add_event(&mut self, word: &str, what: &str) {
         self.text.text(word);
         self.text.text(" ");
@@ -84,6 +85,7 @@ impl Worlds {
         self.tell_pieces(alloc, events, &told, came);
     }
 
+    // Tells what events lead to over a ring, where that isn't what was told.
     fn tell_ring(&self, alloc: Global, events: &[Event], told: &Told, came: &mut Told) {
         match Ring::new(alloc) {
             Ok(ring) => self.compare(alloc, ring, events, told, ", and over a ring ", came),
@@ -91,6 +93,7 @@ impl Worlds {
         }
     }
 
+    // Tells what events lead to with each delivery in single bytes, where that isn't what was told.
     fn tell_pieces(&self, alloc: Global, events: &[Event], told: &Told, came: &mut Told) {
         match in_single_bytes(alloc, self, events) {
             Ok(pieces) => self.compare(
@@ -105,7 +108,7 @@ impl Worlds {
         }
     }
 
-    // Tells what events lead to another way, where that isn't what was told.
+    // Tells what these events lead to over this window, behind the words of `way`, where that isn't what was told.
     fn compare<W: Window>(
         &self,
         alloc: Global,
@@ -123,7 +126,7 @@ impl Worlds {
         }
     }
 
-    // Tells one of the lists that events lead to, or another part of the report.
+    // Plays events, and tells the part of their report that `word` asks for.
     fn ask(&self, alloc: Global, word: &str, events: &[Event], came: &mut Told) {
         match self.play(alloc, Slots::new(), events) {
             Ok((report, _)) => tell_part(&report, word, came),
@@ -144,6 +147,7 @@ impl Worlds {
     }
 }
 
+// Tells the part of a report that a word asks for.
 fn tell_part(report: &Report, word: &str, came: &mut Told) {
     match word {
         "executed" => came.debug(&report.executed.as_slice()),
@@ -153,12 +157,14 @@ fn tell_part(report: &Report, word: &str, came: &mut Told) {
     }
 }
 
+// Tells whether each direction is at the start of a line.
 fn tell_starts(report: &Report, came: &mut Told) {
     came.titled("at start: up ", &report.up.at_start());
     came.titled(", down ", &report.down.at_start());
 }
 
 impl Rows for Worlds {
+    // Adds an event, sets the width or the precision, or tells what the events so far lead to.
     fn play(&mut self, alloc: Global, word: &str, what: &str, _bytes: &[u8], came: &mut Told) {
         match word {
             "send" | "up" | "down" | "expire" | "restart" => self.add_event(word, what),
@@ -170,6 +176,7 @@ impl Rows for Worlds {
     }
 }
 
+// The number that a word writes; the greatest `u64` where it writes none.
 fn number(word: &str) -> u64 {
     read_whole(word.as_bytes(), u64::MAX).unwrap_or(u64::MAX)
 }
@@ -183,6 +190,7 @@ fn tell<W: Window>(report: &Report, client: &Client<W>, came: &mut Told) {
     came.titled(" wait, next ", &client.next_id());
 }
 
+// Tells each settlement: its number, its target and its outcome.
 fn tell_settled(settled: &[Settlement], came: &mut Told) {
     for (m, settlement) in settled.iter().enumerate() {
         came.counted(&m, " ");
@@ -192,6 +200,7 @@ fn tell_settled(settled: &[Settlement], came: &mut Told) {
     }
 }
 
+// Tells an outcome: its word, and the line of an answer.
 fn tell_outcome(outcome: &Outcome, came: &mut Told) {
     match outcome {
         Outcome::Answered(_, line) => {
@@ -203,6 +212,7 @@ fn tell_outcome(outcome: &Outcome, came: &mut Told) {
     }
 }
 
+// Tells how many requests were sent and executed, how many replies were made, and how many requests were settled.
 fn tell_made(report: &Report, came: &mut Told) {
     came.titled("sent ", &report.sent.len());
     came.titled(" executed ", &report.executed.len());
@@ -210,15 +220,17 @@ fn tell_made(report: &Report, came: &mut Told) {
     came.titled(" settled ", &report.settled.len());
 }
 
+// Tells how many sends were refused, and how many events weren't possible.
 fn tell_refused(report: &Report, came: &mut Told) {
     came.titled(" refused ", &report.refused_sends);
     came.titled(" idle ", &report.idle_events);
 }
 
-/// Rows of the world, behind the events of a schedule where the case names one.
+/// Rows of the world, after the events of a schedule where the case names one.
 pub struct World;
 
 impl Player for World {
+    // Plays the rows of a case, after the events of the schedule that it names.
     fn play(&self, rt: &HostRuntime, case: &Case<'_>, wrong: &mut Told) -> io::Result<()> {
         let mut world = Worlds::new(rt.alloc());
         add_events(rt, case.value("schedule"), &mut world.text);
@@ -234,6 +246,7 @@ fn add_events(rt: &HostRuntime, name: &str, text: &mut Told) {
     }
 }
 
+// Adds the events of the schedule of this name.
 fn read_events(rt: &HostRuntime, name: &str, text: &mut Told) {
     match fs::read_to_string(rt, name) {
         Ok(events) => text.text(events.as_str()),

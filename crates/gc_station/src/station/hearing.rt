@@ -59,7 +59,8 @@ impl Station {
         Ok(())
     }
 
-    // Hands a frame's line, if it has one, to the beginning.
+    // Hears a frame's line, if it has one, while the station begins: a reply with the first id that is left answers its null
+    // procedure.
     fn hear_null(&mut self, frame: Lent<'_>)
         requires { IsLineWithin frame }
         ensures { self.new ≡ record self.old { progress = lines_asked self.old.progress (option_to_list (line_in (lent_seen frame.entry))) } }
@@ -69,7 +70,7 @@ impl Station {
         }
     }
 
-    // Hands the lines of a piece to the beginning.
+    // Hears the lines of a piece, in order, while the station begins.
     fn listen_null(&mut self, piece: &[u8])
         ensures { (s : Model) → Refines self.old s → Refines self.new (piece_asked piece.now s) }
     {
@@ -82,7 +83,8 @@ impl Station {
         }
     }
 
-    // Hears the lines of a piece: as those of a beginning, or as the client's. In a phase in which nothing is heard it drops them.
+    // Hears the lines of a piece: as those of a beginning, or as the client's. In a phase in which nothing is heard it drops
+    // them.
     fn take_lines<B: Book>(&mut self, book: &mut B, piece: &[u8]) -> Result<(), PortFailed>
         ensures takes { (s : Model) (start : Option (List ℕ)) → Refines self.old s → Took (B.text book.old) start (B.taken book.old) s
             → ComesTo (B.text book.old) s.records self.new start (B.taken book.new) (came (is_heard s.progress.phase) s.progress.word piece.now s) result }
@@ -99,7 +101,8 @@ impl Station {
         self.listen(book, piece)
     }
 
-    // Takes a piece and the moment that was read behind it: requests whose deadline has come are given up, then the piece is heard.
+    // Takes a piece and the moment that was read after it: requests whose deadline has come are given up, then the piece is
+    // heard.
     fn take_piece<B: Book>(
         &mut self,
         book: &mut B,

@@ -90,8 +90,8 @@ impl Station {
         link.put(text.as_slice())
     }
 
-    // Puts the line of the null procedure of the first id that isn't answered. `Err`: the write was cut, with the number of
-    // bytes that went out.
+    // A station begins by null procedures, one after the other, one for each id of the word. Puts the request line of the first
+    // of them that isn't answered yet. `Err`: the write was cut, with the number of bytes that went out.
     fn put_null<L: Link>(&self, link: &mut L) -> Result<(), usize>
         requires { has_begun self.now.progress ≡ false }
         ensures tells { Tells (L.acts link.old) (L.acts link.new) (put_as result (null_text self.now.progress.word) ∷ []) }
@@ -137,7 +137,7 @@ impl Station {
         self.cut(put, requests);
     }
 
-    // Sends a null procedure behind requests that are all given up.
+    // Sends a null procedure after requests that are all given up: its reply settles them.
     pub(super) fn flush<L: Link>(&mut self, link: &mut L, plan: &Plan, commands: &[Task])
         requires width { self.old.client.width ≡ WINDOW }
         requires room { length self.old.client.ids.waiting < WINDOW }

@@ -13,7 +13,8 @@ returns g c =
           let t = IfOk-at_ok _ told.0 c.tell_counts-ended.ensures.told in (
             t.0,
             Appends-trans _ _ _ _ _
-                (subst (λ fault. Appends (g.E.Write.contents c.args.messages.now) (g.E.Write.contents c.tell_counts-ended.new.messages) (fault_line (run_fault_text fault))) c.fault_of_unfit.ensures t.1)
+                (subst (λ fault. Appends (g.E.Write.contents c.args.messages.now) (g.E.Write.contents c.tell_counts-ended.new.messages) (fault_line (run_fault_text fault)))
+                c.fault_of_unfit.ensures t.1)
                 told.1,
           ))
           c.tell_rotation.ensures.told;

@@ -15,7 +15,7 @@ loop-settlement-init g c =
           Appends-is start (g.B.Book.taken c.args.book.now) _ _ (sym (ap
           (λ rs. texts_of (g.B.Book.text c.args.book.now) (before ++ rs)) none ∙ ap (texts_of (g.B.Book.text c.args.book.now)) (append-nil before))) so;
       tally = λ reads are. sym (ap (tallied c.args.tally.now) (records-none reads c.args.utc c.args.marks.now.items));
-      well = λ reads are. sym (ap (last_well reads c.args.well.now) (records-none reads c.args.utc c.args.marks.now.items));
+      well = λ reads are. sym (ap (last_well c.args.well.now) (records-none reads c.args.utc c.args.marks.now.items));
       marks = refl;
       form = refl;
       failed = refl;
@@ -61,7 +61,7 @@ loop-settlement-preserved g c =
           let more = front_more reads utc marks ss i s c.take_mark-mark.result c.loop-settlement-test.true c.settlement-item.is here in
           let front = records_of reads utc marks (map settlement_seen (take i ss)) in
           let one = records_of reads utc (c.take_mark-mark.result ∷ []) (settlement_seen s ∷ []) in
-          last_more reads c.args.well.now c.loop-settlement.well c.write_one.new.well front one _ (b.well reads are) (c.in_default.ensures.well reads are) more;
+          last_more c.args.well.now c.loop-settlement.well c.write_one.new.well front one _ (b.well reads are) (c.in_default.ensures.well reads are) more;
       marks = c.take_mark-mark.ensures.goes ∙ ap (drop 1) b.marks ∙ drop-drop 1 i marks;
       form = c.in_default.ensures.form ∙ b.form;
       failed = c.in_default.ensures.fails ∙ b.failed;

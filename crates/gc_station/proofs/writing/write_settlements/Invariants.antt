@@ -17,7 +17,7 @@ invariant-loop-settlement g l = record {
       (before ++ records_of reads l.utc l.initial.marks.items (map settlement_seen (take l.settlement-index l.settlements))));
   tally : (reads : Call → List ℕ → Reading) → AreReadings reads → l.tally ≡ tallied l.initial.tally
       (records_of reads l.utc l.initial.marks.items (map settlement_seen (take l.settlement-index l.settlements)));
-  well : (reads : Call → List ℕ → Reading) → AreReadings reads → l.well ≡ last_well reads l.initial.well
+  well : (reads : Call → List ℕ → Reading) → AreReadings reads → l.well ≡ last_well l.initial.well
       (records_of reads l.utc l.initial.marks.items (map settlement_seen (take l.settlement-index l.settlements)));
   marks : l.marks.items ≡ drop l.settlement-index l.initial.marks.items;
   form : g.B.Book.text l.book ≡ g.B.Book.text l.initial.book;

@@ -30,28 +30,35 @@ use Rattle.gc_station.specs.contracts.kept.Kept.new.Key.{name as #self}
 use Rattle.gc_station.proofs.kept.Kept.new.Statement as stated
 use Rattle.gc_station.proofs.kept.Kept.new.Code as code
 
+-- the body of `new`
 abbrev function : Fn
 function = code.function
 
+-- the signature and the clauses of `new`
 abbrev ended : Ended
 ended = F.ended
 
+-- what was lent to the function is given back
 abbrev stayed : Stays ended.signature.params ended.kept
 stayed = tt
 
 module _ {M : Type 1} {𝓤 : Ura M} (𝓛 : Logic 𝓤) (at_mem : Memory → SProp 𝓤) (run : Routine → Fun 𝓤) where
   open 𝓛 use {H}
 
+  -- the clauses, for this logic and memory
   abbrev held : Clauses 𝓤 ended
   held = F.clauses 𝓛 at_mem run
 
   module _ (C : Calls 𝓤 H) (Λ : Loops 𝓤 H) (z : (walk_of 𝓛 ended stayed held).Ghost) where
+    -- what is to be shown at the return
     abbrev Post : Val → SProp 𝓤
     Post = (walk_of 𝓛 ended stayed held).post z
 
+    -- what shows that what was lent is alive
     abbrev toks : SProp 𝓤
     toks = alive 𝓛 ended.signature z.0.0 z.0.1
 
+    -- the walk through the body: what the clauses ask for at the entry gives what they say at the return
     walks : ent 𝓤 ((walk_of 𝓛 ended stayed held).pre z) (WpFn 𝓤 H C Λ function ((walk_of 𝓛 ended stayed held).args z) Post)
     walks =
         let a = z.0.3 in
@@ -66,11 +73,13 @@ module _ {M : Type 1} {𝓤 : Ura M} (𝓛 : Logic 𝓤) (at_mem : Memory → SP
         suffices ! _ (ends_at 𝓛 ended stayed held z none kept tt tt) $ says ! refl $
         nothing ! $ move ! (2 ∷ 0 ∷ 1 ∷ []) $ done !)
 
+  -- the body meets the contract
   meets : (𝓣 : Tables 𝓤 H) → Meets 𝓛 ended.signature (WpFn 𝓤 H 𝓣.C 𝓣.Λ function) (closing 𝓛 ended held)
   meets 𝓣 =
       walk_Meets 𝓛 ended stayed tt held
       (WpFn 𝓤 H 𝓣.C 𝓣.Λ function) (WpFn-mono 𝓤 H 𝓛.laws 𝓣 function) (walks 𝓣.C 𝓣.Λ)
 
+-- the contract of `new`, as the kit states it
 pub new_spec : {M : Type 1} → stated.statement M
 unfolding tables_of
 new_spec 𝓤 𝓛 𝓜 𝓡 wired =

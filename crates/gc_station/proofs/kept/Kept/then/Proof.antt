@@ -35,15 +35,19 @@ use Rattle.gc_station.proofs.kept.Kept.then.Statement as stated
 use Rattle.gc_station.proofs.kept.Kept.then.Code as code
 
 module _ (A B : RattleType) where
+  -- the types of the link and of the book
   abbrev args : Args
   args = layouts (a_type ∷ a_type ∷ []) (A, (B, tt))
 
+  -- the body of `then`
   abbrev function : Fn
   function = inst_fn args code.function
 
+  -- the signature and the clauses of `then`
   abbrev ended : Ended
   ended = F.ended A B
 
+  -- what was lent to the function is given back
   abbrev stayed : Stays ended.signature.params ended.kept
   stayed = (
     stay_dropped (RefOf (0 ∷ []) tt (plain (λ _. Kept.the_row)) (λ _. tt)) yes,
@@ -53,16 +57,20 @@ module _ (A B : RattleType) where
   module _ {M : Type 1} {𝓤 : Ura M} (𝓛 : Logic 𝓤) (at_mem : Memory → SProp 𝓤) (run : Routine → Fun 𝓤) where
     open 𝓛 use {H}
 
+    -- the clauses, for this logic and memory
     abbrev held : Clauses 𝓤 ended
     held = F.clauses A B 𝓛 at_mem run
 
     module _ (C : Calls 𝓤 H) (Λ : Loops 𝓤 H) (z : (walk_of 𝓛 ended stayed held).Ghost) where
+      -- what is to be shown at the return
       abbrev Post : Val → SProp 𝓤
       Post = (walk_of 𝓛 ended stayed held).post z
 
+      -- what shows that what was lent is alive
       abbrev toks : SProp 𝓤
       toks = alive 𝓛 ended.signature z.0.0 z.0.1
 
+      -- the walk through the body: what the clauses ask for at the entry gives what they say at the return
       walks : ent 𝓤 ((walk_of 𝓛 ended stayed held).pre z) (WpFn 𝓤 H C Λ function ((walk_of 𝓛 ended stayed held).args z) Post)
       walks =
           let a = z.0.3 in
@@ -84,6 +92,7 @@ module _ (A B : RattleType) where
           suffices ! _ (ends_at 𝓛 ended stayed held z none made (tt, (tt, (tt, tt))) (tt, (tt, (tt, tt)))) $ says ! refl $
           nothing ! $ nothing ! $ fjoin ! $ nothing ! $ fjoin ! $ nothing ! $ fjoin ! $ move ! (2 ∷ 0 ∷ 1 ∷ []) $ done !))))
 
+    -- the body meets the contract
     meets : (𝓣 : Tables 𝓤 H) → Meets 𝓛 ended.signature (WpFn 𝓤 H 𝓣.C 𝓣.Λ function) (closing 𝓛 ended held)
     meets 𝓣 =
         walk_Meets 𝓛 ended stayed (
@@ -95,6 +104,7 @@ module _ (A B : RattleType) where
         ) held
         (WpFn 𝓤 H 𝓣.C 𝓣.Λ function) (WpFn-mono 𝓤 H 𝓛.laws 𝓣 function) (walks 𝓣.C 𝓣.Λ)
 
+-- the contract of `then`, as the kit states it
 pub then_spec : {M : Type 1} → stated.statement M
 unfolding tables_of
 then_spec 𝓤 𝓛 𝓜 𝓡 wired A B LA LB =

@@ -33,7 +33,7 @@ returns-in_default-clause-does g c =
           let is = stands.progress in
           let same = ap (λ (x : Station). x.progress) c.in_default.ensures.after ∙ is in
           let here_stands : Refines mid (with_records rs s) = skipped_stands old mid s rs stands
-          (λ reads b. skips_unwell reads b p m (mark_next plan commands p) (drop (place_next commands p) commands) here.0 here.1 here.2)
+          (λ b. skips_unwell b p m (mark_next plan commands p) (drop (place_next commands p) commands) here.0 here.1 here.2)
           c.in_default.ensures.after in
           let rs' = ap (λ (x : Progress). skips plan commands x (Told m)) is in
           let there : Refines mid (with_records (skips plan commands q (Told m)) s) = subst (λ (xs : List Record). Refines mid (with_records xs s)) rs' here_stands in

@@ -10,15 +10,15 @@ use gc_rows::Form;
 
 /// The settings of a station, apart from its place: how its records are laid out, and what an operator chose.
 #[derive(Clone, Copy, Debug, PartialEq, Eq)]
-pub struct Station {
+pub struct Settings {
     pub layout: Layout,
     pub choice: Choice,
 }
 
-impl Station {
-    /// This station, with a status line below its signs of life where its messages go to a terminal, unless it gives no signs of
-    /// life.
-    pub fn watched(self, at_terminal: bool) -> Station {
+impl Settings {
+    /// These settings, with a status line below the signs of life where the messages go to a terminal, unless no signs of life
+    /// are asked for.
+    pub fn watched(self, at_terminal: bool) -> Settings {
         let mut station = self;
         if at_terminal && self.choice.watch == Watch::Lines {
             station.choice.watch = Watch::Terminal;
@@ -37,8 +37,8 @@ impl Station {
         }
     }
 
-    /// This station with its records as rows of a file, in `form_of_rows`, and without a header, which the file has already.
-    pub fn appended(self) -> Station
+    /// These settings with the records as rows of a file, in `form_of_rows`, and without a header, which the file has already.
+    pub fn appended(self) -> Settings
         ensures { result ≡ appended self }
     {
         let mut station = self;
@@ -47,8 +47,8 @@ impl Station {
         station
     }
 
-    /// This station as a run that begins at this moment.
-    pub fn begun(self, moment: Moment) -> Station
+    /// These settings for a run that begins at this moment.
+    pub fn begun(self, moment: Moment) -> Settings
         ensures { result ≡ begun_at moment.utc self }
     {
         let mut station = self;

@@ -1,0 +1,67 @@
+-- What the quality of an answer says of its line, this project's own: fine with both codes 0, a warning with a return code that the
+-- text accepts of that command, and else refused.
+use Rattle.std.specs.Prelude.{◌≡◌, ℕ, true, false, List, drop, Option, Some, None}
+use Rattle.std.specs.List.{AllByRecursion}
+use Rattle.gc_catalogue.specs.declared.answer.Answer.{Answer}
+use Rattle.gc_catalogue.specs.declared.answer.Reading.{Reading}
+use Rattle.gc_catalogue.specs.declared.answer.Reading.TheVariants as reading
+use Rattle.gc_catalogue.specs.declared.call.Call.{Call}
+use Rattle.gc_texts.specs.Codes.{are_accepted, no_codes}
+use Rattle.gc_texts.specs.Endings.{Answered}
+use Rattle.gc_texts.specs.Qualities.{is_good}
+use Rattle.gc_texts.specs.Zeroed.{as_zero}
+use Rattle.gc_texts.specs.declared.codes.Codes.{Codes}
+use Rattle.gc_texts.specs.declared.quality.Quality.{Quality}
+use Rattle.gc_texts.specs.declared.quality.Quality.TheVariants.{Fine, Warning, Refused}
+use Rattle.gc_texts.specs.declared.tasks.Task.{Task}
+use Rattle.gc_links.specs.Acts.{Act}
+use Rattle.gc_station.specs.Model.{expected_first}
+use Rattle.gc_station.specs.Records.{Record}
+use Rattle.gc_station.specs.Runs.{stood}
+use Rattle.gc_station.specs.Scopes.{Scope}
+use Rattle.gc_station.specs.declared.plan.Plan.{Plan}
+
+-- the answer that a reading is, if it is one
+abbrev pub answer_in : Reading → Option Answer
+answer_in (reading.Value answer) = Some answer
+answer_in (reading.Refused code) = None
+answer_in (reading.ComFault code) = None
+answer_in (reading.Unreadable fault) = None
+
+-- a reply says a refusal with a return code that isn't among these, or a fault of communication
+abbrev pub IsRefusal : Codes → Reading → Type 0
+IsRefusal accepted (reading.Value answer) = ⊥
+IsRefusal accepted (reading.Refused code) = are_accepted accepted code ≡ false
+IsRefusal accepted (reading.ComFault code) = Unit {0}
+IsRefusal accepted (reading.Unreadable fault) = ⊥
+
+-- what the line of an answer of this quality says of its call, where the codes `accepted` are accepted, and what the record has
+-- as its values (`said`). `Fine`: the line says an answer, and the record has it. `Warning`: the line says a refusal with an
+-- accepted code; the record has the answer, if any, that the line would say with return code 0. `Refused`: the line says any
+-- other refusal or a fault of communication, and the record has no answer
+abbrev pub IsOfQuality : (Call → List ℕ → Reading) → Codes → Call → Quality → Option Answer → List ℕ → Type 0
+IsOfQuality reads accepted call Fine said line = (answer : Answer) × (said ≡ Some answer) × (reads call line ≡ reading.Value answer)
+IsOfQuality reads accepted call Warning said line =
+    (code : ℕ) × (reads call line ≡ reading.Refused code) × (are_accepted accepted code ≡ true) × (said ≡ answer_in (reads call (as_zero line)))
+IsOfQuality reads accepted call Refused said line = (said ≡ None) × IsRefusal accepted (reads call line)
+
+-- the codes that are accepted of the command at this place of a cycle
+abbrev pub accepted_at : List Task → ℕ → Codes
+accepted_at commands place = (expected_first (drop place commands)).accepted
+
+-- a record that is answered has the quality of its line, by the codes that are accepted of its command
+abbrev pub IsAsListed : (Call → List ℕ → Reading) → List Task → Record → Type 0
+IsAsListed reads commands r =
+    (quality : Quality) (said : Option Answer) (line : List ℕ) → r.end ≡ Answered quality said line
+    → IsOfQuality reads (accepted_at commands r.place) r.command.call quality said line
+
+-- after any acts `IsAsListed` holds of each record
+abbrev pub QualitiesAreAsListed : Type 0
+QualitiesAreAsListed =
+    (plan : Plan) (commands : List Task) (scope : Scope) (acts : List Act) → AllByRecursion (λ r. IsAsListed scope.reads commands r) (stood plan commands scope acts).records
+
+-- where no code is accepted, the line of an answer of a good quality has both codes 0, and values that read
+abbrev pub GoodIsAnAnswer : Type 0
+GoodIsAnAnswer =
+    (reads : Call → List ℕ → Reading) (call : Call) (quality : Quality) (said : Option Answer) (line : List ℕ) → IsOfQuality reads no_codes call quality said line
+    → is_good quality ≡ true → (answer : Answer) × (said ≡ Some answer) × (reads call line ≡ reading.Value answer)

@@ -1,0 +1,31 @@
+-- The line of a reply with return code 0 is a reply, with that code and the same other fields.
+use Rattle.std.proofs.Common.{◌≡◌, ℕ, List, arith, sym, ap, subst}
+use Rattle.gc_lines.specs.Laws.{IsReplyInRange}
+use Rattle.gc_lines.specs.Readers.{reply_at}
+use Rattle.gc_lines.specs.Replies.{ReplyFields, IsReply, reply_text}
+use Rattle.gc_lines.proofs.Replies.{reply_found, reply_again}
+use Rattle.gc_lines.proofs.Written.{reply_back}
+use Rattle.gc_catalogue.specs.declared.answer.Reading.{Reading}
+use Rattle.gc_catalogue.specs.declared.call.Call.{Call}
+use Rattle.gc_catalogue.specs.Readings.{IsReading}
+use Rattle.gc_client.specs.Settlements.{ReadsAs}
+use Rattle.gc_texts.specs.Zeroed.{zeroed, as_zero}
+
+-- the fields of a reply, with return code 0 in place of theirs, are within the ranges of a reply's fields
+zero_in_range : (line : List ℕ) (r : ReplyFields) → IsReply line r → IsReplyInRange (record r { rc = 0 })
+zero_in_range line r is = record { rc_com = is.is_number.bound; id = is.is_id; rc = omega arith }
+
+-- a reply's line with return code 0 (`as_zero`) is the line that is written of its fields with return code 0
+pub zero_text : (line : List ℕ) (r : ReplyFields) → IsReply line r → as_zero line ≡ reply_text (record r { rc = 0 })
+unfolding as_zero reply_at
+zero_text line r is = ap (λ x. zeroed x line) (reply_again line r is)
+
+-- a reply's line with return code 0 is a reply, with return code 0 and the same other fields
+pub zero_is_reply : (line : List ℕ) (r : ReplyFields) → IsReply line r → IsReply (as_zero line) (record r { rc = 0 })
+zero_is_reply line r is =
+    subst (λ (l : List ℕ). IsReply l (record r { rc = 0 })) (sym (zero_text line r is))
+    (reply_found (reply_text (record r { rc = 0 })) (record r { rc = 0 }) (reply_back (record r { rc = 0 }) (zero_in_range line r is)))
+
+-- where a reply's fields with return code 0 mean `reading` for the call, the line with return code 0 reads as that
+pub zero_reads : (call : Call) (line : List ℕ) (r : ReplyFields) (reading : Reading) → IsReply line r → IsReading call (record r { rc = 0 }) reading → ReadsAs call (as_zero line) reading
+zero_reads call line r reading is says = record { reply = record r { rc = 0 }; is_reply = zero_is_reply line r is; is_reading = says }

@@ -1,0 +1,35 @@
+-- Return codes that a station's text accepts: this project's own.
+use Rattle.std.specs.Prelude.{◌≡◌, ℕ, ◌-◌, ◌≤◌, ◌==◌, ◌&&◌, Bool, not, List, [], ◌∷◌, ◌++◌, length, replicate}
+use Rattle.std.specs.List.{list_any}
+use Rattle.gc_texts.specs.Procedures.{IsNumber}
+use Rattle.gc_texts.specs.declared.codes.Codes.{Codes}
+
+-- a word is this code, from 1 to 65535
+pub record IsListed (word : List ℕ) (code : ℕ) : Type 0 where
+  pub number : IsNumber word code 65535
+  pub some : 1 ≤ code
+
+-- a text is these codes, at least one, with one space between two
+abbrev pub AreCodes : List ℕ → List ℕ → Type 0
+AreCodes text [] = ⊥
+AreCodes text (code ∷ []) = IsListed text code
+AreCodes text (code ∷ next ∷ others) = (word : List ℕ) × (rest : List ℕ) × (text ≡ word ++ 32 ∷ rest) × IsListed word code × AreCodes rest (next ∷ others)
+
+-- these codes in the first of 16 places, and 0, which is no code, in the others
+abbrev pub filled : List ℕ → List ℕ
+filled listed = listed ++ replicate (16 - length listed) 0
+
+-- no code in any place
+abbrev pub no_codes : Codes
+no_codes = record { codes = filled [] }
+
+-- a text is these codes, at least one and at most 16
+pub record IsFilled (text : List ℕ) (codes : Codes) : Type 0 where
+  pub listed : List ℕ
+  pub are : AreCodes text listed
+  pub few : length listed ≤ 16
+  pub filled_are : codes.codes ≡ filled listed
+
+-- whether this return code is among these codes; 0, which fills the places behind them, never is
+abbrev pub are_accepted : Codes → ℕ → Bool
+are_accepted accepted code = not (code == 0) && list_any (λ c. c == code) accepted.codes

@@ -1,0 +1,16 @@
+-- The quality of an answer: this project's own.
+use Rattle.std.specs.Prelude.{ℕ, Bool, true, false, List, codes}
+use Rattle.gc_texts.specs.declared.quality.Quality.{Quality}
+use Rattle.gc_texts.specs.declared.quality.Quality.TheVariants.{Fine, Warning, Refused}
+
+-- whether a command with an answer of this quality was answered well, so that its chain goes on
+abbrev pub is_good : Quality → Bool
+is_good Fine = true
+is_good Warning = true
+is_good Refused = false
+
+-- the word of a quality in a row
+abbrev pub quality_word : Quality → List ℕ
+quality_word Fine = codes "ok"
+quality_word Warning = codes "warning"
+quality_word Refused = codes "refused"

@@ -1,0 +1,92 @@
+//! The return codes beside 0 that a station's text accepts of an answer.
+
+ghost use Rattle.std.specs.Prelude.{◌≡◌, ◌==◌, ◌+◌, ◌<◌, ◌≤◌, ◌∷◌, ◌++◌, ℕ, List, [], length, MatchOption};
+ghost use Rattle.std.specs.List.{list_any};
+ghost use Rattle.gc_texts.specs.Codes.{AreCodes, IsFilled, IsListed, are_accepted, filled, no_codes};
+ghost use Rattle.gc_texts.specs.declared.codes.Codes.{Codes};
+
+use crate::cuts::cut_at;
+use crate::procedure::number_of;
+
+/// The most codes of a line.
+pub const CODES_MAX: usize = 16;
+
+// The greatest return code of a reply's line.
+const CODE_MAX: u64 = 65535;
+
+/// Return codes, each from 1 to 65535, in the order of their line. An answer with such a code is a warning, and counts as good.
+#[derive(Clone, Copy, Debug, PartialEq, Eq)]
+pub struct Codes {
+    /// The codes, and 0 in the places behind them.
+    pub codes: [u16; CODES_MAX],
+}
+
+impl Codes {
+    /// No code.
+    pub fn none() -> Codes
+        ensures { result ≡ no_codes }
+    {
+        Codes {
+            codes: [0; CODES_MAX],
+        }
+    }
+
+    // Whether some place has this number.
+    fn is_in_a_place(&self, code: u16) -> bool
+        ensures { result ≡ list_any (λ c. c == code) self.now.codes }
+    {
+        self.codes.iter().any(|c| *c == code)
+    }
+
+    /// Whether this return code is among the codes; 0, which fills the places behind them, never is.
+    pub fn has(&self, code: u16) -> bool
+        ensures { result ≡ are_accepted self.now code }
+    {
+        code != 0 && self.is_in_a_place(code)
+    }
+
+    // These codes, of which there are `count`, with one more behind them.
+    fn with_next(self, count: usize, code: u16) -> Codes
+        requires { count < 16 }
+        ensures { (listed : List ℕ) → length listed ≡ count → self.codes ≡ filled listed → result.codes ≡ filled (listed ++ code ∷ []) }
+    {
+        let mut codes = self.codes;
+        codes[count] = code;
+        Codes { codes }
+    }
+}
+
+// Reads a code, from 1 to 65535. `None`: the word is no number, or the number lies outside.
+fn code_of(word: &[u8]) -> Option<u16>
+    ensures { MatchOption result ((code : ℕ) → IsListed word.now code → ⊥) (λ code. IsListed word.now code) }
+{
+    let Some(code) = number_of(word, CODE_MAX) else {
+        return None
+    };
+    if code == 0 {
+        return None;
+    }
+    Some(code as u16)
+}
+
+/// Reads codes with one space between two. `None`: a word is no code, or there are more than 16.
+pub(crate) fn read_codes(text: &[u8]) -> Option<Codes>
+    ensures { MatchOption result ((codes : Codes) → IsFilled text.now codes → ⊥) (λ codes. IsFilled text.now codes) }
+{
+    let mut codes = Codes::none();
+    let mut count = 0;
+    let mut left = Some(text);
+    while let Some(text) = left {
+        let (word, rest) = cut_at(b' ', text);
+        let Some(code) = code_of(word) else {
+            return None
+        };
+        if count == CODES_MAX {
+            return None;
+        }
+        codes = codes.with_next(count, code);
+        count += 1;
+        left = rest;
+    }
+    Some(codes)
+}

@@ -1,0 +1,39 @@
+//! The quality of an answer: whether a command that has it was answered well.
+
+ghost use Rattle.std.specs.Prelude.{◌≡◌, ◌≤◌, length};
+ghost use Rattle.gc_texts.specs.Qualities.{is_good, quality_word};
+
+/// What an answer is worth.
+#[derive(Clone, Copy, Debug, PartialEq, Eq)]
+pub enum Quality {
+    /// Both codes are 0, and its values read.
+    Fine,
+    /// Its communication code is 0, and its return code one that the text accepts.
+    Warning,
+    /// Its codes are any others.
+    Refused,
+}
+
+impl Quality {
+    /// Whether a command with an answer of this quality was answered well, so that its chain goes on.
+    pub fn is_good(self) -> bool
+        ensures { result ≡ is_good self }
+    {
+        match self {
+            Quality::Fine | Quality::Warning => true,
+            Quality::Refused => false,
+        }
+    }
+
+    /// The word of this quality, as rows and objects have it.
+    pub fn word(self) -> &'static [u8]
+        ensures is { result.now ≡ quality_word self }
+        ensures short { length result.now ≤ 16 }
+    {
+        match self {
+            Quality::Fine => b"ok",
+            Quality::Warning => b"warning",
+            Quality::Refused => b"refused",
+        }
+    }
+}
