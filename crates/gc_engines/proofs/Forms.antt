@@ -8,7 +8,7 @@ use Rattle.gc_world.specs.declared.event.Event.TheVariants.{Send, UpDeliver, UpB
 use Rattle.gc_texts.specs.Cuts.{Cuts}
 use Rattle.gc_texts.specs.Procedures.{IsNumber, IsProcedure}
 use Rattle.gc_texts.proofs.Cutting.{cut_found, digits_lack_spaces}
-use Rattle.gc_engines.specs.Schedule.{IsNumbered, IsRequested, IsSend, IsEvent, IsCounted}
+use Rattle.gc_engines.specs.Schedule.{IsNumbered, IsRequested, IsSend, IsEvent, IsCounted, SendsRequested}
 
 -- where a line is a word and `rest`, and `r` is the number that `rest` is, or `None` where it is none, `r` is the number behind
 -- the word in the line, too
@@ -56,14 +56,16 @@ module _ (text : List ℕ) (t : ℕ) (call : Call) (d : ℕ) (r : IsRequested te
   has_procedure target rest deadline procedure cut next none =
       none call (subst (λ (p : List ℕ). IsProcedure p call) (sym (some_is procedure r.procedure (second_cut target rest deadline (Some procedure) cut next).1)) r.procedure_is)
 
--- where a line is `send ` and `rest`, and `o` is the target, call and deadline that `rest` requests, or `None` where it
--- requests nothing, `o` is what the line sends, too
-pub send_is : (word line rest : List ℕ) (o : Option (ℕ × Call × ℕ)) → word ≡ codes "send " → line ≡ word ++ rest
-    → MatchOption o ((t : ℕ) (call : Call) (d : ℕ) → IsRequested rest t call d → ⊥)
-    (λ r. IsRequested rest r.0 r.1 r.2) → MatchOption o ((t : ℕ) (call : Call) (d : ℕ) → IsSend line t call d → ⊥) (λ r. IsSend line r.0 r.1 r.2)
-send_is word line rest None same e none =
-    λ t call d sent. none t call d (subst (λ (x : List ℕ). IsRequested x t call d) (append_cancel_left (codes "send ") sent.rest rest (sym sent.line_is ∙ e ∙ ap (λ w. w ++ rest) same)) sent.requested)
-send_is word line rest (Some r) same e requested = record { rest = rest; line_is = e ∙ ap (λ w. w ++ rest) same; requested = requested }
+-- where a line is `send ` and `rest`, and `event` is the send that `rest` requests, the line has the form of the event
+pub send_is : (word line rest : List ℕ) (event : Event) → word ≡ codes "send " → line ≡ word ++ rest → SendsRequested rest event → IsEvent line event
+send_is word line rest (Send t call d) same e requested = record { rest = rest; line_is = e ∙ ap (λ w. w ++ rest) same; requested = requested }
+send_is word line rest _ same e requested = absurd requested
+
+-- where a line is `send ` and `rest`, and `rest` requests nothing, the line sends nothing
+pub no_send : (word line rest : List ℕ) → word ≡ codes "send " → line ≡ word ++ rest
+    → ((t : ℕ) (call : Call) (d : ℕ) → IsRequested rest t call d → ⊥) → (t : ℕ) (call : Call) (d : ℕ) → IsSend line t call d → ⊥
+no_send word line rest same e none t call d sent =
+    none t call d (subst (λ (x : List ℕ). IsRequested x t call d) (append_cancel_left (codes "send ") sent.rest rest (sym sent.line_is ∙ e ∙ ap (λ w. w ++ rest) same)) sent.requested)
 
 -- a line that is none of the seven words with a number has the form of no event that is words and a number
 pub no_numbered :

@@ -22,6 +22,11 @@ pub record IsRequested (text : List ℕ) (target : ℕ) (call : Call) (deadline 
   pub deadline_is : IsNumber deadline_text deadline 18446744073709551615
   pub procedure_is : IsProcedure procedure call
 
+-- the event is the send of the request that the text has
+abbrev pub SendsRequested : List ℕ → Event → Type 0
+SendsRequested text (Send target call deadline) = IsRequested text target call deadline
+SendsRequested text _ = ⊥
+
 -- `send T D RPC` or `send T D RPC PARAMS`: the word, and behind it a request as `IsRequested` has it
 pub record IsSend (line : List ℕ) (target : ℕ) (call : Call) (deadline : ℕ) : Type 0 where
   pub rest : List ℕ

@@ -1,13 +1,13 @@
 //! The reading of one line of a schedule. The words of a schedule's events are known here alone.
 
-ghost use Rattle.std.specs.Prelude.{◌≡◌, ◌≢◌, ◌≤◌, ◌↔◌, IsTrue, ℕ, List, length, take, drop, ◌++◌, ◌∷◌, IfSome, IfNone, MatchOption, Option};
+ghost use Rattle.std.specs.Prelude.{◌≡◌, ◌≢◌, ◌≤◌, ◌↔◌, IsTrue, IsFalse, ℕ, List, length, take, drop, ◌++◌, ◌∷◌, IfSome, IfNone, MatchOption, Option};
 ghost use Rattle.gc_texts.specs.Procedures.{IsNumber, IsProcedure};
-ghost use Rattle.gc_engines.specs.Schedule.{IsNumbered, IsEvent, IsSend, IsRequested, IsCounted};
+ghost use Rattle.gc_engines.specs.Schedule.{IsNumbered, IsEvent, IsSend, IsRequested, SendsRequested, IsCounted};
 ghost use Rattle.gc_catalogue.specs.declared.call.Call.{Call};
 ghost use Rattle.gc_world.specs.declared.event.Event.{Event};
 
 use gc_catalogue::Call;
-use gc_texts::{LineForm, TARGET_MAX, cut_at, number_of, read_procedure};
+use gc_texts::{LineForm, TARGET_MAX, cut_at, number_of, read_procedure_into};
 use gc_world::Event;
 
 // The greatest place of a line under way, and the greatest count of bytes.
@@ -31,36 +31,40 @@ fn numbered(word: &[u8], line: &[u8], max: u64) -> Option<u64>
     }
 }
 
-// Reads `T D RPC` or `T D RPC PARAMS`, and returns the target T, the call and the deadline D. `None`: the text has no such form.
-fn read_requested(text: &[u8]) -> Option<(u32, Call, u64)>
-    ensures { MatchOption result ((t : ℕ) (call : Call) (d : ℕ) → IsRequested text.now t call d → ⊥) (λ r. IsRequested text.now r.0 r.1 r.2) }
+// Reads `T D RPC` or `T D RPC PARAMS` as the send of that call to the target T with the deadline D, into `event`, and says whether
+// the text has such a form.
+fn read_requested(text: &[u8], event: &mut Event) -> bool
+    ensures found { IsTrue result → SendsRequested text.now event.new }
+    ensures none { IsFalse result → (t : ℕ) (call : Call) (d : ℕ) → IsRequested text.now t call d → ⊥ }
 {
     let (target, rest) = cut_at(b' ', text);
-    let Some(rest) = rest else { return None };
+    let Some(rest) = rest else { return false };
     let (deadline, procedure) = cut_at(b' ', rest);
     let Some(procedure) = procedure else {
-        return None
+        return false
     };
     let Some(target) = number_of(target, TARGET_MAX) else {
-        return None
+        return false
     };
     let Some(deadline) = number_of(deadline, u64::MAX) else {
-        return None
+        return false
     };
-    match read_procedure(procedure) {
-        Some(call) => Some((target as u32, call, deadline)),
-        None => None,
-    }
+    *event = Event::Send(target as u32, Call::NullProc, deadline);
+    // `event` was just made a send, so this only gives the place of its call.
+    let Event::Send(_, call, _) = event else {
+        return false
+    };
+    read_procedure_into(procedure, call)
 }
 
-// Reads `send T D RPC` or `send T D RPC PARAMS`, and returns the target T, the call and the deadline D. `None`: the line has no
-// such form.
-fn read_send(line: &[u8]) -> Option<(u32, Call, u64)>
-    ensures { MatchOption result ((t : ℕ) (call : Call) (d : ℕ) → IsSend line.now t call d → ⊥) (λ r. IsSend line.now r.0 r.1 r.2) }
+// Reads `send T D RPC` or `send T D RPC PARAMS`, into `event`, and says whether the line has such a form.
+fn read_send(line: &[u8], event: &mut Event) -> bool
+    ensures found { IsTrue result → IsEvent line.now event.new }
+    ensures none { IsFalse result → (t : ℕ) (call : Call) (d : ℕ) → IsSend line.now t call d → ⊥ }
 {
     match behind(b"send ", line) {
-        Some(rest) => read_requested(rest),
-        None => None,
+        Some(rest) => read_requested(rest, event),
+        None => false,
     }
 }
 
@@ -71,32 +75,40 @@ fn is_plain(words: &[u8], line: &[u8]) -> bool
     line == words
 }
 
-// Reads an event that is words and a number. `None`: the line is no such event.
-fn read_numbered(line: &[u8]) -> Option<Event>
-    ensures { MatchOption result ((event : Event) → IsCounted event → IsEvent line.now event → ⊥) (λ event. IsEvent line.now event) }
+// Reads an event that is words and a number, into `event`, and says whether the line is one.
+fn read_numbered(line: &[u8], event: &mut Event) -> bool
+    ensures found { IsTrue result → IsEvent line.now event.new }
+    ensures none { IsFalse result → (other : Event) → IsCounted other → IsEvent line.now other → ⊥ }
 {
     if let Some(bytes) = numbered(b"up bytes ", line, COUNT_MAX) {
-        return Some(Event::UpBytes(bytes as usize));
+        *event = Event::UpBytes(bytes as usize);
+        return true;
     }
     if let Some(place) = numbered(b"up lose ", line, COUNT_MAX) {
-        return Some(Event::UpLose(place as usize));
+        *event = Event::UpLose(place as usize);
+        return true;
     }
     if let Some(place) = numbered(b"up repeat ", line, COUNT_MAX) {
-        return Some(Event::UpRepeat(place as usize));
+        *event = Event::UpRepeat(place as usize);
+        return true;
     }
     if let Some(bytes) = numbered(b"down bytes ", line, COUNT_MAX) {
-        return Some(Event::DownBytes(bytes as usize));
+        *event = Event::DownBytes(bytes as usize);
+        return true;
     }
     if let Some(place) = numbered(b"down lose ", line, COUNT_MAX) {
-        return Some(Event::DownLose(place as usize));
+        *event = Event::DownLose(place as usize);
+        return true;
     }
     if let Some(place) = numbered(b"down repeat ", line, COUNT_MAX) {
-        return Some(Event::DownRepeat(place as usize));
+        *event = Event::DownRepeat(place as usize);
+        return true;
     }
     if let Some(moment) = numbered(b"expire ", line, u64::MAX) {
-        return Some(Event::Expire(moment));
+        *event = Event::Expire(moment);
+        return true;
     }
-    None
+    false
 }
 
 /// The form of a schedule's lines: each is an event.
@@ -107,24 +119,31 @@ impl LineForm for EventForm {
 
     ghost form = { IsEvent };
 
-    // The event that a line is, if it is one. Each kind of event is returned where it is read: an event has 176 bytes, and each
-    // function that hands it on copies it.
-    fn read(line: &[u8]) -> Option<Event> {
-        if let Some((target, call, deadline)) = read_send(line) {
-            return Some(Event::Send(target, call, deadline));
+    fn blank() -> Event {
+        Event::UpDeliver
+    }
+
+    // An event has 176 bytes. So it is written where it is to stand, and none is handed back.
+    fn read(line: &[u8], event: &mut Event) -> bool {
+        if read_send(line, event) {
+            return true;
         }
         if is_plain(b"up deliver", line) {
-            return Some(Event::UpDeliver);
+            *event = Event::UpDeliver;
+            return true;
         }
         if is_plain(b"down deliver", line) {
-            return Some(Event::DownDeliver);
+            *event = Event::DownDeliver;
+            return true;
         }
         if is_plain(b"restart client", line) {
-            return Some(Event::RestartClient);
+            *event = Event::RestartClient;
+            return true;
         }
         if is_plain(b"restart instrument", line) {
-            return Some(Event::RestartInstrument);
+            *event = Event::RestartInstrument;
+            return true;
         }
-        read_numbered(line)
+        read_numbered(line, event)
     }
 }

@@ -30,9 +30,18 @@ impl LineForm for SceneForm {
 
     ghost form = { IsSceneLine };
 
-    // What a line says of the instrument, if it has a form.
-    fn read(line: &[u8]) -> Option<SceneLine> {
-        read_scene_line(line)
+    fn blank() -> SceneLine {
+        SceneLine::Serial(0)
+    }
+
+    fn read(line: &[u8], says: &mut SceneLine) -> bool {
+        match read_scene_line(line) {
+            Some(found) => {
+                *says = found;
+                true
+            }
+            None => false,
+        }
     }
 }
 

@@ -30,9 +30,21 @@ impl LineForm for CommandForm {
 
     ghost form = { IsCommand };
 
-    // The command that a line is, if it is one.
-    fn read(line: &[u8]) -> Option<Command> {
-        read_command(line)
+    fn blank() -> Command {
+        Command {
+            target: 0,
+            call: Call::NullProc,
+        }
+    }
+
+    fn read(line: &[u8], command: &mut Command) -> bool {
+        match read_command(line) {
+            Some(found) => {
+                *command = found;
+                true
+            }
+            None => false,
+        }
     }
 }
 

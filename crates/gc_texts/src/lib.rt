@@ -34,7 +34,7 @@ pub use log_line::{LogBytes, LogMark, append_escaped, escaped, write_log_line};
 pub use log_reading::{LogLine, read_log_line};
 pub use name::Name;
 pub use near::{Expected, Near, is_elsewhere, read_double};
-pub use procedure::{TARGET_MAX, number_of, read_procedure};
+pub use procedure::{TARGET_MAX, number_of, read_procedure, read_procedure_into};
 pub use quality::Quality;
 pub use settled::{append_settlements, write_settlements};
 pub use stamp::{STAMP_ROOM, Stamp, stamp_text};

@@ -13,7 +13,7 @@ use std::alloc::Global;
 
 /// The form of a text's lines: which of them stand for an item, and for which.
 pub trait LineForm {
-    ghost use Rattle.std.specs.Prelude.{ℕ, List, MatchOption};
+    ghost use Rattle.std.specs.Prelude.{ℕ, List, IsTrue, IsFalse};
 
     /// What a line stands for.
     type Item: Copy;
@@ -21,9 +21,13 @@ pub trait LineForm {
     /// Which lines have the form of an item.
     ghost form: { List ℕ → Self.Item → Type 0 };
 
-    /// Reads a line as an item. `None`: the line has the form of no item.
-    fn read(line: &[u8]) -> Option<Self::Item>
-        ensures { MatchOption result ((item : Self.Item) → form line.now item → ⊥) (λ item. form line.now item) };
+    /// An item for `read` to write over: which one doesn't matter.
+    fn blank() -> Self::Item;
+
+    /// Reads a line as an item, into `item`, and says whether the line has the form of one. Where it hasn't, `item` may be any.
+    fn read(line: &[u8], item: &mut Self::Item) -> bool
+        ensures found { IsTrue result → form line.now item.new }
+        ensures none { IsFalse result → (other : Self.Item) → form line.now other → ⊥ };
 }
 
 // The line without one CR at its end, if it has one.
@@ -97,6 +101,7 @@ fn read_lines<F: LineForm>(alloc: Global, text: &[u8]) -> Result<Vec<F::Item>, R
     ensures fault { IfErr result (λ e. TextFault F.form text.now e) }
 {
     let mut items = Vec::new(alloc);
+    let mut item = F::blank();
     let mut left = Some(text);
     let mut number = 0u32;
     while let Some(text) = left {
@@ -107,15 +112,13 @@ fn read_lines<F: LineForm>(alloc: Global, text: &[u8]) -> Result<Vec<F::Item>, R
         if is_skipped(line) {
             continue;
         }
-        match F::read(line) {
-            Some(item) => {
-                if items.reserve(room_for(items.len(), text)).is_err() {
-                    return Err(RunFault::Memory);
-                }
-                items.push_reserved(item);
-            }
-            None => return Err(RunFault::Schedule { line: number }),
+        if !F::read(line, &mut item) {
+            return Err(RunFault::Schedule { line: number });
         }
+        if items.reserve(room_for(items.len(), text)).is_err() {
+            return Err(RunFault::Memory);
+        }
+        items.push_reserved(item);
     }
     Ok(items)
 }

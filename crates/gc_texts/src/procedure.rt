@@ -1,6 +1,6 @@
 //! A number of a text, and a procedure's number with its parameters, read: what schedules and commands share.
 
-ghost use Rattle.std.specs.Prelude.{◌≡◌, ◌≤◌, ℕ, length, MatchOption};
+ghost use Rattle.std.specs.Prelude.{◌≡◌, ◌≤◌, ℕ, length, IsTrue, IsFalse, MatchOption};
 ghost use Rattle.gc_texts.specs.Procedures.{IsNumber, IsProcedure};
 ghost use Rattle.gc_catalogue.specs.Calls.{IsCall};
 ghost use Rattle.gc_catalogue.specs.declared.call.Call.{Call};
@@ -25,35 +25,46 @@ pub fn number_of(digits: &[u8], max: u64) -> Option<u64>
 
 /// Reads the call of a procedure's number and its parameters: `RPC`, or `RPC PARAMS` with one byte of parameters at least.
 /// `None`: the text has no such form, no procedure has the number, or the parameters don't read as its own.
-#[inline(always)]
 pub fn read_procedure(text: &[u8]) -> Option<Call>
     ensures { MatchOption result ((call : Call) → IsProcedure text.now call → ⊥) (λ call. IsProcedure text.now call) }
 {
-    let (digits, params) = cut_at(b' ', text);
-    let Some(rpc) = number_of(digits, 65535) else {
-        return None
-    };
-    let Some(params) = params else {
-        return read_call(rpc as u16, &[]);
-    };
-    if params.is_empty() {
-        return None;
+    let mut call = Call::NullProc;
+    if read_procedure_into(text, &mut call) {
+        Some(call)
+    } else {
+        None
     }
-    read_call(rpc as u16, params)
 }
 
-// The call of a procedure's number and parameters. `None`: no procedure has the number, or the parameters don't read as its own.
-fn read_call(rpc: u16, params: &[u8]) -> Option<Call>
-    ensures { MatchOption result ((call : Call) → IsCall rpc params.now call → ⊥) (λ call. IsCall rpc params.now call) }
+/// As [`read_procedure`], but the call is written into `call`, which may be any call where the text isn't a procedure's.
+#[inline(always)]
+pub fn read_procedure_into(text: &[u8], call: &mut Call) -> bool
+    ensures found { IsTrue result → IsProcedure text.now call.new }
+    ensures none { IsFalse result → (other : Call) → IsProcedure text.now other → ⊥ }
+{
+    let (digits, params) = cut_at(b' ', text);
+    let Some(rpc) = number_of(digits, 65535) else {
+        return false
+    };
+    let Some(params) = params else {
+        return read_call(rpc as u16, &[], call);
+    };
+    if params.is_empty() {
+        return false;
+    }
+    read_call(rpc as u16, params, call)
+}
+
+// Reads the call of a procedure's number and parameters, into `call`, and says whether there is one: a procedure has the number,
+// and the parameters read as its own.
+fn read_call(rpc: u16, params: &[u8], call: &mut Call) -> bool
+    ensures found { IsTrue result → IsCall rpc params.now call.new }
+    ensures none { IsFalse result → (other : Call) → IsCall rpc params.now other → ⊥ }
 {
     let request = Request {
         rpc,
         id: None,
         params,
     };
-    let mut call = Call::NullProc;
-    match decode_call_into(&request, &mut call) {
-        Ok(()) => Some(call),
-        Err(_) => None,
-    }
+    decode_call_into(&request, call).is_ok()
 }
