@@ -1,8 +1,12 @@
 pub mod AnswerLaws
+pub mod AskedRules
 pub mod CallLaws
 pub mod EachReply
 pub mod Joining
 pub mod Lengths
 pub mod LineLaws
 pub mod Plain
+pub mod RawLines
+pub mod RawRules
+pub mod SameText
 pub mod Table

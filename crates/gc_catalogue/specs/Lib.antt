@@ -1,8 +1,14 @@
 pub mod Answers
+pub mod Asked
+pub mod AskedLaws
 pub mod CallFault
 pub mod Calls
 pub mod Laws
 pub mod Lists
+pub mod Names
+pub mod RawProps
+pub mod RawTexts
+pub mod Raws
 pub mod Readings
 pub mod Structs
 pub mod Texts

@@ -1,5 +1,6 @@
 //! What is proved of the definitions themselves. Each function does nothing: its contract is the law.
 
+ghost use Rattle.gc_catalogue.specs.AskedLaws.{AskedReadBack, EachReplyIsReadForAsked, OneAsked, OneAskedForALine, OneAskedReading, RawLinesFit};
 ghost use Rattle.gc_catalogue.specs.Laws.{NumbersDiffer, OneCallForALine, OneCallOrRefusal, OneReading, EachReplyIsRead, CallsReadBack, AnswersReadBack, DoublesAreRounded};
 
 /// No two procedures share a number: calls with one number have parameters of the same kinds and answers of one shape, and are one
@@ -41,4 +42,34 @@ pub fn answers_read_back()
 /// An answer is written with each double rounded to the places, and with every other value as it is.
 pub fn doubles_are_rounded()
     ensures { DoublesAreRounded }
+{}
+
+/// The line of a procedure that isn't in the table fits in a line, and its number is no procedure's of the table.
+pub fn raw_lines_fit()
+    ensures { RawLinesFit }
+{}
+
+/// A number and parameters ask for one thing at most.
+pub fn one_asked()
+    ensures { OneAsked }
+{}
+
+/// Two things that are asked by one line are one, with one id.
+pub fn one_asked_for_a_line()
+    ensures { OneAskedForALine }
+{}
+
+/// The line of all that is asked reads back as that.
+pub fn asked_read_back()
+    ensures { AskedReadBack }
+{}
+
+/// A reply has one reading at most for what was asked.
+pub fn one_asked_reading()
+    ensures { OneAskedReading }
+{}
+
+/// Each reply has a reading for all that is asked.
+pub fn each_reply_is_read_for_asked()
+    ensures { EachReplyIsReadForAsked }
 {}

@@ -3,9 +3,14 @@
 #![tactic(auto)]
 
 mod answer;
+mod asked;
+mod asking;
 mod call;
 mod fault;
 pub mod laws;
+mod names;
+mod raw;
+mod raw_text;
 mod reading;
 mod replies;
 mod requests;
@@ -13,7 +18,12 @@ mod taking;
 mod writing;
 
 pub use answer::{Answer, Reading};
+pub use asked::{Asked, decode_asked, decode_asked_into, encode_asked, encode_asked_onto};
+pub use asking::Asking;
 pub use call::{Call, DateTime, Station};
 pub use fault::CallFault;
+pub use names::procedure_name;
+pub use raw::{RawCall, RawFault, raw_call};
+pub use raw_text::{RAW_BYTES, RawText};
 pub use replies::{decode_answer, decode_answer_into, encode_answer, encode_answer_onto};
 pub use requests::{decode_call, decode_call_into, encode_call, encode_call_onto};

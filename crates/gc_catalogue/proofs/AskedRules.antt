@@ -1,0 +1,88 @@
+-- What is asked: one thing for a number and parameters, and one for a line; and one reading for a reply.
+use Rattle.std.proofs.Common.{◌≡◌, ◌<◌, ℕ, List, refl, sym, ap, ◌∙◌, subst}
+use Rattle.std.specs.Prelude.{Option, IfSome, Result, Ok}
+use Rattle.gc_lines.proofs.Written.{request_back}
+use Rattle.gc_lines.specs.Replies.{ReplyFields}
+use Rattle.gc_lines.specs.Requests.{RequestFields}
+use Rattle.gc_lines.specs.Readers.{request_at}
+use Rattle.gc_lines.specs.declared.fault.LineFault.{LineFault}
+use Rattle.gc_catalogue.specs.Asked.{asked_line, asked_request, raw_params, raw_request, IsAsked, IsAskedFitting, IsAskedReading}
+use Rattle.gc_catalogue.specs.AskedLaws.{ReadsBackAsked}
+use Rattle.gc_catalogue.specs.Calls.{IsCall}
+use Rattle.gc_catalogue.specs.RawProps.{IsRawCall-prop}
+use Rattle.gc_catalogue.specs.RawTexts.{raw_bytes}
+use Rattle.gc_catalogue.specs.Raws.{IsRawCall}
+use Rattle.gc_catalogue.specs.declared.answer.Reading.{Reading}
+use Rattle.gc_catalogue.specs.declared.asked.Asked.{Asked}
+use Rattle.gc_catalogue.specs.declared.asked.Asked.TheVariants.{Table, Raw}
+use Rattle.gc_catalogue.specs.declared.call.Call.{Call}
+use Rattle.gc_catalogue.specs.declared.raw.RawCall.{RawCall}
+use Rattle.gc_catalogue.specs.declared.raw_text.RawText.{RawText}
+use Rattle.gc_catalogue.proofs.AnswerLaws.{one_reading}
+use Rattle.gc_catalogue.proofs.CallLaws.{one_call}
+use Rattle.gc_catalogue.proofs.EachReply.{each_reply}
+use Rattle.gc_catalogue.proofs.LineLaws.{call_again}
+use Rattle.gc_catalogue.proofs.SameText.{same_text}
+use Rattle.gc_catalogue.proofs.RawRules.{each_raw_reply, one_raw_reading}
+
+-- the request with this number and these parameters, which may be asked for
+abbrev make : (rpc : ℕ) (params : RawText) → IsRawCall rpc (raw_bytes params) → RawCall
+make rpc params is = record { rpc = rpc; params = params; is = is }
+
+-- requests of one number and the same parameters are equal whatever the proofs are that they may be asked for
+same_fields : (rpc : ℕ) (params : RawText) (is : IsRawCall rpc (raw_bytes params)) (other : ℕ) (text : RawText) → rpc ≡ other → params ≡ text
+    → (so : IsRawCall other (raw_bytes text)) → make rpc params is ≡ make other text so
+same_fields rpc params is other text e f =
+    let P : ℕ → Type 0 = λ n. (so : IsRawCall n (raw_bytes text)) → make rpc params is ≡ make n text so in
+    let Q : RawText → Type 0 = λ t. (so : IsRawCall rpc (raw_bytes t)) → make rpc params is ≡ make rpc t so in
+    subst P e (subst Q f (λ so. ap (make rpc params) (IsRawCall-prop rpc (raw_bytes params) is so)))
+
+-- requests of one number and the same parameters are equal
+pub same_raw : (a b : RawCall) → a.rpc ≡ b.rpc → raw_params a ≡ raw_params b → a ≡ b
+same_raw a b e f = same_fields a.rpc a.params a.is b.rpc b.params e (same_text a.params b.params f) b.is
+
+-- no call has the number of a procedure that isn't in the table
+pub apart : (rpc : ℕ) (params : List ℕ) (call : Call) (raw : RawCall) → IsCall rpc params call → raw.rpc ≡ rpc → ⊥
+apart rpc params call raw is e = raw.is.no_procedure call (is.number ∙ sym e)
+
+-- a number and parameters ask for one thing at most
+pub one_asked : (rpc : ℕ) (params : List ℕ) (a b : Asked) → IsAsked rpc params a → IsAsked rpc params b → a ≡ b
+one_asked rpc params (Table c) (Table d) x y = ap (λ z. Table z) (one_call rpc params c d x y)
+one_asked rpc params (Table c) (Raw s) x y = absurd (apart rpc params c s x y.0)
+one_asked rpc params (Raw r) (Table d) x y = absurd (apart rpc params d r y x.0)
+one_asked rpc params (Raw r) (Raw s) x y = ap (λ z. Raw z) (same_raw r s (x.0 ∙ sym y.0) (x.1 ∙ sym y.1))
+
+-- the line of what is asked reads back as that
+pub asked_again : (id : Option ℕ) (asked : Asked) → IfSome id (λ n. n < 8) → IsAskedFitting asked → ReadsBackAsked id asked
+asked_again id (Table call) i fits = let again = call_again id call i fits in record { line = again.line; is_asked = again.is_call }
+asked_again id (Raw raw) i fits = record { line = request_back (raw_request id raw) (record { rpc = raw.is.bound; id = i }); is_asked = (refl, refl) }
+
+-- the request has the id
+asked_id : (id : Option ℕ) (asked : Asked) → (asked_request id asked).id ≡ id
+asked_id id (Table call) = refl
+asked_id id (Raw raw) = refl
+
+-- a result is one value at most
+read_once : (r : Result RequestFields LineFault) (p q : RequestFields) → r ≡ Ok p → r ≡ Ok q → p ≡ q
+read_once r p q e f = cc
+
+-- things that are asked by one line are one, with one id
+pub one_asked_for_a_line : (i j : Option ℕ) (a b : Asked) → IfSome i (λ n. n < 8) → IfSome j (λ n. n < 8) → IsAskedFitting a → IsAskedFitting b
+    → asked_line i a ≡ asked_line j b → (i ≡ j) × (a ≡ b)
+one_asked_for_a_line i j a b x y f g e =
+    let one = asked_again i a x f in
+    let two = asked_again j b y g in
+    let same : asked_request i a ≡ asked_request j b = read_once _ (asked_request i a) (asked_request j b) one.line (ap request_at e ∙ two.line) in (
+      sym (asked_id i a) ∙ ap (λ (q : RequestFields). q.id) same ∙ asked_id j b,
+      one_asked (asked_request j b).rpc (asked_request j b).params a b (subst (λ (q : RequestFields). IsAsked q.rpc q.params a) same one.is_asked) two.is_asked,
+    )
+
+-- a reply has one reading at most for what was asked
+pub one_asked_reading : (asked : Asked) (reply : ReplyFields) (x y : Reading) → IsAskedReading asked reply x → IsAskedReading asked reply y → x ≡ y
+one_asked_reading (Table call) reply x y f g = one_reading call reply x y f g
+one_asked_reading (Raw raw) reply x y f g = one_raw_reading reply x y f g
+
+-- each reply has a reading for what was asked
+pub each_asked_reply : (asked : Asked) (reply : ReplyFields) → (reading : Reading) × IsAskedReading asked reply reading
+each_asked_reply (Table call) reply = each_reply call reply
+each_asked_reply (Raw raw) reply = each_raw_reply reply

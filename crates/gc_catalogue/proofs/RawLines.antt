@@ -1,0 +1,65 @@
+-- Lines of procedures that aren't in the table: how long they are, and that they fit.
+use Rattle.std.proofs.Common.{◌≡◌, ◌+◌, ◌-◌, ◌<◌, ◌≤◌, ◌++◌, ℕ, List, [], ◌∷◌, length, take, drop, replicate, ap, ◌∙◌, arith, length-append, append_assoc}
+use Rattle.std.specs.Prelude.{Option, Some, None, IfSome}
+use Rattle.std.specs.Fmt.{decimal}
+use Rattle.std.proofs.lemmas.Fmt.{decimal_nonempty}
+use Rattle.std.proofs.lemmas.List.{length-replicate}
+use Rattle.std.proofs.Math.Seq.{take-append_seam, drop-append_seam}
+use Rattle.gc_lines.proofs.Plain.{request_plain}
+use Rattle.gc_lines.specs.Headers.{id_text}
+use Rattle.gc_lines.specs.Requests.{request_signature, request_text}
+use Rattle.gc_catalogue.specs.AskedLaws.{FitsALine}
+use Rattle.gc_catalogue.specs.Asked.{raw_params, raw_request}
+use Rattle.gc_catalogue.specs.Raws.{line_length}
+use Rattle.gc_catalogue.specs.declared.raw.RawCall.{RawCall}
+
+-- how long a request's line is: a signature of five bytes and a colon, beside number, id and parameters
+length-request : (rpc : ℕ) (id : Option ℕ) (params : List ℕ) → length (request_text (record { rpc = rpc; id = id; params = params })) ≡ 6 + length (decimal rpc) + length (id_text id) + length params
+length-request rpc id params =
+    omega (
+      arith,
+      length-append request_signature (decimal rpc ++ (id_text id ++ 58 ∷ params)),
+      length-append (decimal rpc) (id_text id ++ 58 ∷ params),
+      length-append (id_text id) (58 ∷ params),
+    )
+
+-- an id takes two bytes at most
+id_short : (id : Option ℕ) → length (id_text id) ≤ 2
+id_short None = omega arith
+id_short (Some i) = omega arith
+
+-- a line that has at most 512 bytes with an id has so with any other, and without one
+pub short_with : (rpc : ℕ) (id : Option ℕ) (params : List ℕ) → line_length rpc params ≤ 512 → length (request_text (record { rpc = rpc; id = id; params = params })) ≤ 512
+short_with rpc id params short = omega (arith, short, length-request rpc (Some 0) params, length-request rpc id params, id_short id)
+
+-- the parameters fit behind the line's head
+pub fits_behind : (rpc : ℕ) (id : Option ℕ) (params : List ℕ) → line_length rpc params ≤ 512 → length (request_text (record { rpc = rpc; id = id; params = [] })) + length params ≤ 512
+fits_behind rpc id params short = omega (arith, short, length-request rpc (Some 0) params, length-request rpc id [], id_short id)
+
+-- the line's head with the parameters behind it is the line
+pub head-params : (rpc : ℕ) (id : Option ℕ) (params : List ℕ) → request_text (record { rpc = rpc; id = id; params = [] }) ++ params ≡ request_text (record { rpc = rpc; id = id; params = params })
+head-params rpc id params = simp append_assoc
+
+-- parameters of a line that has at most 512 bytes with an id are at most 503
+pub params_short : (rpc : ℕ) (params : List ℕ) → rpc < 65536 → line_length rpc params ≤ 512 → length params ≤ 503
+params_short rpc params bound short = omega (arith, short, length-request rpc (Some 0) params, decimal_nonempty rpc (omega arith))
+
+-- behind bytes that zeros fill up stand the zeros
+pub filled_zeros : (bytes all : List ℕ) → all ≡ bytes ++ replicate (503 - length bytes) 0 → drop (length bytes) all ≡ replicate (503 - length bytes) 0
+filled_zeros bytes all e = ap (drop (length bytes)) e ∙ drop-append_seam bytes (replicate (503 - length bytes) 0)
+
+-- in front of them stand the bytes
+pub filled_front : (bytes all : List ℕ) → all ≡ bytes ++ replicate (503 - length bytes) 0 → take (length bytes) all ≡ bytes
+filled_front bytes all e = ap (take (length bytes)) e ∙ take-append_seam bytes (replicate (503 - length bytes) 0)
+
+-- both are 503 bytes together
+pub filled_long : (bytes all : List ℕ) → all ≡ bytes ++ replicate (503 - length bytes) 0 → length bytes ≤ 503 → length all ≡ 503
+filled_long bytes all e few = ap length e ∙ omega (arith, length-append bytes (replicate (503 - length bytes) 0), length-replicate {A = ℕ} (503 - length bytes) 0)
+
+-- the line of a procedure that isn't in the table fits in a line
+pub raw_fits : (id : Option ℕ) (raw : RawCall) → IfSome id (λ n. n < 8) → FitsALine id raw
+raw_fits id raw i = record {
+  plain = request_plain (raw_request id raw) (record { rpc = raw.is.bound; id = i }) raw.is.plain;
+  short = short_with raw.rpc id (raw_params raw) raw.is.short;
+  number = raw.is.no_procedure;
+}

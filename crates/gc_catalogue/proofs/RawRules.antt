@@ -1,0 +1,128 @@
+-- Which procedures that aren't in the table may be asked for, and what replies say of them: one refusal or none, and one reading.
+use Rattle.std.proofs.Common.{◌≡◌, ◌≤◌, ◌%◌, ◌⊎◌, ℕ, List, [], length, refl, sym, ap, ◌∙◌, subst, inl, inr, arith}
+use Rattle.std.proofs.lemmas.Bool.{cases_lt, cases_eq}
+use Rattle.gc_lines.specs.Replies.{ReplyFields}
+use Rattle.gc_values.proofs.EachItem.{each_list}
+use Rattle.gc_values.proofs.ParamLists.{one_list, params_even}
+use Rattle.gc_values.specs.Lists.{IsListFault, open_quote, faulty_items}
+use Rattle.gc_values.specs.Params.{IsParams, quotes}
+use Rattle.gc_values.specs.declared.fault.ValueFault.{ValueFault}
+use Rattle.gc_values.specs.declared.fault.ValueFault.TheVariants as fault
+use Rattle.gc_catalogue.specs.declared.answer.Reading.{Reading}
+use Rattle.gc_catalogue.specs.declared.answer.Reading.TheVariants as reading
+use Rattle.gc_catalogue.specs.declared.answer.Answer.TheVariants.{Nothing}
+use Rattle.gc_catalogue.specs.declared.raw.RawFault.{RawFault}
+use Rattle.gc_catalogue.specs.declared.raw.RawFault.TheVariants.{InTable, NotPlain, TooLong, OpenQuote, TooMany}
+use Rattle.gc_catalogue.specs.Raws.{AreFewItems, AreManyItems, IsItemsRefusal, IsRawCall, IsRawReading, IsRawRefusal}
+
+-- no number is even and odd
+even_not_odd : (n : ℕ) → n % 2 ≡ 0 → n % 2 ≡ 1 → ⊥
+even_not_odd n e o = omega arith
+
+-- parameters of at most 16 items have their double quotes in pairs
+pub few_closed : (params : List ℕ) → AreFewItems params → quotes params % 2 ≡ 0
+few_closed params few = params_even params few.0 few.1
+
+-- parameters of at most 16 items aren't more than 16 however they are split
+pub few_always : (params : List ℕ) → AreFewItems params → (items : List (List ℕ)) → IsParams params items → length items ≤ 16
+few_always params few items is = subst (λ (xs : List (List ℕ)). length xs ≤ 16) (one_list params few.0 items few.1 is) few.2
+
+-- parameters with their quotes in pairs that aren't more than 16 items are not refused for more
+not_many : (params : List ℕ) → ((items : List (List ℕ)) → IsParams params items → length items ≤ 16) → AreManyItems params → ⊥
+not_many params few many = let f = few many.0 many.1 in let m = many.2 in omega (arith, f, m)
+
+-- parameters aren't at most 16 items where they have a refusal
+no_items_refusal : (params : List ℕ) (e : ValueFault) → AreFewItems params → IsItemsRefusal params e → ⊥
+no_items_refusal params e few (inl odd) = even_not_odd _ (few_closed params few) odd.1
+no_items_refusal params e few (inr many) = not_many params (few_always params few) many.1
+
+-- parameters have one such refusal at most
+one_items_refusal : (params : List ℕ) (e f : ValueFault) → IsItemsRefusal params e → IsItemsRefusal params f → e ≡ f
+one_items_refusal params e f (inl x) (inl y) = x.0 ∙ sym y.0
+one_items_refusal params e f (inl x) (inr y) = absurd (even_not_odd _ (params_even params y.1.0 y.1.1) x.1)
+one_items_refusal params e f (inr x) (inl y) = absurd (even_not_odd _ (params_even params x.1.0 x.1.1) y.1)
+one_items_refusal params e f (inr x) (inr y) = x.0 ∙ sym y.0
+
+-- parameters that split are at most 16 items, or there is a reason why they aren't
+by_count : (params : List ℕ) (items : List (List ℕ)) → IsParams params items → AreFewItems params ⊎ ((e : ValueFault) × IsItemsRefusal params e)
+by_count params items is = elim (cases_lt 16 (length items)) [
+  | inl many ↦ inr (fault.TooMany, inr (refl, (items, is, many)))
+  | inr few ↦ inl (items, is, few)
+]
+
+-- parameters with a fault for no kinds are at most 16 items, or there is a reason why they aren't
+by_fault : (params : List ℕ) (e : ValueFault) → IsListFault [] params e → AreFewItems params ⊎ ((f : ValueFault) × IsItemsRefusal params f)
+by_fault params e (open_quote is odd) = inr (fault.OpenQuote, inl (refl, odd))
+by_fault params e (faulty_items items is faulty) = by_count params items is
+
+-- parameters are at most 16 items, or there is a reason why they aren't
+few_or_not : (params : List ℕ) → AreFewItems params ⊎ ((e : ValueFault) × IsItemsRefusal params e)
+few_or_not params = elim (each_list [] params) [ inl read ↦ by_count params read.2.items read.2.split | inr faulty ↦ by_fault params faulty.0 faulty.1 ]
+
+-- a procedure that may be asked for has no refusal
+pub no_raw_refusal : (rpc : ℕ) (params : List ℕ) (e : RawFault) → IsRawCall rpc params → IsRawRefusal rpc params e → ⊥
+no_raw_refusal rpc params InTable is why = is.no_procedure why.0 why.1
+no_raw_refusal rpc params NotPlain is why = why.1 is.plain
+no_raw_refusal rpc params TooLong is why = let s = is.short in let l = why.2 in omega (arith, s, l)
+no_raw_refusal rpc params OpenQuote is why = even_not_odd _ is.closed why.3
+no_raw_refusal rpc params TooMany is why = not_many params is.few why.3
+
+-- a number and parameters have one refusal at most
+pub one_raw_refusal : (rpc : ℕ) (params : List ℕ) (e f : RawFault) → IsRawRefusal rpc params e → IsRawRefusal rpc params f → e ≡ f
+one_raw_refusal rpc params InTable InTable x y = refl
+one_raw_refusal rpc params InTable NotPlain x y = absurd (y.0 x.0 x.1)
+one_raw_refusal rpc params InTable TooLong x y = absurd (y.0 x.0 x.1)
+one_raw_refusal rpc params InTable OpenQuote x y = absurd (y.0 x.0 x.1)
+one_raw_refusal rpc params InTable TooMany x y = absurd (y.0 x.0 x.1)
+one_raw_refusal rpc params NotPlain InTable x y = absurd (x.0 y.0 y.1)
+one_raw_refusal rpc params NotPlain NotPlain x y = refl
+one_raw_refusal rpc params NotPlain TooLong x y = absurd (x.1 y.1)
+one_raw_refusal rpc params NotPlain OpenQuote x y = absurd (x.1 y.1)
+one_raw_refusal rpc params NotPlain TooMany x y = absurd (x.1 y.1)
+one_raw_refusal rpc params TooLong InTable x y = absurd (x.0 y.0 y.1)
+one_raw_refusal rpc params TooLong NotPlain x y = absurd (y.1 x.1)
+one_raw_refusal rpc params TooLong TooLong x y = refl
+one_raw_refusal rpc params TooLong OpenQuote x y = let l = x.2 in let s = y.2 in absurd (omega (arith, l, s))
+one_raw_refusal rpc params TooLong TooMany x y = let l = x.2 in let s = y.2 in absurd (omega (arith, l, s))
+one_raw_refusal rpc params OpenQuote InTable x y = absurd (x.0 y.0 y.1)
+one_raw_refusal rpc params OpenQuote NotPlain x y = absurd (y.1 x.1)
+one_raw_refusal rpc params OpenQuote TooLong x y = let l = y.2 in let s = x.2 in absurd (omega (arith, l, s))
+one_raw_refusal rpc params OpenQuote OpenQuote x y = refl
+one_raw_refusal rpc params OpenQuote TooMany x y = absurd (even_not_odd _ (params_even params y.3.0 y.3.1) x.3)
+one_raw_refusal rpc params TooMany InTable x y = absurd (x.0 y.0 y.1)
+one_raw_refusal rpc params TooMany NotPlain x y = absurd (y.1 x.1)
+one_raw_refusal rpc params TooMany TooLong x y = let l = y.2 in let s = x.2 in absurd (omega (arith, l, s))
+one_raw_refusal rpc params TooMany OpenQuote x y = absurd (even_not_odd _ (params_even params x.3.0 x.3.1) y.3)
+one_raw_refusal rpc params TooMany TooMany x y = refl
+
+-- a reply has one reading at most for a procedure that isn't in the table
+pub one_raw_reading : (r : ReplyFields) (x y : Reading) → IsRawReading r x → IsRawReading r y → x ≡ y
+one_raw_reading r (reading.ComFault a) (reading.ComFault b) x y = ap (λ n. reading.ComFault n) (x.1 ∙ sym y.1)
+one_raw_reading r (reading.ComFault a) (reading.Refused b) x y = absurd (x.0 y.0)
+one_raw_reading r (reading.ComFault a) (reading.Value b) x y = absurd (x.0 y.0)
+one_raw_reading r (reading.ComFault a) (reading.Unreadable b) x y = absurd (x.0 y.0)
+one_raw_reading r (reading.Refused a) (reading.ComFault b) x y = absurd (y.0 x.0)
+one_raw_reading r (reading.Refused a) (reading.Refused b) x y = ap (λ n. reading.Refused n) (x.2 ∙ sym y.2)
+one_raw_reading r (reading.Refused a) (reading.Value b) x y = absurd (x.1 y.1)
+one_raw_reading r (reading.Refused a) (reading.Unreadable b) x y = absurd (x.1 y.1)
+one_raw_reading r (reading.Value a) (reading.ComFault b) x y = absurd (y.0 x.0)
+one_raw_reading r (reading.Value a) (reading.Refused b) x y = absurd (y.1 x.1)
+one_raw_reading r (reading.Value a) (reading.Value b) x y = ap (λ z. reading.Value z) (x.3 ∙ sym y.3)
+one_raw_reading r (reading.Value a) (reading.Unreadable b) x y = absurd (no_items_refusal r.params b x.2 y.2)
+one_raw_reading r (reading.Unreadable a) (reading.ComFault b) x y = absurd (y.0 x.0)
+one_raw_reading r (reading.Unreadable a) (reading.Refused b) x y = absurd (y.1 x.1)
+one_raw_reading r (reading.Unreadable a) (reading.Value b) x y = absurd (no_items_refusal r.params a y.2 x.2)
+one_raw_reading r (reading.Unreadable a) (reading.Unreadable b) x y = ap (λ z. reading.Unreadable z) (one_items_refusal r.params a b x.2 y.2)
+
+-- each reply has a reading for a procedure that isn't in the table
+pub each_raw_reply : (r : ReplyFields) → (reading : Reading) × IsRawReading r reading
+each_raw_reply r = elim (cases_eq r.rc_com 0) [
+  | inr fault ↦ (reading.ComFault r.rc_com, (fault, refl))
+  | inl sent ↦ elim (cases_eq r.rc 0) [
+    | inr refused ↦ (reading.Refused r.rc, (sent, refused, refl))
+    | inl well ↦ elim (few_or_not r.params) [
+      | inl few ↦ (reading.Value Nothing, (sent, well, few, refl))
+      | inr none ↦ (reading.Unreadable none.0, (sent, well, none.1))
+    ]
+  ]
+]

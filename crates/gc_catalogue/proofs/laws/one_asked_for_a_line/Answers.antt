@@ -1,0 +1,5 @@
+use Rattle.gc_catalogue.proofs.AskedRules.{one_asked_for_a_line}
+use Rattle.gc_catalogue.proofs.laws.one_asked_for_a_line.Goals as goal
+
+pub returns : goal.returns
+returns c = one_asked_for_a_line

@@ -1,0 +1,13 @@
+use Rattle.std.proofs.Common.{◌≤◌, rules}
+use Rattle.gc_lines.specs.Lines.{IsPlain}
+use Rattle.gc_catalogue.specs.Raws.{line_length, AreFewItems, IsNoProcedure}
+use Rattle.gc_catalogue.proofs.RawRules.{few_always, few_closed}
+use Rattle.gc_catalogue.proofs.raw.raw_fault.Goals as goal
+
+pub returns-in-None-clause-none : goal.returns-in-None-clause-none
+returns-in-None-clause-none c =
+    let no_procedure : IsNoProcedure c.args.rpc = search rules in
+    let plain : IsPlain c.args.params.now = search rules in
+    let short : line_length c.args.rpc c.args.params.now ≤ 512 = search rules in
+    let few : AreFewItems c.args.params.now = search rules in
+    record { bound = c.ranges.rpc.fits; no_procedure = no_procedure; plain = plain; short = short; closed = few_closed c.args.params.now few; few = few_always c.args.params.now few }

@@ -1,0 +1,13 @@
+use Rattle.gc_catalogue.proofs.RawLines.{filled_front, filled_long, filled_zeros}
+use Rattle.gc_catalogue.proofs.raw_text.RawText.new.Goals as goal
+
+pub invariant_of-result : goal.invariant_of-result
+invariant_of-result c =
+    record {
+      few = c.requires;
+      long = filled_long c.args.bytes.now c.filled_up.result c.filled_up.ensures c.requires;
+      zeros = filled_zeros c.args.bytes.now c.filled_up.result c.filled_up.ensures;
+    }
+
+pub returns : goal.returns
+returns c = filled_front c.args.bytes.now c.filled_up.result c.filled_up.ensures

@@ -1,0 +1,46 @@
+-- What is claimed of the definitions of what is asked, apart from any call of a function: this project's own.
+use Rattle.std.specs.Prelude.{◌≡◌, ◌<◌, ◌≤◌, ℕ, List, Option, IfSome, Ok, length}
+use Rattle.gc_lines.specs.Lines.{IsPlain}
+use Rattle.gc_lines.specs.Replies.{ReplyFields}
+use Rattle.gc_lines.specs.Readers.{request_at}
+use Rattle.gc_catalogue.specs.declared.answer.Reading.{Reading}
+use Rattle.gc_catalogue.specs.declared.asked.Asked.{Asked}
+use Rattle.gc_catalogue.specs.declared.raw.RawCall.{RawCall}
+use Rattle.gc_catalogue.specs.Asked.{asked_line, asked_request, raw_line, IsAsked, IsAskedFitting, IsAskedReading}
+use Rattle.gc_catalogue.specs.Raws.{IsNoProcedure}
+
+-- the line of a procedure that isn't in the table has at most 512 bytes without CR and LF, and its number is no procedure's of the table
+pub record FitsALine (id : Option ℕ) (raw : RawCall) : Type 0 where
+  pub plain : IsPlain (raw_line id raw)
+  pub short : length (raw_line id raw) ≤ 512
+  pub number : IsNoProcedure raw.rpc
+
+-- so is each such line
+abbrev pub RawLinesFit : Type 0
+RawLinesFit = (id : Option ℕ) (raw : RawCall) → IfSome id (λ n. n < 8) → FitsALine id raw
+
+-- a number and parameters ask for one thing at most
+abbrev pub OneAsked : Type 0
+OneAsked = (rpc : ℕ) (params : List ℕ) (a b : Asked) → IsAsked rpc params a → IsAsked rpc params b → a ≡ b
+
+-- two things that are asked by one line are one, with one id: no line is both a call's and another procedure's
+abbrev pub OneAskedForALine : Type 0
+OneAskedForALine = (i j : Option ℕ) (a b : Asked) → IfSome i (λ n. n < 8) → IfSome j (λ n. n < 8) → IsAskedFitting a → IsAskedFitting b
+    → asked_line i a ≡ asked_line j b → (i ≡ j) × (a ≡ b)
+
+-- the line reads as a request, whose number and parameters ask for the same again
+pub record ReadsBackAsked (id : Option ℕ) (asked : Asked) : Type 0 where
+  pub line : request_at (asked_line id asked) ≡ Ok (asked_request id asked)
+  pub is_asked : IsAsked (asked_request id asked).rpc (asked_request id asked).params asked
+
+-- the line of all that is asked reads back as that
+abbrev pub AskedReadBack : Type 0
+AskedReadBack = (id : Option ℕ) (asked : Asked) → IfSome id (λ n. n < 8) → IsAskedFitting asked → ReadsBackAsked id asked
+
+-- a reply has one reading at most for what was asked
+abbrev pub OneAskedReading : Type 0
+OneAskedReading = (asked : Asked) (reply : ReplyFields) (x y : Reading) → IsAskedReading asked reply x → IsAskedReading asked reply y → x ≡ y
+
+-- each reply has a reading for all that is asked
+abbrev pub EachReplyIsReadForAsked : Type 0
+EachReplyIsReadForAsked = (asked : Asked) (reply : ReplyFields) → (reading : Reading) × IsAskedReading asked reply reading

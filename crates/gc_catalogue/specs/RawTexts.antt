@@ -1,0 +1,7 @@
+-- The bytes of parameters as they stand: this project's own.
+use Rattle.std.specs.Prelude.{ℕ, List, take}
+use Rattle.gc_catalogue.specs.declared.raw_text.RawText.{RawText}
+
+-- the bytes of the text, without the unused ones
+abbrev pub raw_bytes : RawText → List ℕ
+raw_bytes t = take t.len t.bytes

@@ -1,0 +1,66 @@
+-- Procedures that aren't in the table: which numbers and parameters may be asked for, why others may not, and what a reply says. The
+-- lines' form is the manual's; these rules are this project's own.
+use Rattle.std.specs.Prelude.{◌≡◌, ◌≢◌, ◌⊎◌, ◌<◌, ◌≤◌, ◌%◌, ℕ, List, length, Some}
+use Rattle.gc_lines.specs.Lines.{IsPlain}
+use Rattle.gc_lines.specs.Replies.{ReplyFields}
+use Rattle.gc_lines.specs.Requests.{request_text}
+use Rattle.gc_values.specs.Params.{IsParams, quotes}
+use Rattle.gc_values.specs.declared.fault.ValueFault.{ValueFault}
+use Rattle.gc_values.specs.declared.fault.ValueFault.TheVariants as fault
+use Rattle.gc_catalogue.specs.declared.answer.Answer.TheVariants.{Nothing}
+use Rattle.gc_catalogue.specs.declared.answer.Reading.{Reading}
+use Rattle.gc_catalogue.specs.declared.answer.Reading.TheVariants.{Value, Refused, ComFault, Unreadable}
+use Rattle.gc_catalogue.specs.declared.call.Call.{Call}
+use Rattle.gc_catalogue.specs.declared.raw.RawFault.{RawFault}
+use Rattle.gc_catalogue.specs.declared.raw.RawFault.TheVariants.{InTable, NotPlain, TooLong, OpenQuote, TooMany}
+use Rattle.gc_catalogue.specs.Calls.{call_fields}
+
+-- a procedure of the table has the number
+abbrev pub IsProcedure : ℕ → Type 0
+IsProcedure rpc = (call : Call) × ((call_fields call).number ≡ rpc)
+
+-- no procedure of the table has the number
+abbrev pub IsNoProcedure : ℕ → Type 0
+IsNoProcedure rpc = (call : Call) → (call_fields call).number ≢ rpc
+
+-- how many bytes the request's line has with an id
+abbrev pub line_length : ℕ → List ℕ → ℕ
+line_length rpc params = length (request_text (record { rpc = rpc; id = Some 0; params = params }))
+
+-- the parameters are at most 16 items, whatever these are
+abbrev pub AreFewItems : List ℕ → Type 0
+AreFewItems params = (items : List (List ℕ)) × IsParams params items × (length items ≤ 16)
+
+-- the parameters are more than 16 items
+abbrev pub AreManyItems : List ℕ → Type 0
+AreManyItems params = (items : List (List ℕ)) × IsParams params items × (16 < length items)
+
+-- why the parameters aren't at most 16 items: an odd number of double quotes, else more than 16 items
+abbrev pub IsItemsRefusal : List ℕ → ValueFault → Type 0
+IsItemsRefusal params e = ((e ≡ fault.OpenQuote) × (quotes params % 2 ≡ 1)) ⊎ ((e ≡ fault.TooMany) × AreManyItems params)
+
+-- a number that is no procedure's of the table may be asked for with these parameters: they are plain bytes, the line has at most 512
+-- bytes with an id, their double quotes are in pairs, and they are at most 16 items
+pub record IsRawCall (rpc : ℕ) (params : List ℕ) : Type 0 where
+  pub bound : rpc < 65536
+  pub no_procedure : IsNoProcedure rpc
+  pub plain : IsPlain params
+  pub short : line_length rpc params ≤ 512
+  pub closed : quotes params % 2 ≡ 0
+  pub few : (items : List (List ℕ)) → IsParams params items → length items ≤ 16
+
+-- why a number and parameters may not be asked for so: the first that holds, in this order
+abbrev pub IsRawRefusal : ℕ → List ℕ → RawFault → Type 0
+IsRawRefusal rpc params InTable = IsProcedure rpc
+IsRawRefusal rpc params NotPlain = IsNoProcedure rpc × (¬ IsPlain params)
+IsRawRefusal rpc params TooLong = IsNoProcedure rpc × IsPlain params × (512 < line_length rpc params)
+IsRawRefusal rpc params OpenQuote = IsNoProcedure rpc × IsPlain params × (line_length rpc params ≤ 512) × (quotes params % 2 ≡ 1)
+IsRawRefusal rpc params TooMany = IsNoProcedure rpc × IsPlain params × (line_length rpc params ≤ 512) × AreManyItems params
+
+-- what a reply says of a procedure that isn't in the table: as of any call, a communication fault where the communication code isn't 0,
+-- else a refusal where the return code isn't 0; else nothing that is read, where its parameters are at most 16 items, or why they aren't
+abbrev pub IsRawReading : ReplyFields → Reading → Type 0
+IsRawReading r (ComFault code) = (r.rc_com ≢ 0) × (code ≡ r.rc_com)
+IsRawReading r (Refused code) = (r.rc_com ≡ 0) × (r.rc ≢ 0) × (code ≡ r.rc)
+IsRawReading r (Value answer) = (r.rc_com ≡ 0) × (r.rc ≡ 0) × AreFewItems r.params × (answer ≡ Nothing)
+IsRawReading r (Unreadable e) = (r.rc_com ≡ 0) × (r.rc ≡ 0) × IsItemsRefusal r.params e

@@ -1,0 +1,177 @@
+//! What is asked of an instrument: a call of the table, or a procedure that isn't in it.
+
+ghost use Rattle.std.specs.Prelude.{◌≡◌, ◌+◌, ◌≤◌, ◌<◌, ◌++◌, Some, None, IfSome};
+ghost use Rattle.std.specs.Option.{ForSome};
+ghost use Rattle.arrayvec.specs.ArrayVec.{array_vec_len};
+ghost use Rattle.gc_lines.specs.Lines.{IsPlain};
+ghost use Rattle.gc_lines.specs.Replies.{reply_seen};
+ghost use Rattle.gc_values.specs.declared.fault.ValueFault.{ValueFault};
+ghost use Rattle.gc_catalogue.specs.Asked.{asked_line, asked_request, is_of_table, raw_line, raw_params, IsAsked, IsAskedFitting, IsAskedReading};
+ghost use Rattle.gc_catalogue.specs.AskedLaws.{ReadsBackAsked};
+ghost use Rattle.gc_catalogue.specs.Raws.{IsRawCall, IsRawReading};
+ghost use Rattle.gc_catalogue.specs.declared.answer.Reading.{Reading};
+ghost use Rattle.gc_catalogue.specs.declared.call.Call.TheVariants.{NullProc};
+
+use crate::answer::{Answer, Reading};
+use crate::asking::Asking;
+use crate::call::Call;
+use crate::raw::{RawCall, items_fault, raw_call};
+use crate::replies::decode_answer_into;
+use crate::requests::{decode_call, encode_call_onto};
+use arrayvec::ArrayVec;
+use gc_lines::{Line, Reply, Request, append, push_request};
+
+/// What is asked of an instrument.
+#[derive(Clone, Copy, Debug, PartialEq, Eq)]
+pub enum Asked {
+    /// A call of the table.
+    Table(Call),
+    /// A procedure that isn't in the table, with its parameters as they stand.
+    Raw(RawCall),
+}
+
+impl From<Call> for Asked {
+    ghost use Rattle.std.specs.Prelude.{◌≡◌};
+    ghost use Rattle.gc_catalogue.specs.declared.asked.Asked.TheVariants.{Table};
+
+    ghost from_gives = { λ call asked. asked ≡ Table call };
+
+    #[inline]
+    fn from(call: Call) -> Asked {
+        Asked::Table(call)
+    }
+}
+
+impl Asked {
+    /// Whether it is a call of the table.
+    #[inline]
+    pub fn is_of_table(&self) -> bool
+        ensures { result ≡ is_of_table self.now }
+    {
+        match self {
+            Asked::Table(_) => true,
+            Asked::Raw(_) => false,
+        }
+    }
+
+    /// The number of the procedure.
+    pub fn number(&self) -> u16
+        ensures { result ≡ (asked_request None self.now).rpc }
+    {
+        match self {
+            Asked::Table(call) => call.number(),
+            Asked::Raw(raw) => raw.number(),
+        }
+    }
+}
+
+// Appends the request line of a procedure that isn't in the table, with the id or without one. It fits in a line.
+fn encode_raw_onto<const N: usize>(out: &mut ArrayVec<u8, N>, id: Option<u8>, raw: &RawCall)
+    requires id { ForSome id (λ i. i < 8) }
+    requires room { array_vec_len out.old + 512 ≤ N }
+    ensures line { out.new.items ≡ out.old.items ++ raw_line id raw.now }
+    ensures is { IsRawCall raw.now.rpc (raw_params raw.now) }
+{
+    push_request(out, raw.number(), id);
+    append(out, raw.params());
+}
+
+/// Appends the request line of what is asked, with the id or without one. It fits in a line and reads back.
+#[inline]
+pub fn encode_asked_onto<const N: usize>(out: &mut ArrayVec<u8, N>, id: Option<u8>, asked: &Asked)
+    requires id { ForSome id (λ i. i < 8) }
+    requires room { array_vec_len out.old + 512 ≤ N }
+    ensures line { out.new.items ≡ out.old.items ++ asked_line id asked.now }
+    ensures plain { IsPlain (asked_line id asked.now) }
+    ensures reads_back { ReadsBackAsked id asked.now }
+    ensures fitting { IsAskedFitting asked.now }
+{
+    match asked {
+        Asked::Table(call) => encode_call_onto(out, id, call),
+        Asked::Raw(raw) => encode_raw_onto(out, id, raw),
+    }
+}
+
+/// Writes the request line of what is asked, with the id or without one. It fits in a line and reads back.
+pub fn encode_asked(id: Option<u8>, asked: &Asked) -> Line
+    requires { ForSome id (λ i. i < 8) }
+    ensures line { result.items ≡ asked_line id asked.now }
+    ensures plain { IsPlain result.items }
+    ensures reads_back { ReadsBackAsked id asked.now }
+    ensures fitting { IsAskedFitting asked.now }
+{
+    let mut line = Line::new();
+    encode_asked_onto(&mut line, id, asked);
+    line
+}
+
+/// Reads what a request asks for: a call of the table, or a procedure that isn't in it. `None`: its number is in the table and its
+/// parameters don't read, or it may not be asked for as it stands.
+pub fn decode_asked(request: &Request<'_>) -> Option<Asked>
+    ensures found { IfSome result (λ asked. IsAsked request.now.rpc request.now.params.now asked) }
+    ensures only { (asked : Asked) → IsAsked request.now.rpc request.now.params.now asked → result ≡ Some asked }
+{
+    match decode_call(request) {
+        Ok(call) => Some(Asked::Table(call)),
+        Err(_) => match raw_call(request.rpc, request.params) {
+            Ok(raw) => Some(Asked::Raw(raw)),
+            Err(_) => None,
+        },
+    }
+}
+
+// Reads what a reply says of a procedure that isn't in the table, into `reading`.
+fn decode_raw_into(reply: &Reply<'_>, reading: &mut Reading)
+    ensures { IsRawReading (reply_seen reply.now) reading.new }
+{
+    if reply.rc_com != 0 {
+        *reading = Reading::ComFault(reply.rc_com);
+    } else if reply.rc != 0 {
+        *reading = Reading::Refused(reply.rc);
+    } else {
+        *reading = match items_fault(reply.params) {
+            Some(fault) => Reading::Unreadable(fault),
+            None => Reading::Value(Answer::Nothing),
+        };
+    }
+}
+
+/// Reads what a reply says of what was asked, into `reading`.
+#[inline]
+pub fn decode_asked_into(asked: &Asked, reply: &Reply<'_>, reading: &mut Reading)
+    ensures found { IsAskedReading asked.now (reply_seen reply.now) reading.new }
+    ensures only { (other : Reading) → IsAskedReading asked.now (reply_seen reply.now) other → reading.new ≡ other }
+{
+    match asked {
+        Asked::Table(call) => decode_answer_into(call, reply, reading),
+        Asked::Raw(_) => decode_raw_into(reply, reading),
+    }
+}
+
+impl Asking for Asked {
+    ghost use Rattle.gc_catalogue.specs.declared.asked.Asked.TheVariants.{Table};
+    ghost use Rattle.gc_catalogue.specs.declared.call.Call.TheVariants.{NullProc};
+
+    ghost blank = { Table NullProc };
+
+    ghost line = { asked_line };
+
+    ghost says = { IsAskedReading };
+
+    ghost fits = { IsAskedFitting };
+
+    #[inline(always)]
+    fn blank() -> Asked {
+        Asked::Table(Call::NullProc)
+    }
+
+    #[inline(always)]
+    fn write_onto(&self, out: &mut Line, id: Option<u8>) {
+        encode_asked_onto(out, id, self);
+    }
+
+    #[inline(always)]
+    fn read_into(&self, reply: &Reply<'_>, reading: &mut Reading) {
+        decode_asked_into(self, reply, reading);
+    }
+}

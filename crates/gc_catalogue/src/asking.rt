@@ -1,0 +1,78 @@
+//! What a client can ask: a thing with a request line, of which a reply says something.
+
+ghost use Rattle.std.specs.Prelude.{◌≡◌, ◌+◌, ◌<◌, ◌≤◌, ◌++◌};
+ghost use Rattle.std.specs.Option.{ForSome};
+ghost use Rattle.arrayvec.specs.ArrayVec.{array_vec_len};
+ghost use Rattle.gc_lines.specs.Lines.{IsPlain};
+ghost use Rattle.gc_lines.specs.Replies.{reply_seen};
+ghost use Rattle.gc_catalogue.specs.Calls.{IsFitting};
+ghost use Rattle.gc_catalogue.specs.Readings.{IsReading};
+ghost use Rattle.gc_catalogue.specs.Texts.{request_line};
+ghost use Rattle.gc_catalogue.specs.declared.call.Call.TheVariants.{NullProc};
+
+use crate::answer::Reading;
+use crate::call::Call;
+use crate::replies::decode_answer_into;
+use crate::requests::encode_call_onto;
+use gc_lines::{Line, Reply};
+
+/// What a client can ask. Ids, windows and settlements are the same for every such thing; only its request line and the meaning of
+/// a reply are its own.
+pub trait Asking: Copy + Drop {
+    ghost use Rattle.std.specs.Prelude.{ℕ, List, Option};
+    ghost use Rattle.gc_lines.specs.Replies.{ReplyFields};
+    ghost use Rattle.gc_catalogue.specs.declared.answer.Reading.{Reading};
+
+    /// What stands in a place that nothing uses.
+    ghost blank: { Self };
+
+    /// The request line, with an id or without one.
+    ghost line: { Option ℕ → Self → List ℕ };
+
+    /// The reply has this reading for what was asked.
+    ghost says: { Self → ReplyFields → Reading → Type 0 };
+
+    /// The values of the request are within their ranges.
+    ghost fits: { Self → Type 0 };
+
+    /// What stands in a place that nothing uses.
+    fn blank() -> Self
+        ensures { result ≡ blank };
+
+    /// Appends the request line, with the id or without one. It fits in a line.
+    fn write_onto(&self, out: &mut Line, id: Option<u8>)
+        requires id { ForSome id (λ i. i < 8) }
+        requires room { array_vec_len out.old + 512 ≤ 512 }
+        ensures line { out.new.items ≡ out.old.items ++ line id self.now }
+        ensures plain { IsPlain (line id self.now) }
+        ensures fitting { fits self.now };
+
+    /// Reads what a reply says of what was asked, into `reading`.
+    fn read_into(&self, reply: &Reply<'_>, reading: &mut Reading)
+        ensures { says self.now (reply_seen reply.now) reading.new };
+}
+
+impl Asking for Call {
+    ghost blank = { NullProc };
+
+    ghost line = { request_line };
+
+    ghost says = { IsReading };
+
+    ghost fits = { IsFitting };
+
+    #[inline(always)]
+    fn blank() -> Call {
+        Call::NullProc
+    }
+
+    #[inline(always)]
+    fn write_onto(&self, out: &mut Line, id: Option<u8>) {
+        encode_call_onto(out, id, self);
+    }
+
+    #[inline(always)]
+    fn read_into(&self, reply: &Reply<'_>, reading: &mut Reading) {
+        decode_answer_into(self, reply, reading);
+    }
+}

@@ -1,0 +1,60 @@
+//! The names of the procedures, as the manual's tables have them.
+
+ghost use Rattle.std.specs.Prelude.{◌≡◌, Some, IfSome, IfNone, option_map};
+ghost use Rattle.gc_catalogue.specs.Calls.{call_fields};
+ghost use Rattle.gc_catalogue.specs.Names.{call_name};
+ghost use Rattle.gc_catalogue.specs.Raws.{IsNoProcedure, IsProcedure};
+ghost use Rattle.gc_catalogue.specs.declared.call.Call.{Call};
+
+use crate::call::Call;
+use crate::reading::read_row;
+use gc_values::Quick;
+
+impl Call {
+    /// The name of the call's procedure.
+    pub fn name(&self) -> &'static str
+        ensures { result.now ≡ call_name self.now }
+    {
+        match self {
+            Call::NullProc => "COM_NullProc",
+            Call::SetPrecision(_) => "COM_SetDoublePrecision",
+            Call::GetPrecision => "COM_GetDoublePrecision",
+            Call::ComVersion => "COM_GetSWVersion",
+            Call::InstrumentNo => "CSV_GetInstrumentNo",
+            Call::InstrumentName => "CSV_GetInstrumentName",
+            Call::SetDate(_) => "CSV_SetDateTime",
+            Call::GetDate => "CSV_GetDateTime",
+            Call::IntTemp => "CSV_GetIntTemp",
+            Call::CsvVersion => "CSV_GetSWVersion",
+            Call::DoMeasure { .. } => "TMC_DoMeasure",
+            Call::GetStation => "TMC_GetStation",
+            Call::SetStation(_) => "TMC_SetStation",
+            Call::GetHeight => "TMC_GetHeight",
+            Call::SetHeight(_) => "TMC_SetHeight",
+            Call::GetFace => "TMC_GetFace",
+            Call::GetAngle { .. } => "TMC_GetAngle",
+            Call::SimpleMea { .. } => "TMC_GetSimpleMea",
+            Call::QuickDist => "TMC_QuickDist",
+            Call::SetPrism(_) => "BAP_SetPrismType",
+            Call::GetPrism => "BAP_GetPrismType",
+            Call::MeasDistance { .. } => "BAP_MeasDistanceAngle",
+            Call::Position { .. } => "AUT_MakePositioning",
+            Call::ChangeFace { .. } => "AUT_ChangeFace",
+            Call::FineAdjust { .. } => "AUT_FineAdjust",
+        }
+    }
+}
+
+/// The name of the procedure of the table that has this number. `None`: no procedure of the table has it.
+pub fn procedure_name(rpc: u16) -> Option<&'static str>
+    ensures name { (call : Call) → (call_fields call).number ≡ rpc → option_map (λ name. name.now) result ≡ Some (call_name call) }
+    ensures known { IfSome result (λ _. IsProcedure rpc) }
+    ensures none { IfNone result (IsNoProcedure rpc) }
+{
+    // A call with this number, whose parameters don't matter.
+    let mut call = Call::NullProc;
+    if !read_row(rpc, &mut Quick::new(b""), &mut call) {
+        return None;
+    }
+    Some(call.name())
+}

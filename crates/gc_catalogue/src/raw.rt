@@ -1,0 +1,121 @@
+//! Procedures that aren't in the table: which may be asked for, and with which parameters. The rules are this project's own.
+
+ghost use Rattle.std.specs.Prelude.{◌≡◌, IsOk, IfOk, IfErr, IfSome, IfNone, Ok, Err};
+ghost use Rattle.gc_values.specs.declared.fault.ValueFault.{ValueFault};
+ghost use Rattle.gc_catalogue.specs.RawProps.{IsRawCall-prop};
+ghost use Rattle.gc_catalogue.specs.RawTexts.{raw_bytes};
+ghost use Rattle.gc_catalogue.specs.Raws.{AreFewItems, IsItemsRefusal, IsRawCall, IsRawRefusal};
+
+use crate::names::procedure_name;
+use crate::raw_text::RawText;
+use gc_lines::{Request, is_plain, write_request};
+use gc_values::{ValueFault, split};
+
+/// A request for a procedure that isn't in the table, with its parameters exactly as they stand.
+#[derive(Clone, Copy, Debug, PartialEq, Eq)]
+pub struct RawCall {
+    rpc: u16,
+    params: RawText,
+    pub ghost is: { IsRawCall rpc (raw_bytes params) } by { IsRawCall-prop rpc (raw_bytes params) },
+}
+
+/// Why a number and parameters may not be asked for as they stand.
+#[derive(Clone, Copy, Debug, PartialEq, Eq)]
+pub enum RawFault {
+    /// The number is that of a procedure of the table.
+    InTable,
+    /// A CR or LF is among the parameters.
+    NotPlain,
+    /// The request's line would have more than 512 bytes with an id.
+    TooLong,
+    /// The number of double quotes is odd.
+    OpenQuote,
+    /// There are more than 16 parameters.
+    TooMany,
+}
+
+impl RawFault {
+    // The fault of parameters that aren't at most 16 items.
+    fn of_items(fault: ValueFault) -> RawFault
+        ensures open_quote { fault ≡ ValueFault.OpenQuote → result ≡ RawFault.OpenQuote }
+        ensures too_many { fault ≡ ValueFault.TooMany → result ≡ RawFault.TooMany }
+    {
+        match fault {
+            ValueFault::OpenQuote => RawFault::OpenQuote,
+            _ => RawFault::TooMany,
+        }
+    }
+}
+
+/// Why parameters aren't at most 16 items: `OpenQuote` or `TooMany`. `None`: they are.
+pub(crate) fn items_fault(params: &[u8]) -> Option<ValueFault>
+    ensures found { IfSome result (λ e. IsItemsRefusal params.now e) }
+    ensures none { IfNone result (AreFewItems params.now) }
+{
+    match split(params) {
+        Ok(_) => None,
+        Err(fault) => Some(fault),
+    }
+}
+
+// Why a number and parameters may not be asked for as they stand: the first fault that there is. `None`: they may.
+fn raw_fault(rpc: u16, params: &[u8]) -> Option<RawFault>
+    ensures found { IfSome result (λ e. IsRawRefusal rpc params.now e) }
+    ensures none { IfNone result (IsRawCall rpc params.now) }
+{
+    let is_in_table = procedure_name(rpc).is_some();
+    if is_in_table {
+        return Some(RawFault::InTable);
+    }
+    if !is_plain(params) {
+        return Some(RawFault::NotPlain);
+    }
+    let longest = Request {
+        rpc,
+        id: Some(0),
+        params,
+    };
+    let is_too_long = write_request(&longest).is_err();
+    if is_too_long {
+        return Some(RawFault::TooLong);
+    }
+    match items_fault(params) {
+        Some(fault) => Some(RawFault::of_items(fault)),
+        None => None,
+    }
+}
+
+/// The request for a procedure that isn't in the table, with these parameters exactly as they stand.
+///
+/// The faults come in this order: `InTable`, `NotPlain`, `TooLong`, `OpenQuote`, `TooMany`.
+pub fn raw_call(rpc: u16, params: &[u8]) -> Result<RawCall, RawFault>
+    ensures found { IfOk result (λ raw. (raw.rpc ≡ rpc) × (raw_bytes raw.params ≡ params.now)) }
+    ensures allowed { IsRawCall rpc params.now → IsOk result }
+    ensures only { (raw : RawCall) → raw.rpc ≡ rpc → raw_bytes raw.params ≡ params.now → result ≡ Ok raw }
+    ensures fault { IfErr result (λ e. IsRawRefusal rpc params.now e) }
+    ensures exactly { (e : RawFault) → IsRawRefusal rpc params.now e → result ≡ Err e }
+{
+    match raw_fault(rpc, params) {
+        Some(fault) => Err(fault),
+        None => Ok(RawCall {
+            rpc,
+            params: RawText::new(params),
+        }),
+    }
+}
+
+impl RawCall {
+    /// The procedure's number, which is no procedure's of the table.
+    pub fn number(&self) -> u16
+        ensures { result ≡ self.now.rpc }
+    {
+        self.rpc
+    }
+
+    /// The parameters, as they stand in the request's line.
+    pub fn params(&self) -> &[u8]
+        ensures { result.now ≡ raw_bytes self.now.params }
+    {
+        self.params.as_bytes()
+    }
+}

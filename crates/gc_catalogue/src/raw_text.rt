@@ -1,0 +1,51 @@
+//! The parameters of a procedure that isn't in the table: bytes as they stand.
+
+ghost use Rattle.std.specs.Prelude.{◌≡◌, ◌-◌, ◌≤◌, ◌++◌, length, drop, replicate};
+
+/// The most bytes of such parameters: a request's line of 512 bytes with an id has at least 9 before them.
+pub const RAW_BYTES: usize = 503;
+
+/// The parameters of a procedure that isn't in the table: at most 503 bytes. The unused bytes are zero. It has no model, since a `Copy`
+/// struct that holds one can't be passed by value and used again.
+#[derive(Clone, Copy, Debug, PartialEq, Eq)]
+pub struct RawText {
+    bytes: [u8; RAW_BYTES],
+    len: u16,
+    pub ghost few: { len ≤ 503 },
+    pub ghost long: { length bytes ≡ 503 },
+    pub ghost zeros: { drop len bytes ≡ replicate (503 - len) 0 },
+}
+
+// The bytes, and zeros behind them up to 503.
+fn filled_up(bytes: &[u8]) -> [u8; RAW_BYTES]
+    requires { length bytes.now ≤ 503 }
+    ensures { result ≡ bytes.now ++ replicate (503 - length bytes.now) 0 }
+{
+    let mut all = [0; RAW_BYTES];
+    all[..bytes.len()].copy_from_slice(bytes);
+    all
+}
+
+impl RawText {
+    ghost use Rattle.gc_catalogue.specs.RawTexts.{raw_bytes};
+
+    // The text of these bytes.
+    pub(crate) fn new(bytes: &[u8]) -> RawText
+        requires { length bytes.now ≤ 503 }
+        ensures { raw_bytes result ≡ bytes.now }
+    {
+        RawText {
+            bytes: filled_up(bytes),
+            len: bytes.len() as u16,
+        }
+    }
+
+    /// The bytes, without the unused ones.
+    #[inline]
+    pub fn as_bytes(&self) -> &[u8]
+        ensures bytes { result.now ≡ raw_bytes self.now }
+        ensures few { length (raw_bytes self.now) ≤ 503 }
+    {
+        &self.bytes[..self.len as usize]
+    }
+}
